@@ -4,3 +4,4 @@ pub mod Moments
 pub mod Pushes
 pub mod Puts
 pub mod Stand
+pub mod Operations

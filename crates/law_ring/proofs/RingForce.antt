@@ -1,5 +1,5 @@
 -- The steps of a push that displaces the front of a full ring.
-use Rattle.std.proofs.Common.{ℕ, ◌+◌, ◌-◌, ◌%◌, ◌<◌, ◌≡◌, ◌≢◌, ◌==◌, ◌||◌, not, ◌∙◌, ◌⊎◌, inl, inr, Bool, true, false, Some, None, Ok, List, [], ◌∷◌, refl, sym, ap, subst, arith, get_or}
+use Rattle.std.proofs.Common.{ℕ, ◌+◌, ◌-◌, ◌%◌, ◌^◌, ◌<◌, ◌≡◌, ◌≢◌, ◌==◌, ◌||◌, not, ◌∙◌, ◌⊎◌, inl, inr, Bool, true, false, Some, None, Ok, List, [], ◌∷◌, refl, sym, ap, subst, arith, get_or}
 use Rattle.std.proofs.lemmas.Bool.{eq-eqb, ne_eqb}
 use Rattle.std.proofs.lemmas.Bool.Decides.{eqb_tells}
 use Rattle.law_common.specs.Vocabulary.{Call, Reply, Effect, Word, Op, Touch, Local, Next, PushKind, LIMIT, TAIL_STEP}
@@ -94,6 +94,7 @@ module _ {A : Type 0} {cap : ℕ} {r : Ring A} {who : ℕ} {s : Shared A} {ms : 
       let at : h + cap ≡ r.tail = here.2 in
       let good = arrive_ok cap r h who old v ok (omega arith) one.0 in
       let small = tail_word cap r s ok codes in
+      let fits : (s.tail + TAIL_STEP) % 2 ^ 64 ≡ s.tail + TAIL_STEP = omega arith in
       record {
         after = arrived cap r h who old v;
         e = Some Effect.Arrive;
@@ -101,7 +102,7 @@ module _ {A : Type 0} {cap : ℕ} {r : Ring A} {who : ℕ} {s : Shared A} {ms : 
         operates = (tt, omega arith);
         goes_on = (ok.ring, word_small t (omega arith));
         ok = good.1;
-        codes = codes_claim cap r (arrived cap r h who old v) s s.head (s.tail + TAIL_STEP) i (Coming h who old v) (Swapped h who old v) codes one.0 refl refl refl codes.head (ap (λ n. n + TAIL_STEP) codes.tail ∙ next_tail r.tail r.closed);
+        codes = codes_claim cap r (arrived cap r h who old v) s s.head ((s.tail + TAIL_STEP) % 2 ^ 64) i (Coming h who old v) (Swapped h who old v) codes one.0 refl refl refl codes.head (fits ∙ (ap (λ n. n + TAIL_STEP) codes.tail ∙ next_tail r.tail r.closed));
         told = refl;
         makes = (good.0, refl);
         passes = passes_arrive cap r h who old v one.0;

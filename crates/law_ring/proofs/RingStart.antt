@@ -6,11 +6,13 @@ use Rattle.queue_steps.specs.BoundedNext.{bounded_begin}
 use Rattle.law_common.specs.Vocabulary.{Call, PushKind}
 use Rattle.queue_steps.specs.Words.{position_of}
 use Rattle.law_common.specs.Stand.{Stand}
+use Rattle.law_common.specs.Operations.{OnWord}
+use Rattle.law_ring.specs.RingShared.{HasPlace}
 use Rattle.law_ring.specs.RingCells.{Coming, Ring, CellOk, RingOk, owner, HoldsNone}
 use Rattle.law_ring.proofs.RingCells.{wraps}
 use Rattle.law_ring.proofs.RingTransitions.{in_ring}
 use Rattle.law_common.specs.Effects.{IsBetween, Touches}
-use Rattle.law_ring.specs.RingAt.{At, push_tail, push_stamp, claiming, filling, push_head, displacing, arriving, swapping, spending, pop_head, pop_stamp, taking, emptying, pop_tail, len_tail, len_head, len_again, empty_head, empty_tail, full_tail, full_head, closing, closed_tail, Begun, InRing}
+use Rattle.law_ring.specs.RingAt.{At, push_tail, push_stamp, claiming, filling, push_head, displacing, arriving, swapping, spending, pop_head, pop_stamp, taking, emptying, pop_tail, len_tail, len_head, len_again, empty_head, empty_tail, full_tail, full_head, closing, closed_tail, Begun}
 
 pub at_first : {A : Type 0} (cap : ℕ) (r : Ring A) (who : ℕ) (c : Call A) → HoldsNone r.cells who → Begun cap r who c (bounded_begin cap (call_kind c))
 at_first cap r who (Call.Push v) none = push_tail PushKind.Push v none
@@ -61,8 +63,9 @@ at_coming {A} {cap = cap} {r = r} {who = who} ok (arriving old v t h below back 
     let here : CellOk cap r.head r.tail r.items r.coming (h % cap) (Coming h who old v) = rw one.0 at (ok.cell (h % cap) (in_ring cap h ok.ring)) in (v, here.3)
 at_coming ok _ b = absurd b
 
+-- each operation is one on a word of the ring
 pub at_word : {A : Type 0} {cap : ℕ} {r : Ring A} {who : ℕ} {ms : List (State A)} {was : Bool} {c : Stand A}
-    → RingOk cap r → At cap r who ms was c → InRing cap c.op
+    → RingOk cap r → At cap r who ms was c → OnWord (HasPlace cap) c.op
 at_word {cap = cap} ok (push_stamp d v t none saw) = in_ring cap (position_of t) ok.ring
 at_word {cap = cap} ok (filling d v q one) = in_ring cap q ok.ring
 at_word {cap = cap} ok (swapping old v h one) = in_ring cap (h + cap) ok.ring

@@ -10,7 +10,9 @@ use Rattle.law_common.specs.Vocabulary.{Call, Reply, Effect, Kind, Word, Op, Tou
 use Rattle.queue_steps.specs.declared.steps.bounded.BoundedLocal.TheVariants as ring
 use Rattle.law_common.specs.Moments.{SeenIn}
 use Rattle.law_common.specs.Effects.{Leads, with_effect, Whether}
-use Rattle.law_ring.specs.RingShared.{Shared, CanTouch, CanOperate, answered, operated, touched, handed}
+use Rattle.law_common.specs.Operations.{op_word}
+use Rattle.law_common.proofs.Operations.{has_word}
+use Rattle.law_ring.specs.RingShared.{Shared, HasWord, CanTouch, CanOperate, answered, operated, touched, handed}
 use Rattle.law_ring.specs.RingCells.{Ring, queue_of, RingOk, HoldsNone}
 use Rattle.law_ring.specs.RingPasses.{Passes}
 use Rattle.law_ring.proofs.RingPasses.{passes_same, passes_marked}
@@ -117,6 +119,11 @@ module _ {A : Type 0} {cap : ℕ} {r : Ring A} {who : ℕ} {s : Shared A} {ms : 
     shift = Rests refl refl;
     goes = goes;
   }
+
+-- the operation is on a word that the ring has
+pub operates_on : {A : Type 0} (s : Shared A) (o : Op ℕ) → CanOperate s o → HasWord s (op_word o)
+operates_on s (Op.Add w x) can = can.0
+operates_on s o can = has_word (HasWord s) o can
 
 -- a mark that finds the ring closed
 pub marks_closed : {A : Type 0} (cap : ℕ) (r : Ring A) → r.closed ≡ true → queue_of cap (marked r) ≡ queue_of cap r

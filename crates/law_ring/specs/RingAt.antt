@@ -99,19 +99,3 @@ pub data At {A : Type 0} (cap : ℕ) (r : Ring A) (who : ℕ) (ms : List (State 
 abbrev pub Begun : {A : Type 0} → ℕ → Ring A → ℕ → Call A → Next ℕ → Type 0
 Begun cap r who c (Next.Step l t o) = At cap r who [] false (stand l t o (call_value c) c [])
 Begun cap r who c (Next.Reply x spare) = Unit {0}
-
--- the word is one of a ring of cap slots
-abbrev pub HasPlace : ℕ → Word ℕ → Type 0
-HasPlace cap Word.Tail = Unit {0}
-HasPlace cap Word.Head = Unit {0}
-HasPlace cap (Word.Stamp i) = i < cap
-HasPlace cap _ = ⊥
-
--- so is that of the operation
-abbrev pub InRing : ℕ → Op ℕ → Type 0
-InRing cap (Op.Load w) = HasPlace cap w
-InRing cap (Op.Store w x) = HasPlace cap w
-InRing cap (Op.Add w x) = HasPlace cap w
-InRing cap (Op.Or w x) = HasPlace cap w
-InRing cap (Op.Exchange w a b) = HasPlace cap w
-InRing cap _ = ⊥

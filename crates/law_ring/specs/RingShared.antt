@@ -1,6 +1,7 @@
 -- The words and slots of a ring as a value, and what one step of a call does to them.
-use Rattle.std.specs.Prelude.{ℕ, ◌+◌, ◌<◌, ◌^◌, ◌==◌, if◌then◌else◌, Option, None, List, length, slice_index_or, slice_set, bit_or}
+use Rattle.std.specs.Prelude.{ℕ, ◌+◌, ◌<◌, ◌^◌, Option, None, List, length, slice_index_or, slice_set}
 use Rattle.law_common.specs.Vocabulary.{Word, Op, Touch, Answer}
+use Rattle.law_common.specs.Operations.{OnWord, op_word, op_makes, answer_for}
 
 pub record Shared (T : Type 0) : Type 0 where
   pub head : ℕ
@@ -8,12 +9,16 @@ pub record Shared (T : Type 0) : Type 0 where
   pub stamps : List ℕ
   pub slots : List (Option T)
 
+-- the word is one of a ring of cap slots
+abbrev pub HasPlace : ℕ → Word ℕ → Type 0
+HasPlace cap Word.Head = Unit {0}
+HasPlace cap Word.Tail = Unit {0}
+HasPlace cap (Word.Stamp i) = i < cap
+HasPlace cap _ = ⊥
+
 -- the ring has this word
 abbrev pub HasWord : {T : Type 0} → Shared T → Word ℕ → Type 0
-HasWord s Word.Head = Unit {0}
-HasWord s Word.Tail = Unit {0}
-HasWord s (Word.Stamp i) = i < length s.stamps
-HasWord s _ = ⊥
+HasWord s w = HasPlace (length s.stamps) w
 
 abbrev pub word_at : {T : Type 0} → Shared T → Word ℕ → ℕ
 word_at s Word.Head = s.head
@@ -29,28 +34,17 @@ put_word s _ x = s
 
 -- the operation is one on a word that the ring has, and no sum is too large for a word
 abbrev pub CanOperate : {T : Type 0} → Shared T → Op ℕ → Type 0
-CanOperate s (Op.Load w) = HasWord s w
-CanOperate s (Op.Store w x) = HasWord s w
 CanOperate s (Op.Add w x) = HasWord s w × (word_at s w + x < 2 ^ 64)
-CanOperate s (Op.Or w x) = HasWord s w
-CanOperate s (Op.Exchange w a b) = HasWord s w
-CanOperate s _ = ⊥
+CanOperate s o = OnWord (HasWord s) o
 
 -- what the operation answers
 abbrev pub answered : {T : Type 0} → Shared T → Op ℕ → Answer ℕ
-answered s (Op.Load w) = Answer.Found (word_at s w)
-answered s (Op.Add w x) = Answer.Found (word_at s w)
-answered s (Op.Or w x) = Answer.Found (word_at s w)
-answered s (Op.Exchange w a b) = Answer.Found (word_at s w)
-answered s _ = Answer.Done
+answered s o = answer_for o (word_at s (op_word o))
 
 -- what is shared after the operation
 abbrev pub operated : {T : Type 0} → Shared T → Op ℕ → Shared T
-operated s (Op.Store w x) = put_word s w x
-operated s (Op.Add w x) = put_word s w (word_at s w + x)
-operated s (Op.Or w x) = put_word s w (bit_or (word_at s w) x)
-operated s (Op.Exchange w a b) = if word_at s w == a then put_word s w b else s
-operated s _ = s
+operated s (Op.Load w) = s
+operated s o = put_word s (op_word o) (op_makes o (word_at s (op_word o)))
 
 -- the slot that is touched is one of the ring's
 abbrev pub CanTouch : {T : Type 0} → Shared T → Touch → Type 0

@@ -1,6 +1,7 @@
 -- The word and the slot as a value, and what one step of a call does to them.
-use Rattle.std.specs.Prelude.{ℕ, ◌<◌, ◌==◌, if◌then◌else◌, Option, bit_and, bit_or}
+use Rattle.std.specs.Prelude.{ℕ, ◌<◌, Option}
 use Rattle.law_common.specs.Vocabulary.{Word, Op, Touch, Answer}
+use Rattle.law_common.specs.Operations.{OnWord, op_makes, answer_for}
 
 pub record Shared (T : Type 0) : Type 0 where
   pub lock : ℕ
@@ -16,26 +17,15 @@ IsLock _ = ⊥
 
 -- the operation is one on it
 abbrev pub CanOperate : Op ℕ → Type 0
-CanOperate (Op.Load w) = IsLock w
-CanOperate (Op.Or w x) = IsLock w
-CanOperate (Op.And w x) = IsLock w
-CanOperate (Op.Exchange w a b) = IsLock w
-CanOperate _ = ⊥
+CanOperate o = OnWord IsLock o
 
 -- what the operation answers
 abbrev pub answered : {T : Type 0} → Shared T → Op ℕ → Answer ℕ
-answered s (Op.Load w) = Answer.Found s.lock
-answered s (Op.Or w x) = Answer.Found s.lock
-answered s (Op.And w x) = Answer.Found s.lock
-answered s (Op.Exchange w a b) = Answer.Found s.lock
-answered s _ = Answer.Done
+answered s o = answer_for o s.lock
 
 -- what is shared after the operation
 abbrev pub operated : {T : Type 0} → Shared T → Op ℕ → Shared T
-operated s (Op.Or w x) = record s { lock = bit_or s.lock x }
-operated s (Op.And w x) = record s { lock = bit_and s.lock x }
-operated s (Op.Exchange w a b) = if s.lock == a then record s { lock = b } else s
-operated s _ = s
+operated s o = record s { lock = op_makes o s.lock }
 
 -- there is one slot
 abbrev pub CanTouch : Touch → Type 0

@@ -9,6 +9,7 @@ use Rattle.queue_steps.specs.declared.steps.types.Touch.{Touch}
 use Rattle.queue_steps.specs.declared.steps.types.Touch.TheVariants as touch
 use Rattle.queue_steps.specs.declared.steps.types.Word.{Word}
 use Rattle.queue_steps.specs.declared.steps.types.Word.TheVariants as word
+use Rattle.law_common.specs.Operations.{op_word, op_makes}
 use Rattle.machine_memory.specs.declared.blocks.BlockPlace.{BlockPlace}
 use Rattle.machine_memory.specs.Blocks.{Block, fresh_block, block_of, with_place, with_next, without}
 use Rattle.machine_memory.specs.SharedMemory.{Shared, word_at, put_word, put_link, put_at, touched, operated}
@@ -112,15 +113,6 @@ sparing bs cs h = ((let a = h.0 in omega arith), λ same. h.1)
 
 pub operated-sparing : {T : Type 0} (ok : Bool) (s : Shared T) (o : Op ℕ) → Sparing s.blocks (operated ok s o).blocks
 operated-sparing ok s (op.Load w) = sparing s.blocks s.blocks (none_more s.blocks)
-operated-sparing ok s (op.Store w x) = sparing s.blocks _ (put_word-none s w x)
-operated-sparing ok s (op.Add w x) = sparing s.blocks _ (put_word-none s w _)
-operated-sparing ok s (op.Or w x) = sparing s.blocks _ (put_word-none s w _)
-operated-sparing ok s (op.And w x) = sparing s.blocks _ (put_word-none s w _)
-operated-sparing {T} ok s (op.Exchange w a b) = by_test (word_at s w == a)
-  where
-    by_test : (t : Bool) → Sparing s.blocks (if◌then◌else◌ {A = Shared T} t (put_word s w b) s).blocks
-    by_test true = sparing s.blocks _ (put_word-none s w b)
-    by_test false = sparing s.blocks s.blocks (none_more s.blocks)
 operated-sparing ok s (op.LoadLink l) = sparing s.blocks s.blocks (none_more s.blocks)
 operated-sparing ok s (op.StoreLink l f) = sparing s.blocks _ (put_link-none s l f)
 operated-sparing ok s (op.Install f) = sparing s.blocks s.blocks (none_more s.blocks)
@@ -128,3 +120,4 @@ operated-sparing {T} true s op.Ask =
     let long : length (s.blocks ++ Some fresh_block ∷ []) ≡ length s.blocks + 1 = length-append s.blocks (Some fresh_block ∷ []) in
     (omega (arith, long), λ same. absurd (omega (arith, long, same)))
 operated-sparing false s op.Ask = sparing s.blocks s.blocks (none_more s.blocks)
+operated-sparing ok s o = sparing s.blocks _ (put_word-none s (op_word o) (op_makes o (word_at s (op_word o))))

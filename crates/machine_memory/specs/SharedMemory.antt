@@ -1,5 +1,5 @@
 -- The words, slots and blocks of the machine, and what one operation and one touch do to them.
-use Rattle.std.specs.Prelude.{ℕ, ◌+◌, ◌<◌, ◌^◌, ◌==◌, Bool, true, false, if◌then◌else◌, Option, Some, None, IsSome, List, [], ◌∷◌, ◌++◌, length, slice_index_or, slice_set, bit_and, bit_or}
+use Rattle.std.specs.Prelude.{ℕ, ◌+◌, ◌<◌, ◌^◌, Bool, true, false, Option, Some, None, IsSome, List, [], ◌∷◌, ◌++◌, length, slice_index_or, slice_set}
 use Rattle.queue_steps.specs.declared.steps.types.Answer.{Answer}
 use Rattle.queue_steps.specs.declared.steps.types.Answer.TheVariants as answer
 use Rattle.queue_steps.specs.declared.steps.types.Link.{Link}
@@ -10,6 +10,7 @@ use Rattle.queue_steps.specs.declared.steps.types.Touch.{Touch}
 use Rattle.queue_steps.specs.declared.steps.types.Touch.TheVariants as touch
 use Rattle.queue_steps.specs.declared.steps.types.Word.{Word}
 use Rattle.queue_steps.specs.declared.steps.types.Word.TheVariants as word
+use Rattle.law_common.specs.Operations.{op_word, op_makes, answer_for}
 use Rattle.machine_memory.specs.declared.shared_memory.SharedMemory.{SharedMemory}
 use Rattle.machine_memory.specs.Blocks.{Block, fresh_block, block_of, place_count, state_of, item_of, behind, put_state, put_item, put_next}
 
@@ -69,16 +70,12 @@ installed (Some b) f = Some b
 
 -- the operation is one on a word or link that the machine has, and no sum is too large for a word
 abbrev pub CanOperate : {T : Type 0} → Shared T → Op ℕ → Type 0
-CanOperate s (op.Load w) = HasWord s w
-CanOperate s (op.Store w x) = HasWord s w
-CanOperate s (op.Add w x) = HasWord s w × (word_at s w + x < 2 ^ 64)
-CanOperate s (op.Or w x) = HasWord s w
-CanOperate s (op.And w x) = HasWord s w
-CanOperate s (op.Exchange w a b) = HasWord s w
 CanOperate s (op.LoadLink l) = HasLink s l
 CanOperate s (op.StoreLink l f) = HasLink s l
 CanOperate s (op.Install f) = Unit {0}
 CanOperate s op.Ask = Unit {0}
+CanOperate s (op.Add w x) = HasWord s w × (word_at s w + x < 2 ^ 64)
+CanOperate s o = HasWord s (op_word o)
 
 -- the answer to a request: the number of the block, where it is granted
 abbrev pub asked : {T : Type 0} → Bool → Shared T → Answer ℕ
@@ -87,15 +84,11 @@ asked false s = answer.Refused
 
 -- what the operation answers. `ok` says whether a block that it asks for is granted
 abbrev pub answered : {T : Type 0} → Bool → Shared T → Op ℕ → Answer ℕ
-answered ok s (op.Load w) = answer.Found (word_at s w)
-answered ok s (op.Add w x) = answer.Found (word_at s w)
-answered ok s (op.Or w x) = answer.Found (word_at s w)
-answered ok s (op.And w x) = answer.Found (word_at s w)
-answered ok s (op.Exchange w a b) = answer.Found (word_at s w)
 answered ok s (op.LoadLink l) = answer.Linked (link_at s l)
+answered ok s (op.StoreLink l f) = answer.Done
 answered ok s (op.Install f) = answer.Linked s.tail_block
 answered ok s op.Ask = asked ok s
-answered ok s _ = answer.Done
+answered ok s o = answer_for o (word_at s (op_word o))
 
 -- what is shared once a block is granted
 abbrev pub granted_if : {T : Type 0} → Bool → Shared T → Shared T
@@ -104,15 +97,12 @@ granted_if false s = s
 
 -- what is shared after the operation
 abbrev pub operated : {T : Type 0} → Bool → Shared T → Op ℕ → Shared T
-operated ok s (op.Store w x) = put_word s w x
-operated ok s (op.Add w x) = put_word s w (word_at s w + x)
-operated ok s (op.Or w x) = put_word s w (bit_or (word_at s w) x)
-operated ok s (op.And w x) = put_word s w (bit_and (word_at s w) x)
-operated ok s (op.Exchange w a b) = if word_at s w == a then put_word s w b else s
+operated ok s (op.Load w) = s
+operated ok s (op.LoadLink l) = s
 operated ok s (op.StoreLink l f) = put_link s l f
 operated ok s (op.Install f) = record s { tail_block = installed s.tail_block f }
 operated ok s op.Ask = granted_if ok s
-operated ok s _ = s
+operated ok s o = put_word s (op_word o) (op_makes o (word_at s (op_word o)))
 
 -- the block whose slot a step touches, on a chain: that of the state that its operation names
 abbrev pub block_touched : Op ℕ → Option ℕ

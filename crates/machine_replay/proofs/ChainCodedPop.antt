@@ -11,6 +11,7 @@ use Rattle.law_common.specs.Moments.{HeadWas, SeenIn}
 use Rattle.law_chain.specs.ChainFacts.{place, head_of, HeadIs, IsNamed, HeadBlockIs, HeadBlockRead, IsMore, Got, SawEmpty}
 use Rattle.law_chain.specs.ChainCells.{Writer, Writing, Wrote, Reader, Reading, Done, Stands as Rested, Passing, Entering, GivenUp, Chain, FrontOk, ChainOk, Read, Head, HoldsOnly, Nothing, item_at, Free, ItemOk}
 use Rattle.law_chain.specs.ChainAnswers.{head_word, linked_of}
+use prog.Atomic.{either}
 use Rattle.machine_memory.specs.Blocks.{block_of, behind, behind_in, state_of}
 use Rattle.machine_memory.specs.SharedMemory.{Shared}
 use Rattle.machine_replay.proofs.ChainNames.{Codes}
@@ -72,7 +73,7 @@ module _ {A : Type 0} (c : Chain A) (who : ℕ) (ms : List (State A)) (ok : Bool
   }
     where
       moved : Bool → Shared A
-      moved b = if b then record s { head = after } else s
+      moved b = record s { head = either b after s.head }
 
       won : head_word c ≡ head_of n more → (((offset_of (head_of n more) + 1 == BLOCK_SLOTS) ≡ true) × (offset_of (head_of n more) + 1 ≡ BLOCK_SLOTS)) ⊎ (((offset_of (head_of n more) + 1 == BLOCK_SLOTS) ≡ false) × (offset_of (head_of n more) + 1 ≢ BLOCK_SLOTS))
           → CodesShared (record s { head = after }) (taken_if c who new true (offset_of (head_of n more) + 1 == BLOCK_SLOTS))

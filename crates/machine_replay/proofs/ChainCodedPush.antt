@@ -1,5 +1,5 @@
 -- The shared memory at each step of a push on a chain.
-use Rattle.std.proofs.Common.{ℕ, ◌+◌, ◌/◌, ◌%◌, ◌<◌, ◌≤◌, ◌≡◌, ◌≢◌, ◌==◌, ◌∙◌, ◌⊎◌, inl, inr, zero, suc, Bool, true, false, if◌then◌else◌, Option, Some, None, IsSome, List, length, refl, sym, ap, subst, arith, get_or, bit_or}
+use Rattle.std.proofs.Common.{ℕ, ◌+◌, ◌/◌, ◌%◌, ◌<◌, ◌≤◌, ◌≡◌, ◌≢◌, ◌==◌, ◌^◌, ◌∙◌, ◌⊎◌, inl, inr, zero, suc, Bool, true, false, if◌then◌else◌, Option, Some, None, IsSome, List, length, refl, sym, ap, subst, arith, get_or, bit_or}
 use Rattle.std.proofs.lemmas.List.{length-set}
 use Rattle.std.proofs.lemmas.Bool.Decides.{eqb_tells}
 use Rattle.machine_replay.specs.Vocabulary.{Answer, Next, PushKind, LIMIT, BLOCK_SLOTS, TAIL_STEP, WRITE}
@@ -13,6 +13,7 @@ use Rattle.law_chain.specs.ChainAnswers.{tail_word, last_of, is_done}
 use Rattle.law_chain.proofs.ChainAnswers.{tail_small, same_tail}
 use Rattle.law_chain.proofs.ChainRight.{Gives}
 use Rattle.law_chain.specs.ChainAfter.{left_by, if_installed, claimed_if, if_claimed}
+use prog.Atomic.{either}
 use Rattle.machine_memory.specs.Blocks.{without, blank, places_in, state_of, put_state, put_item}
 use Rattle.machine_memory.specs.SharedMemory.{Shared, installed}
 use Rattle.machine_steps.specs.Steps.{spare_in}
@@ -119,7 +120,7 @@ module _ {A : Type 0} (c : Chain A) (who : ℕ) (ms : List (State A)) (ok : Bool
   }
     where
       moved : Bool → Shared A
-      moved b = if b then record s { tail = open_tail_of q + TAIL_STEP } else s
+      moved b = record s { tail = either b (open_tail_of q + TAIL_STEP) s.tail }
 
       won : tail_word c ≡ open_tail_of q → (((offset_of (open_tail_of q) + 1 == BLOCK_SLOTS) ≡ true) × (offset_of (open_tail_of q) + 1 ≡ BLOCK_SLOTS)) ⊎ (((offset_of (open_tail_of q) + 1 == BLOCK_SLOTS) ≡ false) × (offset_of (open_tail_of q) + 1 ≢ BLOCK_SLOTS))
           → CodesShared (record s { tail = open_tail_of q + TAIL_STEP }) (claimed_if c who v true (offset_of (open_tail_of q) + 1 == BLOCK_SLOTS))
@@ -154,11 +155,17 @@ module _ {A : Type 0} (c : Chain A) (who : ℕ) (ms : List (State A)) (ok : Bool
       → ChainOk c → CodesShared s c → Coded c who ms ok s (opening d v n name f holds mine opens links named)
   coded_opening d v n name f holds mine opens links named right codes = record {
     touches = tt;
-    operates = (tt, (let small = tail_small c right in let is = codes.tail_is in omega arith));
+    operates = (tt, small);
     answers = ap (λ w. Answer.Found w) codes.tail_is;
     carried = refl;
-    codes = λ fine gives. codes_left who (unbounded_next (chain.Opening d (open_tail_of n) name f) (Answer.Found s.tail)) fine gives (codes_opened who right opens.0 codes);
+    codes = λ fine gives. codes_left who (unbounded_next (chain.Opening d (open_tail_of n) name f) (Answer.Found s.tail)) fine gives (subst (λ t. Codes (moves.opened c) s.head t s.head_block s.tail_block s.blocks) (sym fits) (codes_opened who right opens.0 codes));
   }
+    where
+      small : s.tail + TAIL_STEP < 2 ^ 64
+      small = let low = tail_small c right in let is = codes.tail_is in omega arith
+
+      fits : (s.tail + TAIL_STEP) % 2 ^ 64 ≡ s.tail + TAIL_STEP
+      fits = let low = small in omega arith
 
   -- U8: the block is linked to the next one
   pub coded_chaining : (d : PushKind) (v : A) (n name f : ℕ) (holds : HoldsOnly c who (Either (Write n) (Behind (n / BLOCK_SLOTS)))) (mine : Claimed c who n v name) (links : c.links (n / BLOCK_SLOTS) ≡ Linking who) (named : IsNamed c (n / BLOCK_SLOTS + 1) f)

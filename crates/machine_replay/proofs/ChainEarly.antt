@@ -257,17 +257,13 @@ early_ends {c = c} head u x (pop_tail n b none is front) a ok found at_it first 
 early_ends head u x _ a ok found at_it first goes = cc
 
 -- a step of a pop leaves the tail
-won_head : {A : Type 0} (b : Bool) (s : Shared A) (x : ℕ) → (if b then put_word s Word.Head x else s).tail ≡ s.tail
-won_head true s x = refl
-won_head false s x = refl
-
 pop_leaves : {A : Type 0} {c : Chain A} {who : ℕ} {ms : List (State A)} {k : Stand A} (ok : Bool) (s : Shared A) → At c who ms k → one_of_pop k.local ≡ 1
     → (step_of Kind.Unbounded ok s (running_of k)).shared.tail ≡ s.tail
 unfolding one_of_pop
 pop_leaves ok s (pop_head none) pop = refl
 pop_leaves ok s (pop_block n more none is room) pop = refl
 pop_leaves ok s (pop_tail n block none is front) pop = refl
-pop_leaves ok s (taking n name next more new none is front there word_is room) pop = won_head _ s _
+pop_leaves ok s (taking n name next more new none is front there word_is room) pop = refl
 pop_leaves ok s (following x n name more holds got pass) pop = refl
 pop_leaves ok s (peeking x n name after more holds got pass behind) pop = refl
 pop_leaves ok s (passing x n name after more further holds got pass behind room) pop = refl

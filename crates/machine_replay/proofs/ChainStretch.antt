@@ -17,8 +17,10 @@ use Rattle.law_chain.proofs.ChainRanks.{rank, rank_some, Falls, IsQuiet}
 use Rattle.law_chain.proofs.ChainRanksStep.{step_falls}
 use Rattle.law_chain.proofs.ChainRight.{NextOkSpares, step_right}
 use Rattle.law_chain.proofs.ChainStep.{is_chain}
+use prog.Atomic.{either}
+use Rattle.law_common.specs.Operations.{op_word, op_makes}
 use Rattle.machine_replay.specs.Book.{Open}
-use Rattle.machine_memory.specs.SharedMemory.{Shared, put_word, put_at, touched, operated, granted_if, block_touched}
+use Rattle.machine_memory.specs.SharedMemory.{Shared, word_at, put_word, put_at, touched, operated, granted_if, block_touched}
 use Rattle.machine_steps.specs.Steps.{answer_to, step_of, running_after, next_after, carried_then, after_touch}
 use Rattle.machine_replay.proofs.ChainFar.{far_at, far_of, one_of_pop, by_call, goes_as, bounded}
 use Rattle.machine_replay.proofs.ChainFits.{ChainIdle, ChainFits}
@@ -41,11 +43,11 @@ granted_words : {A : Type 0} (ok : Bool) (s : Shared A) → SameWords s (granted
 granted_words true s = (refl, refl)
 granted_words false s = (refl, refl)
 
-lost_tail : {A : Type 0} (b : Bool) (s : Shared A) (x : ℕ) (e : EffectKind) → (if b then Some e else None) ≡ None → SameWords s (if b then put_word s Word.Tail x else s)
+lost_tail : {A : Type 0} (b : Bool) (s : Shared A) (x : ℕ) (e : EffectKind) → (if b then Some e else None) ≡ None → SameWords s (put_word s Word.Tail (either b x s.tail))
 lost_tail true s x e none = cc
 lost_tail false s x e none = (refl, refl)
 
-lost_head : {A : Type 0} (b : Bool) (s : Shared A) (x : ℕ) (e : EffectKind) → (if b then Some e else None) ≡ None → SameWords s (if b then put_word s Word.Head x else s)
+lost_head : {A : Type 0} (b : Bool) (s : Shared A) (x : ℕ) (e : EffectKind) → (if b then Some e else None) ≡ None → SameWords s (put_word s Word.Head (either b x s.head))
 lost_head true s x e none = cc
 lost_head false s x e none = (refl, refl)
 
@@ -78,23 +80,18 @@ put_word_front : {A : Type 0} (s : Shared A) (w : Word ℕ) (x : ℕ) → (put_w
 put_word_front s Word.Lock x = refl
 put_word_front s w x = refl
 
-if_front : {A : Type 0} (b : Bool) (s : Shared A) (w : Word ℕ) (x : ℕ) → IsSome s.head_block → IsSome (if b then put_word s w x else s).head_block
-if_front true s w x h = subst (λ b. IsSome b) (sym (put_word_front s w x)) h
-if_front false s w x h = h
-
 granted_front : {A : Type 0} (ok : Bool) (s : Shared A) → IsSome s.head_block → IsSome (granted_if ok s).head_block
 granted_front true s h = h
 granted_front false s h = h
 
 operated_front : {A : Type 0} (ok : Bool) (s : Shared A) (o : Op ℕ) → IsSome s.head_block → IsSome (operated ok s o).head_block
-operated_front ok s (Op.Store w x) h = subst (λ b. IsSome b) (sym (put_word_front s w x)) h
-operated_front ok s (Op.Add w x) h = subst (λ b. IsSome b) (sym (put_word_front s w _)) h
-operated_front ok s (Op.Or w x) h = subst (λ b. IsSome b) (sym (put_word_front s w _)) h
-operated_front ok s (Op.And w x) h = subst (λ b. IsSome b) (sym (put_word_front s w _)) h
-operated_front ok s (Op.Exchange w a b) h = if_front _ s w b h
+operated_front ok s (Op.Load w) h = h
+operated_front ok s (Op.LoadLink l) h = h
 operated_front ok s (Op.StoreLink Link.HeadBlock f) h = refl
+operated_front ok s (Op.StoreLink l f) h = h
+operated_front ok s (Op.Install f) h = h
 operated_front ok s Op.Ask h = granted_front ok s h
-operated_front ok s o h = h
+operated_front ok s o h = subst (λ b. IsSome b) (sym (put_word_front s (op_word o) (op_makes o (word_at s (op_word o))))) h
 
 module _ (A : Type 0) where
   pub ready_on : (ok : Bool) (s : Shared A) (r : Running A) → IsSome s.head_block → IsSome (step_of Kind.Unbounded ok s r).shared.head_block

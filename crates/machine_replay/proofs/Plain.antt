@@ -1,6 +1,7 @@
 -- Operations on the words of a queue with a capacity: they need no block, and where there is none, none comes.
 use Rattle.std.proofs.Common.{◌≡◌, ◌∙◌, ◌==◌, ℕ, Bool, true, false, if◌then◌else◌, Option, Some, None, [], refl, ap}
 use Rattle.machine_replay.specs.Vocabulary.{Kind, Word, Op, Touch, Local, Running}
+use Rattle.law_common.specs.Operations.{OnWord, op_word, op_makes}
 use Rattle.machine_memory.specs.Blocks.{without}
 use Rattle.machine_memory.specs.SharedMemory.{Shared, word_at, put_word, operated, block_touched, touched}
 use Rattle.machine_steps.specs.Steps.{after_touch, after_operation, shared_then, step_of, CanStep}
@@ -11,13 +12,7 @@ IsPlainWord _ = Unit {0}
 
 -- the operation is one on such a word
 abbrev pub IsPlain : Op ℕ → Type 0
-IsPlain (Op.Load w) = IsPlainWord w
-IsPlain (Op.Store w x) = IsPlainWord w
-IsPlain (Op.Add w x) = IsPlainWord w
-IsPlain (Op.Or w x) = IsPlainWord w
-IsPlain (Op.And w x) = IsPlainWord w
-IsPlain (Op.Exchange w a b) = IsPlainWord w
-IsPlain _ = ⊥
+IsPlain o = OnWord IsPlainWord o
 
 -- it does not hang on what the allocator does
 pub plain-step : {T : Type 0} (k : Kind) (ok : Bool) (s : Shared T) (l : Local ℕ) (t : Touch) (o : Op ℕ) (v : Option T) → IsPlain o
@@ -42,19 +37,11 @@ put_word-blocks s w x p = refl
 
 operated-blocks : {T : Type 0} (ok : Bool) (s : Shared T) (o : Op ℕ) → IsPlain o → (operated ok s o).blocks ≡ s.blocks
 operated-blocks ok s (Op.Load w) p = refl
-operated-blocks ok s (Op.Store w x) p = put_word-blocks s w x p
-operated-blocks ok s (Op.Add w x) p = put_word-blocks s w _ p
-operated-blocks ok s (Op.Or w x) p = put_word-blocks s w _ p
-operated-blocks ok s (Op.And w x) p = put_word-blocks s w _ p
-operated-blocks {T} ok s (Op.Exchange w a b) p = by_test (word_at s w == a)
-  where
-    by_test : (t : Bool) → (if◌then◌else◌ {A = Shared T} t (put_word s w b) s).blocks ≡ s.blocks
-    by_test true = put_word-blocks s w b p
-    by_test false = refl
 operated-blocks ok s (Op.LoadLink _) p = absurd p
 operated-blocks ok s (Op.StoreLink _ _) p = absurd p
 operated-blocks ok s (Op.Install _) p = absurd p
 operated-blocks ok s Op.Ask p = absurd p
+operated-blocks ok s o p = put_word-blocks s (op_word o) (op_makes o (word_at s (op_word o))) p
 
 untouched : (w : Word ℕ) → IsPlainWord w → block_touched (Op.Load w) ≡ None
 untouched (Word.State _ _) p = absurd p

@@ -1,7 +1,9 @@
 -- The machine's words and slots at each step of a call on a ring: what the laws of the ring say of them.
-use Rattle.std.proofs.Common.{ℕ, ◌+◌, ◌<◌, ◌^◌, ◌≡◌, ◌==◌, ◌∙◌, Bool, true, false, Option, None, if◌then◌else◌, bit_or, refl, sym, ap, subst}
+use Rattle.std.proofs.Common.{ℕ, ◌+◌, ◌<◌, ◌^◌, ◌≡◌, ◌∙◌, true, Option, None, refl, sym, ap, subst}
 use Rattle.machine_replay.specs.Vocabulary.{Word, Op, Touch, Answer, Running}
+use Rattle.law_common.specs.Operations.{op_word, op_makes, answer_for}
 use Rattle.law_ring.specs.RingShared as ring
+use Rattle.law_ring.proofs.RingStepOk.{operates_on}
 use Rattle.machine_memory.specs.SharedMemory.{Shared, HasWord, word_at, put_word, CanTouch, CanOperate, slots_there, block_touched, answered, operated, touched, handed}
 use Rattle.machine_steps.specs.Steps.{after_touch, after_operation, answer_to, carried_then}
 use Rattle.machine_replay.proofs.Plain.{IsPlainWord, IsPlain, plain-untouched}
@@ -32,14 +34,10 @@ module _ {T : Type 0} where
   word_put s (Word.State b i) x has = absurd has
   word_put s w x has = refl
 
-  -- an operation on a word of the ring is a plain one
-  pub plain : (s : Shared T) (o : Op ℕ) → ring.CanOperate (part s) o → IsPlain o
-  plain s (Op.Load w) can = plain_word s w can
-  plain s (Op.Store w x) can = plain_word s w can
-  plain s (Op.Add w x) can = plain_word s w can.0
-  plain s (Op.Or w x) can = plain_word s w can
-  plain s (Op.Exchange w a b) can = plain_word s w can
-  plain s o can = absurd can
+  -- what an operation makes of a word it makes of the ring's
+  made : (s : Shared T) (o : Op ℕ) → ring.HasWord (part s) (op_word o)
+      → part (put_word s (op_word o) (op_makes o (word_at s (op_word o)))) ≡ ring.put_word (part s) (op_word o) (op_makes o (ring.word_at (part s) (op_word o)))
+  made s o has = word_put s (op_word o) (op_makes o (word_at s (op_word o))) has ∙ ap (λ n. ring.put_word (part s) (op_word o) (op_makes o n)) (word_same s (op_word o) has)
 
   touch_same : (s : Shared T) (t : Touch) (v : Option T) → part (touched t None s v) ≡ ring.touched (part s) t v
   touch_same s Touch.Nothing v = refl
@@ -53,37 +51,17 @@ module _ {T : Type 0} where
   touches_same s Touch.Nothing can = tt
   touches_same s t can = can
 
-  operates_same : (s : Shared T) (o : Op ℕ) → ring.CanOperate (part s) o → CanOperate s o
-  operates_same s (Op.Load w) can = word_has s w can
-  operates_same s (Op.Store w x) can = word_has s w can
-  operates_same s (Op.Add w x) can = (word_has s w can.0, subst (λ n. n + x < 2 ^ 64) (sym (word_same s w can.0)) can.1)
-  operates_same s (Op.Or w x) can = word_has s w can
-  operates_same s (Op.Exchange w a b) can = word_has s w can
-  operates_same s o can = absurd can
-
-  answers_same : (s : Shared T) (o : Op ℕ) → ring.CanOperate (part s) o → answered true s o ≡ ring.answered (part s) o
-  answers_same s (Op.Load w) can = ap (λ n. Answer.Found n) (word_same s w can)
-  answers_same s (Op.Store w x) can = refl
-  answers_same s (Op.Add w x) can = ap (λ n. Answer.Found n) (word_same s w can.0)
-  answers_same s (Op.Or w x) can = ap (λ n. Answer.Found n) (word_same s w can)
-  answers_same s (Op.Exchange w a b) can = ap (λ n. Answer.Found n) (word_same s w can)
-  answers_same s o can = absurd can
-
-  operated_same : (s : Shared T) (o : Op ℕ) → ring.CanOperate (part s) o → part (operated true s o) ≡ ring.operated (part s) o
-  operated_same s (Op.Load w) can = refl
-  operated_same s (Op.Store w x) can = word_put s w x can
-  operated_same s (Op.Add w x) can = word_put s w (word_at s w + x) can.0 ∙ ap (λ n. ring.put_word (part s) w (n + x)) (word_same s w can.0)
-  operated_same s (Op.Or w x) can = word_put s w _ can ∙ ap (λ n. ring.put_word (part s) w (bit_or n x)) (word_same s w can)
-  operated_same s (Op.Exchange w a b) can = by_test (word_at s w == a) ∙ ap (λ n. if n == a then ring.put_word (part s) w b else part s) (word_same s w can)
-    where
-      by_test : (t : Bool) → part (if◌then◌else◌ {A = Shared T} t (put_word s w b) s) ≡ (if t then ring.put_word (part s) w b else part s)
-      by_test true = word_put s w b can
-      by_test false = refl
-  operated_same s (Op.And w x) can = absurd can
-  operated_same s (Op.LoadLink l) can = absurd can
-  operated_same s (Op.StoreLink l f) can = absurd can
-  operated_same s (Op.Install f) can = absurd can
-  operated_same s Op.Ask can = absurd can
+  -- an operation on a word of the ring is a plain one of the machine, and does the same to the ring
+  same_operation : (s : Shared T) (o : Op ℕ) → ring.CanOperate (part s) o → CanOperate s o × (answered true s o ≡ ring.answered (part s) o) × (part (operated true s o) ≡ ring.operated (part s) o) × IsPlain o
+  same_operation s (Op.LoadLink l) can = absurd can
+  same_operation s (Op.StoreLink l f) can = absurd can
+  same_operation s (Op.Install f) can = absurd can
+  same_operation s Op.Ask can = absurd can
+  same_operation s (Op.Load w) can = (word_has s w can, ap (λ n. Answer.Found n) (word_same s w can), refl, plain_word s w can)
+  same_operation s (Op.Add w x) (has, fits) = ((word_has s w has, subst (λ n. n + x < 2 ^ 64) (sym (word_same s w has)) fits), ap (λ n. Answer.Found n) (word_same s w has), made s (Op.Add w x) has, plain_word s w has)
+  same_operation s o can =
+      let has = operates_on (part s) o can in
+      (word_has s (op_word o) has, ap (answer_for o) (word_same s (op_word o) has), made s o has, plain_word s (op_word o) has)
 
   -- what is shared after the touch of the call's next step, on the ring
   abbrev after_ring : Shared T → Running T → ring.Shared T
@@ -101,11 +79,11 @@ module _ {T : Type 0} where
   pub same_step : (s : Shared T) (x : Running T) → ring.CanTouch (part s) x.touch → ring.CanOperate (after_ring s x) x.op → SameStep s x
   same_step s x touches can = record {
     touches = subst (λ b. CanTouch x.touch (slots_there s b)) (sym none) (touches_same s x.touch touches);
-    operates = subst (λ b. CanOperate (touched x.touch b s x.carried) x.op) (sym none) (operates_same after x.op here);
-    answers = ap (λ b. answered true (touched x.touch b s x.carried) x.op) none ∙ (answers_same after x.op here ∙ ap (λ p. ring.answered p x.op) (touch_same s x.touch x.carried));
+    operates = subst (λ b. CanOperate (touched x.touch b s x.carried) x.op) (sym none) same.0;
+    answers = ap (λ b. answered true (touched x.touch b s x.carried) x.op) none ∙ (same.1 ∙ ap (λ p. ring.answered p x.op) (touch_same s x.touch x.carried));
     carries = ap (λ b. handed x.touch b s x.carried) none ∙ hand_same s x.touch x.carried;
-    leaves = ap (λ b. part (operated true (touched x.touch b s x.carried) x.op)) none ∙ (operated_same after x.op here ∙ ap (λ p. ring.operated p x.op) (touch_same s x.touch x.carried));
-    is_plain = plain after x.op here;
+    leaves = ap (λ b. part (operated true (touched x.touch b s x.carried) x.op)) none ∙ (same.2 ∙ ap (λ p. ring.operated p x.op) (touch_same s x.touch x.carried));
+    is_plain = same.3;
   }
     where
       after : Shared T
@@ -114,5 +92,8 @@ module _ {T : Type 0} where
       here : ring.CanOperate (part after) x.op
       here = subst (λ p. ring.CanOperate p x.op) (sym (touch_same s x.touch x.carried)) can
 
+      same : CanOperate after x.op × (answered true after x.op ≡ ring.answered (part after) x.op) × (part (operated true after x.op) ≡ ring.operated (part after) x.op) × IsPlain x.op
+      same = same_operation after x.op here
+
       none : block_touched x.op ≡ None
-      none = plain-untouched x.op (plain after x.op here)
+      none = plain-untouched x.op same.3

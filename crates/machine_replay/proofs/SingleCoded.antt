@@ -31,16 +31,11 @@ module _ {T : Type 0} where
     pub carries : carried_then (one_slot word x) r ≡ slot.handed (slot.one_slot word x) r.touch r.carried
     pub leaves : after_operation granted (one_slot word x) r ≡ memory_of (slot.operated (after word x r.touch r.carried) r.op)
 
-  -- the exchange
-  exchanged : (t : Bool) (word new : ℕ) (x : Option T) → (if◌then◌else◌ {A = Shared T} t (one_slot new x) (one_slot word x)) ≡ memory_of (if t then slot.one_slot new x else slot.one_slot word x)
-  exchanged true word new x = refl
-  exchanged false word new x = refl
-
   pub same_step : {c : Stand T} {own : SlotHolder T} (granted : Bool) (word : ℕ) (x : Option T) → At c own → SameStep granted word x (running_of c)
-  same_step granted word x (push_try v) = record { touches = λ can. tt; operates = tt; answers = refl; carries = refl; leaves = exchanged (word == 0) word _ x }
-  same_step granted word x (force_try_empty v) = record { touches = λ can. tt; operates = tt; answers = refl; carries = refl; leaves = exchanged (word == 0) word _ x }
-  same_step granted word x (force_try_full v) = record { touches = λ can. tt; operates = tt; answers = refl; carries = refl; leaves = exchanged (word == 2) word _ x }
-  same_step granted word x (pop_try d) = record { touches = λ can. tt; operates = tt; answers = refl; carries = refl; leaves = exchanged _ word _ x }
+  same_step granted word x (push_try v) = record { touches = λ can. tt; operates = tt; answers = refl; carries = refl; leaves = refl }
+  same_step granted word x (force_try_empty v) = record { touches = λ can. tt; operates = tt; answers = refl; carries = refl; leaves = refl }
+  same_step granted word x (force_try_full v) = record { touches = λ can. tt; operates = tt; answers = refl; carries = refl; leaves = refl }
+  same_step granted word x (pop_try d) = record { touches = λ can. tt; operates = tt; answers = refl; carries = refl; leaves = refl }
   same_step granted word x close_try = record { touches = λ can. tt; operates = tt; answers = refl; carries = refl; leaves = refl }
   same_step granted word x (look_at l) = record { touches = λ can. tt; operates = tt; answers = refl; carries = refl; leaves = refl }
   same_step granted word x y = record { touches = λ can. can; operates = tt; answers = refl; carries = refl; leaves = refl }

@@ -12,7 +12,7 @@ use Rattle.shared_parties.specs.declared.known.CallState.{CallState}
 use Rattle.shared_parties.specs.declared.known.InCall.{InCall}
 use Rattle.shared_parties.specs.Calling.{Standing, touched_list}
 use Rattle.shared_parties.specs.CallsAt.{Ready}
-use Rattle.shared_parties.specs.Operations.{op_word, op_makes, answer_for}
+use Rattle.law_common.specs.Operations.{OnWord, op_word, op_makes, answer_for}
 use Rattle.shared_parties.proofs.CallSteps.{stands_at}
 use Rattle.shared_chain.specs.ChainCalls.{chain_calls}
 use Rattle.shared_chain.specs.Rule.{lead_of, Rule}
@@ -28,13 +28,7 @@ use Rattle.shared_chain.proofs.Unset.{FindsUnset, finds_unset}
 
 -- an operation on a word
 abbrev pub IsWordOp : Op ℕ → Type 0
-IsWordOp (Op.Load w) = Unit {0}
-IsWordOp (Op.Store w x) = Unit {0}
-IsWordOp (Op.Add w x) = Unit {0}
-IsWordOp (Op.Or w x) = Unit {0}
-IsWordOp (Op.And w x) = Unit {0}
-IsWordOp (Op.Exchange w a b) = Unit {0}
-IsWordOp _ = ⊥
+IsWordOp o = OnWord (λ w. Unit {0}) o
 
 -- a load or an install of a link
 abbrev pub IsRead : Op ℕ → Type 0

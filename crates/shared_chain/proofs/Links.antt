@@ -12,7 +12,7 @@ use Rattle.law_chain.specs.ChainAnswers.{Answers}
 use Rattle.law_chain.specs.ChainAfter.{left_by, chain_of, after_of}
 use Rattle.mem_blocks.specs.Web.{Block, Sitter, Act, block, Lives, Mays, blocks_after, sitter_after}
 use Rattle.shared_parties.specs.declared.known.CallState.{CallState}
-use Rattle.shared_parties.specs.Operations.{op_word}
+use Rattle.law_common.specs.Operations.{op_word}
 use Rattle.shared_chain.specs.Spots.{spot}
 use Rattle.shared_chain.specs.ChainCalls.{OutChain, SlotsAs, ChainLent}
 use Rattle.shared_chain.specs.Rule.{BlockIs, Codes}

@@ -9,7 +9,7 @@ use Rattle.mem_blocks.specs.declared.sizes.TheConstants.{SLOTS}
 use Rattle.shared_parties.specs.declared.known.CallState.{CallState}
 use Rattle.shared_parties.specs.declared.known.InCall.{InCall}
 use Rattle.shared_parties.specs.Calling.{touched_list}
-use Rattle.shared_parties.specs.Operations.{op_word, op_makes, answer_for}
+use Rattle.law_common.specs.Operations.{op_word, op_makes, answer_for}
 use Rattle.shared_chain.specs.Spots.{spot}
 use Rattle.shared_chain.specs.Names.{link_of, word_map, link_map, op_map, answer_map, is_set_once}
 use Rattle.shared_chain.specs.Rule.{Rule}

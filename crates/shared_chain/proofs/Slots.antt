@@ -19,7 +19,7 @@ use Rattle.law_chain.proofs.ChainGiven.{holds_given}
 use Rattle.mem_blocks.specs.Web.{Block, Home, Sitter, Act, Mays, blocks_after, sitter_after, Lives, block, worded, homed, with_word, vacant, AllVacant}
 use Rattle.mem_blocks.specs.declared.hub.TheConstants.{TAIL, HEAD}
 use Rattle.shared_parties.specs.declared.known.CallState.{CallState}
-use Rattle.shared_parties.specs.Operations.{op_word}
+use Rattle.law_common.specs.Operations.{op_word}
 use Rattle.shared_chain.specs.Spots.{spot}
 use Rattle.shared_chain.specs.ChainCalls.{OutChain, HasOut, ChainLent}
 use Rattle.shared_chain.specs.Rule.{home_of, plain_state, lead_of, IsThere, Codes}

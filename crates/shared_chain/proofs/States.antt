@@ -19,7 +19,7 @@ use Rattle.law_chain.specs.ChainAfter.{chain_of, after_of, left_by}
 use Rattle.law_chain.proofs.ChainWalk.{after_walker}
 use Rattle.mem_blocks.specs.Web.{Block, Sitter, Act, lifts, block, Lives, word_of, with_word, without, AllVacant, acted, May, Mays, blocks_after, sitter_acted, sitter_after}
 use Rattle.shared_parties.specs.declared.known.CallState.{CallState}
-use Rattle.shared_parties.specs.Operations.{op_word}
+use Rattle.law_common.specs.Operations.{op_word}
 use Rattle.shared_chain.specs.Spots.{spot}
 use Rattle.shared_chain.specs.ChainCalls.{OutChain, HasOut, ChainLent}
 use Rattle.shared_chain.specs.Rule.{Codes}

@@ -8,7 +8,7 @@ use Rattle.law_chain.specs.ChainCells.{LinkState, Linked, Shown, Seen, Use, Chai
 use Rattle.law_chain.specs.ChainAnswers.{last_of, shown_of, linked_of}
 use Rattle.mem_blocks.specs.Web.{Block, Home, Act, takes, gives, lays, lifts, block, word_of, homed, gone, linked, worded, with_word, with_next, with_home, without, acted, blocks_after, if_unset}
 use Rattle.mem_blocks.specs.declared.hub.TheConstants.{PARTIES}
-use Rattle.shared_parties.specs.Operations.{op_word, op_makes}
+use Rattle.law_common.specs.Operations.{op_word, op_makes}
 use Rattle.shared_chain.specs.Spots.{spot}
 use Rattle.shared_chain.specs.ChainCalls.{OutChain}
 use Rattle.shared_chain.specs.Rule.{lead_of, IsUsed, IsThere, Codes}

@@ -4,7 +4,7 @@ use Rattle.std.proofs.lemmas.Bool.{eqb-true}
 use Rattle.std.proofs.lemmas.Nat.{or_disjoint, or_lt}
 use Rattle.law_common.specs.Vocabulary.{Op, BLOCK_SLOTS, WRITE, READ}
 use Rattle.queue_steps.specs.State.{State}
-use Rattle.shared_parties.specs.Operations.{answer_for}
+use Rattle.law_common.specs.Operations.{answer_for}
 use Rattle.law_common.specs.Stand.{Stand}
 use Rattle.law_chain.specs.ChainCells.{Chain, item_at}
 use Rattle.law_chain.proofs.ChainReads.{own_item}

@@ -17,7 +17,7 @@ use Rattle.shared_parties.specs.declared.known.CallState.{CallState}
 use Rattle.shared_parties.specs.declared.known.InCall.{InCall}
 use Rattle.shared_parties.specs.Calling.{handed_by}
 use Rattle.shared_parties.specs.CallsAt.{Told}
-use Rattle.shared_parties.specs.Operations.{op_word, op_makes, answer_for}
+use Rattle.law_common.specs.Operations.{op_word, op_makes, answer_for}
 use Rattle.shared_chain.specs.Spots.{spot}
 use Rattle.shared_chain.specs.Names.{state_block}
 use Rattle.shared_chain.specs.ChainCalls.{OutChain, SlotsAs, ChainLent, chain_calls}

@@ -3,7 +3,6 @@ pub mod Known
 pub mod CallStates
 pub mod Parting
 pub mod PartyCount
-pub mod Operations
 pub mod Calling
 pub mod CallsAt
 pub mod Called

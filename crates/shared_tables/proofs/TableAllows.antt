@@ -11,7 +11,7 @@ use Rattle.shared_parties.specs.declared.known.CallState.{CallState}
 use Rattle.shared_tables.specs.Seats.{Table, Seated, count_of}
 use Rattle.shared_parties.specs.Calling.{CallsOf, stand_of, Standing, touched_list, handed_by, HasTouched}
 use Rattle.shared_tables.specs.TableRule.{TableOf, Rule, found_by, InTable, TakesOff, TableStepOk, TableLaws}
-use Rattle.shared_parties.specs.Operations.{op_word, op_makes, answer_for}
+use Rattle.law_common.specs.Operations.{op_word, op_makes, answer_for}
 use Rattle.shared_tables.specs.TableTurns.{After, Follows}
 use Rattle.shared_parties.specs.CallsAt.{Ready, CallsAt, Told}
 use Rattle.shared_parties.proofs.Callings.{grown}

@@ -10,17 +10,11 @@ use Rattle.shared_parties.specs.declared.known.InCall.{InCall}
 use Rattle.shared_tables.specs.Seats.{Table, Seated}
 use Rattle.shared_parties.specs.Calling.{touched_list, handed_by}
 use Rattle.shared_tables.specs.TableRule.{TableOf, Rule, TableLaws, InTable, TakesOff, found_by}
-use Rattle.shared_parties.specs.Operations.{op_word, op_makes, answer_for}
+use Rattle.law_common.specs.Operations.{op_word, op_makes, answer_for}
+use Rattle.law_common.proofs.Operations.{has_word}
 use Rattle.shared_tables.specs.TableTurns.{After, Follows}
 use Rattle.shared_parties.specs.CallsAt.{Ready}
 use Rattle.shared_tables.proofs.TableAllows.{table_allows, takes_off}
-
-has_word : {T : Type 0} (K : TableOf T) (o : Op ℕ) → InTable K o → K.HasWord (op_word o)
-has_word K (Op.LoadLink l) can = absurd can
-has_word K (Op.StoreLink l f) can = absurd can
-has_word K (Op.Install f) can = absurd can
-has_word K Op.Ask can = absurd can
-has_word K o can = can
 
 module _ {T : Type 0} (kinds : ℕ → TableOf T) (key slots words wide id : ℕ) (m : Seated T) (c : InCall T) (laws : TableLaws (kinds slots) words) (same : key ≡ slots) (size : wide ≡ words)
     (ready : Ready (kinds slots).calls m.0 c × (m.1 ≡ touched_list c.touch c.carried c.lends)) where
@@ -32,7 +26,7 @@ module _ {T : Type 0} (kinds : ℕ → TableOf T) (key slots words wide id : ℕ
   May k makes tells = (k < wide) × Allows (Rule (kinds key)) slots id m k makes tells
 
   below : (o : Op ℕ) → InTable K o → K.place (op_word o) < wide
-  below o can = subst (λ w. K.place (op_word o) < w) (sym size) (laws.below (op_word o) (has_word K o can))
+  below o can = subst (λ w. K.place (op_word o) < w) (sym size) (laws.below (op_word o) (has_word K.HasWord o can))
 
   allowed : (o : Op ℕ) → c.op ≡ o → Allows (Rule (kinds key)) slots id m (K.place (op_word o)) (op_makes o) (λ n q. Follows K c n q)
   allowed o is =

@@ -5,10 +5,10 @@ use mathlib.Core.Option as maybe
 use lib.ListN.{get_elem?}
 use Rattle.law_common.specs.Vocabulary.{Kind, Word}
 use Rattle.law_ring.specs.RingCells.{Cell, Ring, queue_of, RingOk, owner}
-use Rattle.law_ring.specs.RingShared.{Shared}
+use Rattle.law_ring.specs.RingShared.{Shared, HasPlace}
 use Rattle.law_ring.specs.RingWords.{Codes, item_in}
 use Rattle.law_ring.specs.RingPasses.{Passes, Lent}
-use Rattle.law_ring.specs.RingAt.{At, HasPlace}
+use Rattle.law_ring.specs.RingAt.{At}
 use Rattle.own_bounded.specs.RingWords.{words_behind}
 use Rattle.own_bounded.specs.declared.ring_words.TheConstants.{TAIL, HEAD, STAMPS}
 use Rattle.shared_parties.specs.Calling.{CallsOf}

@@ -13,7 +13,7 @@ use Rattle.law_common.specs.Effects.{Leads, with_effect}
 use Rattle.law_common.specs.Stand.{Stand}
 use Rattle.shared_tables.specs.Early.{IsEarly}
 use Rattle.shared_tables.specs.Seats.{Table, count_of}
-use Rattle.shared_parties.specs.Operations.{op_word, op_makes, answer_for}
+use Rattle.law_common.specs.Operations.{OnWord, op_word, op_makes, answer_for}
 use Rattle.shared_parties.specs.CallsAt.{CallsAt}
 use Rattle.shared_parties.specs.Calling.{CallsOf, CallLaws, touched_list, handed_by, MayFront, NextOk, first_of, Opens}
 
@@ -35,13 +35,7 @@ pub record Rule {T : Type 0} (K : TableOf T) (s : Table T) : Type 0 where
 
 -- the operation is one on a word that the table has
 abbrev pub InTable : {T : Type 0} → TableOf T → Op ℕ → Type 0
-InTable K (Op.Load w) = K.HasWord w
-InTable K (Op.Store w x) = K.HasWord w
-InTable K (Op.Add w x) = K.HasWord w
-InTable K (Op.Or w x) = K.HasWord w
-InTable K (Op.And w x) = K.HasWord w
-InTable K (Op.Exchange w a b) = K.HasWord w
-InTable K _ = ⊥
+InTable K o = OnWord K.HasWord o
 
 -- what the operation o finds in these words
 abbrev pub found_by : {T : Type 0} → TableOf T → Op ℕ → List ℕ → ℕ

@@ -11,7 +11,7 @@ use Rattle.shared_parties.specs.CallsAt.{begun_at, Ready}
 use Rattle.shared_parties.specs.CallStates.{HasAll}
 use Rattle.shared_parties.specs.Calling.{cap_of, handed_by, HasTouched, touched_list}
 use Rattle.shared_tables.specs.TableRule.{TableOf, InTable}
-use Rattle.shared_parties.specs.Operations.{answer_for}
+use Rattle.law_common.specs.Operations.{answer_for}
 use Rattle.atomic_table.specs.Seated.{TableId}
 use Rattle.shared_tables.specs.AtTable.{TableSeat, Ended}
 use Rattle.shared_parties.specs.Called.{called_at}

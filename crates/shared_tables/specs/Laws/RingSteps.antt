@@ -4,7 +4,6 @@ use Rattle.std.proofs.lemmas.List.{set-get_or, get_or-drop, set-append_right}
 use mathlib.Core.Option.{some, some-injective}
 use mathlib.Core.Option as maybe
 use lib.ListN.{get_elem?}
-use prog.Atomic.{either}
 use Rattle.atomic_table.specs.Table.{Act, keeps, takes, gives, Valid, carried_after, homes_after, rest}
 use Rattle.atomic_table.proofs.Lists.{set_here, set_else}
 use Rattle.law_common.specs.Vocabulary.{Call, Reply, Effect, Kind, Word, Op, Touch, Answer, Local, Next}
@@ -16,13 +15,13 @@ use Rattle.law_common.specs.Puts.{put}
 use Rattle.law_common.proofs.Puts.{put_ok, put_same}
 use Rattle.law_ring.specs.RingCells.{Cell, Ring, queue_of, RingOk, owner, HoldsNone}
 use Rattle.law_ring.specs.RingWords.{Codes, item_in}
-use Rattle.law_ring.specs.RingShared.{Shared, HasWord, word_at, put_word, CanOperate, CanTouch, answered, operated, touched, handed}
+use Rattle.law_ring.specs.RingShared.{Shared, HasPlace, HasWord, word_at, put_word, CanOperate, CanTouch, answered, operated, touched, handed}
 use Rattle.law_common.specs.Effects.{Touches, Whether, with_effect}
 use Rattle.law_common.specs.Stand.{Stand}
-use Rattle.law_ring.specs.RingAt.{At, HasPlace, InRing}
+use Rattle.law_ring.specs.RingAt.{At, closing}
 use Rattle.law_ring.proofs.RingAt.{at_stays}
 use Rattle.law_ring.proofs.RingRanks.{rank}
-use Rattle.law_ring.proofs.RingStepOk.{IsEffect, NextOk as RingNextOk, StepOk}
+use Rattle.law_ring.proofs.RingStepOk.{IsEffect, NextOk as RingNextOk, StepOk, operates_on}
 use Rattle.law_ring.proofs.RingEarly.{early}
 use Rattle.law_ring.proofs.RingStart.{at_first, at_touches, at_coming, at_word}
 use Rattle.law_ring.proofs.RingStep.{step_good}
@@ -32,8 +31,8 @@ use Rattle.own_bounded.specs.RingWords.{words_behind}
 use Rattle.own_bounded.specs.declared.ring_words.TheConstants.{STAMPS}
 use Rattle.law_common.proofs.Moments.{seen_map}
 use Rattle.shared_parties.specs.Calling.{touched_list, lies_in, handed_by, HasTouched, MayFront, NextOk, CallLaws}
-use Rattle.shared_tables.specs.TableRule.{found_by, TableStepOk, InTable, TakesOff, OpensIn, TableLaws}
-use Rattle.shared_parties.specs.Operations.{op_word, op_makes, answer_for}
+use Rattle.shared_tables.specs.TableRule.{found_by, TableStepOk, TakesOff, OpensIn, TableLaws}
+use Rattle.law_common.specs.Operations.{op_word, op_makes, answer_for}
 use Rattle.shared_tables.specs.RingTable.{home_when, home_of, Homes, ring_words, word_index, RingCoded, ring_calls, ring_table}
 use Rattle.shared_tables.specs.Laws.RingWaitFree.{ring_wait_free}
 
@@ -43,18 +42,10 @@ place_below cap Word.Lock has = absurd has
 place_below cap (Word.State b i) has = absurd has
 place_below cap w has = omega arith
 
-in_table : (T : Type 0) (cap : ℕ) (o : Op ℕ) → InRing cap o → InTable {T = T} (ring_table cap) o
-in_table T cap (Op.Load w) has = has
-in_table T cap (Op.Store w x) has = has
-in_table T cap (Op.Add w x) has = has
-in_table T cap (Op.Or w x) has = has
-in_table T cap (Op.Exchange w a b) has = has
-in_table T cap _ has = absurd has
-
 -- no operation on a ring takes bits off a word
-takes_none : (cap : ℕ) (o : Op ℕ) (n : ℕ) → InRing cap o → TakesOff o n
-takes_none cap (Op.And w bits) n has = absurd has
-takes_none cap _ n has = tt
+takes_none : {T : Type 0} {cap : ℕ} {r : Ring T} {who : ℕ} {ms : List (State T)} {was : Bool} {c : Stand T} → At cap r who ms was c → (n : ℕ) → TakesOff c.op n
+takes_none (closing none) n = tt
+takes_none _ n = tt
 
 module _ {T : Type 0} where
   -- the table has the words of the ring
@@ -74,33 +65,15 @@ module _ {T : Type 0} where
 
   -- what the operation finds is what the ring's operation answers
   pub answers_found : (n : ℕ) (s : Shared T) (o : Op ℕ) → CanOperate s o → answered s o ≡ answer_for o (get_or (n ∷ ring_words s) (word_index (op_word o)) 0)
-  answers_found n s (Op.Load w) can = ap (λ x. answer_for (Op.Load w) x) (sym (word_found n s w can))
-  answers_found n s (Op.Store w x) can = refl
-  answers_found n s (Op.Add w x) can = ap (λ y. answer_for (Op.Add w x) y) (sym (word_found n s w can.0))
-  answers_found n s (Op.Or w x) can = ap (λ y. answer_for (Op.Or w x) y) (sym (word_found n s w can))
-  answers_found n s (Op.Exchange w a b) can = ap (λ y. answer_for (Op.Exchange w a b) y) (sym (word_found n s w can))
-  answers_found n s o can = absurd can
+  answers_found n s o can = ap (answer_for o) (sym (word_found n s (op_word o) (operates_on s o can)))
 
   -- and the words after it are those of the ring's operation
   pub words_step : (n : ℕ) (s : Shared T) (o : Op ℕ) → CanOperate s o
       → set (n ∷ ring_words s) (word_index (op_word o)) (op_makes o (get_or (n ∷ ring_words s) (word_index (op_word o)) 0)) ≡ n ∷ ring_words (operated s o)
   words_step n s (Op.Load w) can = set-get_or (n ∷ ring_words s) (word_index w) 0
-  words_step n s (Op.Store w x) can = word_put n s w x can
-  words_step n s (Op.Add w x) can =
-      let at = word_found n s w can.0 in
-      let small : (get_or (n ∷ ring_words s) (word_index w) 0 + x) % 2 ^ 64 ≡ word_at s w + x = (let lt = can.1 in omega arith) in
-      ap (set (n ∷ ring_words s) (word_index w)) small ∙ word_put n s w (word_at s w + x) can.0
-  words_step n s (Op.Or w x) can = ap (λ y. set (n ∷ ring_words s) (word_index w) (bit_or y x)) (word_found n s w can) ∙ word_put n s w (bit_or (word_at s w) x) can
-  words_step n s (Op.Exchange w a b) can = ap (λ y. set (n ∷ ring_words s) (word_index w) (either (y == a) b (get_or (n ∷ ring_words s) (word_index w) 0))) (word_found n s w can) ∙ cases (word_at s w == a)
-    where
-      cases : (t : Bool) → set (n ∷ ring_words s) (word_index w) (either t b (get_or (n ∷ ring_words s) (word_index w) 0)) ≡ n ∷ ring_words (if t then put_word s w b else s)
-      cases true = word_put n s w b can
-      cases false = set-get_or (n ∷ ring_words s) (word_index w) 0
-  words_step n s (Op.And w x) can = absurd can
-  words_step n s (Op.LoadLink l) can = absurd can
-  words_step n s (Op.StoreLink l f) can = absurd can
-  words_step n s (Op.Install f) can = absurd can
-  words_step n s Op.Ask can = absurd can
+  words_step n s o can =
+      let has = operates_on s o can in
+      ap (λ x. set (n ∷ ring_words s) (word_index (op_word o)) (op_makes o x)) (word_found n s (op_word o) has) ∙ word_put n s (op_word o) (op_makes o (word_at s (op_word o))) has
 
   home_none : (c : Cell T) → owner c ≡ None → home_of c ≡ some (item_in c)
   home_none c e = ap (λ o. home_when o (item_in c)) e
@@ -317,9 +290,9 @@ module _ {T : Type 0} where
   ring_table_laws cap ring = record {
     calls = ring_call_laws cap;
     below = place_below cap;
-    at_word = λ g j ms was c ok here. in_table T cap c.op (at_word ok here);
+    at_word = λ g j ms was c ok here. at_word ok here;
     steps = λ g who n ws hs ms was c xs ok coded here lent. ring_steps cap g who n ws hs ms was c xs ok coded here lent;
-    takes_off = λ g who n ws hs ms was c ok coded here. takes_none cap c.op (found_by {T = T} (ring_table cap) c.op (n ∷ ws)) (at_word ok here);
+    takes_off = λ g who n ws hs ms was c ok coded here. takes_none here (found_by {T = T} (ring_table cap) c.op (n ∷ ws));
     gives = λ spare none. none;
     opens = ring_opens_in cap ring;
     wait_free = ring_wait_free cap;

@@ -2,7 +2,6 @@
 use Rattle.std.proofs.Common.{◌≡◌, ℕ, ◌==◌, ◌||◌, not, Bool, true, false, List, [], ◌∷◌, get_or, set, Option, Some, if◌then◌else◌, refl, ap, sym, ◌∙◌, subst, inl, arith}
 use mathlib.Core.Option.{some}
 use mathlib.Core.Option as maybe
-use prog.Atomic.{either}
 use Rattle.atomic_table.specs.Table.{Act, keeps, takes, gives, Valid, carried_after, homes_after}
 use Rattle.law_common.specs.Vocabulary.{Call, Reply, Effect, Kind, Op, Touch, Answer, Look, Local, Next, SingleLocal}
 use Rattle.queue_steps.specs.declared.steps.single.SingleLocal.TheVariants.{Closing, Looking}
@@ -12,7 +11,7 @@ use Rattle.queue_steps.specs.Next.{CanNext, next_of}
 use Rattle.queue_steps.specs.WaitFree.{is_wait_free, EndsBefore, EndsWaitFree}
 use Rattle.law_common.specs.Effects.{Leads, with_effect}
 use Rattle.law_common.specs.Stand.{Stand, stand}
-use Rattle.law_slot.specs.SlotShared.{Shared, one_slot, CanOperate, answered, operated, touched, handed}
+use Rattle.law_slot.specs.SlotShared.{Shared, one_slot, answered, operated, touched, handed}
 use Rattle.law_slot.specs.SlotHolder.{SlotHolder, Nobody}
 use Rattle.law_slot.specs.SlotRows.{Codes, filling, swapping, taking, At, push_try, push_put, force_try_empty, force_try_full, force_put_empty, force_put_full, pop_try, pop_take, close_try, look_at, Share, fills, swaps, takes as takes_share, Passes, stays, changes, single, NextOk as SlotNextOk, StepOk}
 use Rattle.law_slot.proofs.SlotEarly.{early}
@@ -23,8 +22,8 @@ use Rattle.law_slot.specs.SlotCells.{Slot, queue_of, own_in, lent_by, Lent, IsHe
 use Rattle.law_slot.proofs.SlotCells.{nobody_if, held_lent, at_stays, lent_stays, at_whole, at_lock, at_touches}
 use Rattle.law_common.proofs.Moments.{seen_map}
 use Rattle.shared_parties.specs.Calling.{touched_list, lies_in, handed_by, MayFront, NextOk, CallLaws}
-use Rattle.shared_tables.specs.TableRule.{InTable, TakesOff, TableStepOk, OpensIn, TableLaws}
-use Rattle.shared_parties.specs.Operations.{op_makes, answer_for}
+use Rattle.shared_tables.specs.TableRule.{TakesOff, TableStepOk, OpensIn, TableLaws}
+use Rattle.law_common.specs.Operations.{op_makes, answer_for}
 use Rattle.shared_tables.specs.SlotTable.{home_under, SlotCoded, slot_calls, slot_table}
 
 -- the wait-free calls take one step
@@ -39,58 +38,11 @@ slot_wait_free Call.IsEmpty h = λ a can. ends_next (Looking Look.IsEmpty) (λ n
 slot_wait_free Call.IsFull h = λ a can. ends_next (Looking Look.IsFull) (λ n. tt) a can
 slot_wait_free c h = cc
 
-in_table : (T : Type 0) (o : Op ℕ) → CanOperate o → InTable {T = T} slot_table o
-in_table T (Op.Load w) can = can
-in_table T (Op.Or w x) can = can
-in_table T (Op.And w x) can = can
-in_table T (Op.Exchange w a b) can = can
-in_table T o can = absurd can
-
 module _ {T : Type 0} where
-  -- a touch leaves the word, and an operation leaves the slot
+  -- a touch leaves the word
   lock_touched : (word : ℕ) (slot : Option T) (t : Touch) (v : Option T) → (touched (one_slot word slot) t v).lock ≡ word
   lock_touched word slot Touch.Nothing v = refl
   lock_touched word slot t v = refl
-
-  slot_operated : (s : Shared T) (o : Op ℕ) → (operated s o).slot ≡ s.slot
-  slot_operated s (Op.Exchange w a b) = cases (s.lock == a)
-    where
-      cases : (t : Bool) → (if◌then◌else◌ {A = Shared T} t (record s { lock = b }) s).slot ≡ s.slot
-      cases true = refl
-      cases false = refl
-  slot_operated s (Op.Load w) = refl
-  slot_operated s (Op.Or w x) = refl
-  slot_operated s (Op.And w x) = refl
-  slot_operated s (Op.Store w x) = refl
-  slot_operated s (Op.Add w x) = refl
-  slot_operated s (Op.LoadLink l) = refl
-  slot_operated s (Op.StoreLink l f) = refl
-  slot_operated s (Op.Install f) = refl
-  slot_operated s Op.Ask = refl
-
-  -- what the operation makes of the word, and answers
-  lock_operated : (s : Shared T) (o : Op ℕ) → CanOperate o → (operated s o).lock ≡ op_makes o s.lock
-  lock_operated s (Op.Exchange w a b) can = cases (s.lock == a)
-    where
-      cases : (t : Bool) → (if◌then◌else◌ {A = Shared T} t (record s { lock = b }) s).lock ≡ either t b s.lock
-      cases true = refl
-      cases false = refl
-  lock_operated s (Op.Load w) can = refl
-  lock_operated s (Op.Or w x) can = refl
-  lock_operated s (Op.And w x) can = refl
-  lock_operated s (Op.Store w x) can = absurd can
-  lock_operated s (Op.Add w x) can = absurd can
-  lock_operated s (Op.LoadLink l) can = absurd can
-  lock_operated s (Op.StoreLink l f) can = absurd can
-  lock_operated s (Op.Install f) can = absurd can
-  lock_operated s Op.Ask can = absurd can
-
-  lock_answered : (s : Shared T) (o : Op ℕ) → CanOperate o → answered s o ≡ answer_for o s.lock
-  lock_answered s (Op.Load w) can = refl
-  lock_answered s (Op.Or w x) can = refl
-  lock_answered s (Op.And w x) can = refl
-  lock_answered s (Op.Exchange w a b) can = refl
-  lock_answered s o can = absurd can
 
   -- What the table does at a step that leads from the lock's holder h and this slot to h' and slot', for a party that had the slots ys and has own' of the lock then
   record Moved (h : SlotHolder T) (slot : Option T) (h' : SlotHolder T) (slot' : Option T) (own' : SlotHolder T) (ys : List (ℕ × Option T)) : Type 0 where
@@ -131,7 +83,7 @@ module _ {T : Type 0} where
     pub handed_is : handed (one_slot word slot) t v ≡ handed_by t v (lent_by own)
 
   left_there : (s : Shared T) (o : Op ℕ) (w : ℕ) (x : Option T) → operated s o ≡ one_slot w x → x ≡ s.slot
-  left_there s o w x is = sym (ap (λ z. z.slot) is) ∙ slot_operated s o
+  left_there s o w x is = sym (ap (λ z. z.slot) is)
 
   module _ {word : ℕ} {slot : Option T} {h : SlotHolder T} {items : List T} {c : Bool} {n : ℕ} {ms : List (State T)} where
     from_free : {l : Local ℕ} {o : Op ℕ} {v : Option T} {k : Call T} {es : List (Effect T)} → (good : StepOk word slot Nobody h items c n (stand l Touch.Nothing o v k es) ms)
@@ -225,10 +177,10 @@ module _ {T : Type 0} where
         lock_is = lock_touched word slot x.touch x.carried
 
         found_is : answered touching x.op ≡ answer_for x.op (get_or (n ∷ ws) 1 0)
-        found_is = lock_answered touching x.op (at_lock here) ∙ (ap (answer_for x.op) lock_is ∙ ap (λ (y : List ℕ). answer_for x.op (get_or (n ∷ y) 1 0)) (sym words))
+        found_is = ap (answer_for x.op) lock_is ∙ ap (λ (y : List ℕ). answer_for x.op (get_or (n ∷ y) 1 0)) (sym words)
 
         made_is : op_makes x.op word ≡ good.word'
-        made_is = ap (op_makes x.op) (sym lock_is) ∙ (sym (lock_operated touching x.op (at_lock here)) ∙ ap (λ z. z.lock) good.leaves)
+        made_is = ap (op_makes x.op) (sym lock_is) ∙ ap (λ z. z.lock) good.leaves
 
         handed_is : handed (one_slot word slot) x.touch x.carried ≡ handed_by x.touch x.carried xs
         handed_is = shifted.handed_is ∙ ap (handed_by x.touch x.carried) (sym lent)
@@ -280,7 +232,7 @@ module _ {T : Type 0} where
   slot_table_laws = record {
     calls = slot_call_laws;
     below = λ w has. omega arith;
-    at_word = λ g j ms was c ok here. in_table T c.op (at_lock here);
+    at_word = λ g j ms was c ok here. at_lock here;
     steps = λ g who n ws hs ms was c xs ok coded here lent. slot_steps g who n ws hs ms was c xs coded here lent;
     takes_off = λ g who n ws hs ms was c ok coded here. slot_takes_off g who n ws hs c coded here;
     gives = λ spare none. none;

@@ -17,7 +17,7 @@ use Rattle.shared_parties.specs.CallStates.{idle}
 use Rattle.shared_tables.specs.AtTable.{TableSeat, IsAt}
 use Rattle.shared_parties.specs.Calling.{cap_of, handed_by, first_of, Opens}
 use Rattle.shared_tables.specs.TableRule.{TableOf, TableLaws, InTable}
-use Rattle.shared_parties.specs.Operations.{answer_for}
+use Rattle.law_common.specs.Operations.{answer_for}
 use Rattle.shared_tables.specs.TableTurns.{After, Follows, call_at, CanDo, NoBlock, NoGift, TableCan, TableDoes, TableStands, TableEnded}
 use Rattle.shared_parties.specs.CallsAt.{begun_at}
 use Rattle.shared_parties.specs.Called.{call_of_work}

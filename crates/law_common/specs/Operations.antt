@@ -3,7 +3,17 @@ use Rattle.std.specs.Prelude.{ℕ, ◌+◌, ◌%◌, ◌^◌, ◌==◌, bit_and,
 use prog.Atomic.{either}
 use Rattle.law_common.specs.Vocabulary.{Word, Op, Answer}
 
--- the word that an operation is on
+-- the operation is one on a word of these
+abbrev pub OnWord : (Word ℕ → Type 0) → Op ℕ → Type 0
+OnWord Has (Op.Load w) = Has w
+OnWord Has (Op.Store w x) = Has w
+OnWord Has (Op.Add w x) = Has w
+OnWord Has (Op.Or w x) = Has w
+OnWord Has (Op.And w x) = Has w
+OnWord Has (Op.Exchange w a b) = Has w
+OnWord Has _ = ⊥
+
+-- the word that it is on
 abbrev pub op_word : Op ℕ → Word ℕ
 op_word (Op.Load w) = w
 op_word (Op.Store w x) = w
@@ -13,7 +23,7 @@ op_word (Op.And w x) = w
 op_word (Op.Exchange w a b) = w
 op_word _ = Word.Lock
 
--- what the operation makes of the word
+-- what it makes of the word
 abbrev pub op_makes : Op ℕ → ℕ → ℕ
 op_makes (Op.Load w) n = n
 op_makes (Op.Store w x) n = x
