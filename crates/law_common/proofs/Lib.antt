@@ -7,3 +7,4 @@ pub mod Pushes
 pub mod Tests
 pub mod Runs
 pub mod TellsAs
+pub mod Alone
