@@ -21,7 +21,7 @@ use Rattle.law_ring.specs.RingCells.{Ring, queue_of, RingOk, HoldsNone}
 use Rattle.law_ring.specs.RingWords.{Codes}
 use Rattle.law_ring.proofs.RingIdle.{NobodyHolds, AtRest, at_rest}
 use Rattle.law_ring.proofs.RingTransitions.{not_single}
-use Rattle.law_ring.proofs.RingRanks.{rank, rank_small, rank_some}
+use Rattle.law_ring.proofs.RingRanks.{rank, rank_some}
 use Rattle.law_ring.proofs.RingSlots.{nobody}
 use Rattle.law_ring.proofs.RingStepOk.{IsQuiet, NextOk}
 use Rattle.law_ring.proofs.RingFronts.{may_front}
@@ -142,7 +142,7 @@ ring_answers {T} r c i =
     let none = nobody_holds r in
     (i.ring, runs r c SOLO_STEPS SOLO_STEPS r g g (bounded_begin r.cap (call_kind c)) (call_value c) [] false []
     (record { same = refl; ok = party_ok r i; codes = party_codes r i; quiet = λ other ne. none other }) (λ other ne. none other) (alone_first (ring_queue r))
-    (at_first r.cap g 0 c (none 0), λ calm. omega (arith, rank_small r.cap g _)) (omega arith) (omega arith))
+    (at_first r.cap g 0 c (none 0), λ calm. omega arith) (omega arith) (omega arith))
 
 pub ring_stays : {T : Type 0} (r : RingState T) (o : Op ℕ) (carried : Option T) → ring_touches r Touch.Nothing o carried r carried
 ring_stays r o carried = refl
