@@ -35,6 +35,10 @@ in_lap cap h i lt =
       | inr more ↦ (h - h % cap + i, first-slot h cap i lt, omega arith, omega arith)
     ]
 
+-- a tail is that of its position and its mark
+both_of : (t : ℕ) → t ≡ tail_of (position_of t) (is_shut t)
+both_of t = elim (eqb_tells (t % 2) 1) [ inl e ↦ (let odd = e.1 in rw e.0 (omega arith)) | inr e ↦ (let even = e.1 in rw e.0 (omega arith)) ]
+
 module _ {T : Type 0} where
   -- the list is as long as there are positions, where each of them is filled
   pub length-items_of : (n p k : ℕ) (slots : List (RingSlot T)) → ((q : ℕ) → p ≤ q → q < p + k → (v : T) × (at_position n slots q ≡ filled_slot q v)) → length (items_of n slots p k) ≡ k
@@ -84,9 +88,6 @@ module _ {T : Type 0} where
   item_stays : (n : ℕ) (o : Option T) → o ≡ item_in (cell_by n o)
   item_stays n None = refl
   item_stays n (Some x) = refl
-
-  both_of : (t : ℕ) → t ≡ tail_of (position_of t) (is_shut t)
-  both_of t = elim (eqb_tells (t % 2) 1) [ inl e ↦ (let odd = e.1 in rw e.0 (omega arith)) | inr e ↦ (let even = e.1 in rw e.0 (omega arith)) ]
 
   module _ (r : RingState T) (i : IsIdle r) where
     pub length-items : length (ring_queue r).items ≡ position_of r.tail - r.head
