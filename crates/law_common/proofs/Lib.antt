@@ -8,3 +8,4 @@ pub mod Tests
 pub mod Runs
 pub mod TellsAs
 pub mod Operations
+pub mod Alone

@@ -19,7 +19,7 @@ shut_tail q false = ne_eqb ((q * 2) % 2) 1 (λ e. absurd (let z : (q * 2) % 2 �
 pub open_tail : (t : ℕ) → is_shut t ≡ false → t ≡ tail_of (position_of t) false
 open_tail t e = elim (eqb_tells (t % 2) 1) [ inl h ↦ (let f : true ≡ false = sym h.0 ∙ e in cc) | inr h ↦ let ne = h.1 in omega arith ]
 
-or_one : (n : ℕ) → bit_or n 1 + n % 2 ≡ n + 1
+pub or_one : (n : ℕ) → bit_or n 1 + n % 2 ≡ n + 1
 or_one n = let a = or_add_and n 1 in let b : bit_and n 1 ≡ n % 2 = and_mask n 1 in omega arith
 
 -- the mark closes the tail

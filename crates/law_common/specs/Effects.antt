@@ -14,6 +14,16 @@ abbrev pub with_effect : {A : Type 0} → List (Effect A) → Option (Effect A) 
 with_effect es None = es
 with_effect es (Some e) = es ++ e ∷ []
 
+-- a front is made only by a call that saw the queue open
+abbrev pub MayFront : {A : Type 0} → Option (Effect A) → Bool → Type 0
+MayFront (Some (Effect.Front old v)) was = was ≡ true
+MayFront _ was = Unit {0}
+
+-- a front that left first left an open queue
+abbrev pub FrontOpen : {A : Type 0} → State A → List (Effect A) → Type 0
+FrontOpen Q (Effect.Front old v ∷ es) = Q.closed ≡ false
+FrontOpen Q _ = Unit {0}
+
 -- one of two facts, by a test
 abbrev pub Whether : Bool → Type 0 → Type 0 → Type 0
 Whether true P Q = P

@@ -9,13 +9,11 @@ use Rattle.law_moments.specs.Moments.{RunsAtOnce, IsAtOnce, OneMoment, others, s
 use Rattle.law_moments.specs.Orders.{Whole, calls_of, replies_of, effects_of, IsOrder, RunsAsOne, OrdersAreRuns, one_by_one, SettledIsRun}
 use Rattle.law_moments.proofs.Answering.{displaces_at_once}
 use Rattle.law_moments.proofs.Owning.{IsFew, is_few}
-use Rattle.law_moments.proofs.Table.{Agrees, Done, FrontOpen, finish}
+use Rattle.law_common.specs.Effects.{FrontOpen}
+use Rattle.law_common.proofs.Runs.{after_rest}
+use Rattle.law_moments.proofs.Table.{Agrees, Done, finish}
 
 module _ {T : Type 0} where
-  after_both : (Q : State T) (s d : List (Effect T)) → after_from Q (s ++ d) ≡ after_from (after_from Q s) d
-  after_both Q [] d = refl
-  after_both Q (e ∷ s) d = after_both (made e Q) s d
-
   -- the effects of the first call run alone, and leave a history of moments
   record FirstRuns (Q : State T) (es more : List (Effect T)) : Type 0 where
     runs : Runs Q es
@@ -54,7 +52,7 @@ module _ {T : Type 0} where
       let f = first_runs Q x.effects (effects_of xs) (is_few x.call x.reply x.effects is.0) r in
       let done : Done S R x.call x.reply = finish S Q R x.call x.reply x.effects agrees is.0 f.runs refl is.1 f.first in
       let more = runs_on done.0 R xs done.2 f.next is.2 in
-      record { last = more.last; run = (done.0, (done.1, more.run)); shown = subst (IsShown more.last.queue) (sym (after_both Q x.effects (effects_of xs))) more.shown }
+      record { last = more.last; run = (done.0, (done.1, more.run)); shown = subst (IsShown more.last.queue) (sym (after_rest Q x.effects (effects_of xs))) more.shown }
 
   opens : (cap : Option ℕ) → Agrees (fresh {T = T} cap) (start cap 0)
   opens cap = record { shown = record { items = refl; cap = refl; closed = refl; coming = refl; accepted = inr refl }; idle = refl; blocks = λ e. refl }

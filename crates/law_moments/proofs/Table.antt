@@ -6,6 +6,7 @@ use Rattle.queue_steps.specs.Legal.{IsShown}
 use Rattle.queue_steps.specs.Replies.{MayAsk, LacksMemory, Allows, Tells}
 use Rattle.queue_steps.specs.Sequential.{Owned, Sequential, moved, sequential_reply, sequential_state, counted, is_spent}
 use Rattle.law_common.specs.Vocabulary.{Call, Reply, Effect, PushError, ForcePushError}
+use Rattle.law_common.specs.Effects.{FrontOpen}
 use Rattle.queue_steps.proofs.Keeping.{coming-sequential}
 use Rattle.queue_steps.proofs.Rows.{Same, with_count, Does, does_row}
 
@@ -63,11 +64,6 @@ refused : {T : Type 0} (S : Owned T) (Q : State T) (c : Call T) (r : Reply T) �
 refused S Q (Call.Push v) (Reply.Push (Err (PushError.NoMemory w))) h l = (l.0, may_ask S Q h l.1)
 refused S Q (Call.ForcePush v) (Reply.ForcePush (Err (ForcePushError.NoMemory w))) h l = (l.0, may_ask S Q h l.1)
 refused S Q _ _ h l = absurd l
-
--- a front that left first left an open queue
-abbrev pub FrontOpen : {T : Type 0} → State T → List (Effect T) → Type 0
-FrontOpen Q (Effect.Front old v ∷ es) = Q.closed ≡ false
-FrontOpen Q _ = Unit {0}
 
 -- a call from a state that agrees, whose effects lead to the state Q'
 pub finish : {T : Type 0} (S : Owned T) (Q Q' : State T) (c : Call T) (r : Reply T) (es : List (Effect T)) → Agrees S Q → Tells c r es → Runs Q es → after_from Q es ≡ Q' → (es ≡ [] → Allows c r Q) → FrontOpen Q es → Done S Q' c r

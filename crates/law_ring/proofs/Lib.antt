@@ -9,6 +9,7 @@ pub mod RingIdle
 pub mod RingHands
 pub mod RingRanks
 pub mod RingStepOk
+pub mod RingFronts
 pub mod RingPush
 pub mod RingClaim
 pub mod RingForce

@@ -1,14 +1,13 @@
 -- Positions a lap apart or less, and what claiming and letting go of a slot leaves of what a party holds.
 use Rattle.std.proofs.Common.{ℕ, ◌+◌, ◌*◌, ◌/◌, ◌%◌, ◌<◌, ◌≤◌, ◌≡◌, ◌≢◌, ◌∙◌, ◌⊎◌, inl, inr, Some, None, refl, sym, ap, arith}
 use Rattle.std.proofs.Math.Nat.{add-mul-mod_self_left, div-add-mod, mul-le-mul_left}
-use Rattle.queue_steps.specs.Words.{slot_at}
 use Rattle.law_common.specs.Puts.{put}
 use Rattle.law_common.proofs.Puts.{put_ok, put_other, put_same}
 use Rattle.law_ring.specs.RingCells.{Cell, owner, HoldsNone, HoldsOne}
 
 -- two positions less than a lap apart have slots of their own
-pub slots-apart : (n p t : ℕ) → 0 < n → p < t → t < p + n → slot_at n t ≢ slot_at n p
-slots-apart n p t some before within same =
+pub apart : (n p t : ℕ) → 0 < n → p < t → t < p + n → p % n ≢ t % n
+apart n p t some before within same =
     go (p / n) (t / n) (div-add-mod p n) (div-add-mod t n)
   where
     cases : (i j : ℕ) → (j ≤ i) ⊎ (i + 1 ≤ j)
@@ -23,10 +22,6 @@ slots-apart n p t some before within same =
 
 pub wraps : (p cap : ℕ) → (p + cap) % cap ≡ p % cap
 wraps p cap = let e : p + cap ≡ p + cap * 1 = omega arith in rw e (add-mul-mod_self_left p cap 1)
-
--- two positions less than a lap apart have slots of their own
-pub apart : (n p t : ℕ) → 0 < n → p < t → t < p + n → p % n ≢ t % n
-apart n p t some before within same = slots-apart n p t some before within (sym same)
 
 -- positions of one slot that are less than a lap apart are one
 pub together : (n p t : ℕ) → 0 < n → p % n ≡ t % n → p ≤ t → t < p + n → p ≡ t

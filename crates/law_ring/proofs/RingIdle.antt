@@ -17,7 +17,7 @@ pub nothing_comes : {A : Type 0} (cap : ℕ) (r : Ring A) → RingOk cap r → N
 nothing_comes cap r ok none = none_if r.coming (λ v e. let c = ok.comes v e in none c.1 (c.0 % cap) (ap owner c.4))
 
 -- positions of one slot within a lap from h on are one
-same_position : (cap h p q : ℕ) → 0 < cap → p % cap ≡ q % cap → h ≤ p → p < h + cap → h ≤ q → q < h + cap → p ≡ q
+pub same_position : (cap h p q : ℕ) → 0 < cap → p % cap ≡ q % cap → h ≤ p → p < h + cap → h ≤ q → q < h + cap → p ≡ q
 same_position cap h p q some same low high low' high' = go (cases p q)
   where
     cases : (p q : ℕ) → (p ≤ q) ⊎ (q ≤ p)

@@ -13,6 +13,7 @@ use Rattle.law_ring.specs.RingTransitions.{written}
 use Rattle.law_ring.specs.RingAt.{FreeAt, FullAt}
 use Rattle.law_ring.specs.RingWords.{Codes, stamp_in, item_in}
 use Rattle.law_ring.proofs.RingWords.{IsFreeCell, is_free, is_written, IsFullCell, is_full, is_swapped, stamp_is_free, stamp_is_full}
+use Rattle.law_ring.proofs.RingIdle.{NobodyHolds, is_filled, is_vacant}
 use Rattle.law_ring.proofs.RingStepOk.{IsQuiet}
 
 -- a slot with the stamp q, of a position that the tail has reached, is free for it, or the tail has moved on
@@ -64,56 +65,31 @@ pub nobody : {A : Type 0} (r : Ring A) (who : ℕ) → HoldsNone r.cells who →
 nobody r who none quiet other = elim (eqb_tells other who) [ inl t ↦ rw t.1 none | inr f ↦ quiet other f.1 ]
 
 -- where nobody holds a slot, that of the tail is free for it, or the ring is full
-pub tail_slot : {A : Type 0} (cap : ℕ) (r : Ring A) → RingOk cap r → ((other : ℕ) → HoldsNone r.cells other)
+pub tail_slot : {A : Type 0} (cap : ℕ) (r : Ring A) → RingOk cap r → NobodyHolds r
     → (r.cells (r.tail % cap) ≡ Free r.tail) ⊎ ((r.head + cap ≡ r.tail) × ((x : A) × (r.cells (r.tail % cap) ≡ Full r.head x)))
-tail_slot {A} cap r ok none = go (r.cells (r.tail % cap)) refl (ok.cell (r.tail % cap) (in_ring cap r.tail ok.ring))
+tail_slot {A} cap r ok none = go (cases r.tail (r.head + cap) ok.room)
   where
-    go : (c : Cell A) → r.cells (r.tail % cap) ≡ c → CellOk cap r.head r.tail r.items r.coming (r.tail % cap) c
-        → (r.cells (r.tail % cap) ≡ Free r.tail) ⊎ ((r.head + cap ≡ r.tail) × ((x : A) × (r.cells (r.tail % cap) ≡ Full r.head x)))
-    go (Free p) is h =
+    cases : (t n : ℕ) → t ≤ n → (t < n) ⊎ (n ≡ t)
+    cases t n le = grind arith
+
+    go : (r.tail < r.head + cap) ⊎ (r.head + cap ≡ r.tail) → (r.cells (r.tail % cap) ≡ Free r.tail) ⊎ ((r.head + cap ≡ r.tail) × ((x : A) × (r.cells (r.tail % cap) ≡ Full r.head x)))
+    go (inl room) = inl (is_vacant cap r ok none r.tail (omega arith) room)
+    go (inr full) =
         let wide : 1 < cap = ok.ring.0 in
-        let count = ok.count in
-        let high = h.2 in
-        let same : r.tail ≡ p = together cap r.tail p (omega arith) (sym h.0) h.1 (omega arith) in
-        inl (is ∙ ap (λ n. Free n) (sym same))
-    go (Full p x) is h =
-        let wide : 1 < cap = ok.ring.0 in
-        let room = ok.room in
-        let low = h.1 in
-        let high = h.2 in
-        let same : r.tail ≡ p + cap = together cap r.tail (p + cap) (omega arith) (sym (wraps p cap ∙ h.0)) (omega arith) (omega arith) in
-        let head : p ≡ r.head = omega arith in
-        inr (omega arith, (x, is ∙ ap (λ n. Full n x) head))
-    go (Written p who v) is h = absurd (none who (r.tail % cap) (ap owner is))
-    go (Read p who v) is h = absurd (none who (r.tail % cap) (ap owner is))
-    go (Coming p who old v) is h = absurd (none who (r.tail % cap) (ap owner is))
-    go (Swapped p who old v) is h = absurd (none who (r.tail % cap) (ap owner is))
+        let f = is_filled cap r ok none r.head (omega arith) (omega arith) in
+        inr (full, (f.0, ap (λ n. r.cells (n % cap)) (sym full) ∙ (ap r.cells (wraps r.head cap) ∙ f.1)))
 
 -- where nobody holds a slot, that of the head is full for it, or the ring is empty
-pub head_slot : {A : Type 0} (cap : ℕ) (r : Ring A) → RingOk cap r → ((other : ℕ) → HoldsNone r.cells other)
+pub head_slot : {A : Type 0} (cap : ℕ) (r : Ring A) → RingOk cap r → NobodyHolds r
     → (r.tail ≡ r.head) × (r.cells (r.head % cap) ≡ Free r.head) ⊎ ((x : A) × (r.cells (r.head % cap) ≡ Full r.head x))
-head_slot {A} cap r ok none = go (r.cells (r.head % cap)) refl (ok.cell (r.head % cap) (in_ring cap r.head ok.ring))
+head_slot {A} cap r ok none = go (cases r.head r.tail (let count = ok.count in omega arith))
   where
-    go : (c : Cell A) → r.cells (r.head % cap) ≡ c → CellOk cap r.head r.tail r.items r.coming (r.head % cap) c
-        → (r.tail ≡ r.head) × (r.cells (r.head % cap) ≡ Free r.head) ⊎ ((x : A) × (r.cells (r.head % cap) ≡ Full r.head x))
-    go (Free p) is h =
-        let wide : 1 < cap = ok.ring.0 in
-        let count = ok.count in
-        let low = h.1 in
-        let high = h.2 in
-        let same : r.head ≡ p = together cap r.head p (omega arith) (sym h.0) (omega arith) (omega arith) in
-        inl (omega arith, is ∙ ap (λ n. Free n) (sym same))
-    go (Full p x) is h =
-        let wide : 1 < cap = ok.ring.0 in
-        let room = ok.room in
-        let low = h.1 in
-        let high = h.2 in
-        let same : r.head ≡ p = together cap r.head p (omega arith) (sym h.0) low (omega arith) in
-        inr (x, is ∙ ap (λ n. Full n x) (sym same))
-    go (Written p who v) is h = absurd (none who (r.head % cap) (ap owner is))
-    go (Read p who v) is h = absurd (none who (r.head % cap) (ap owner is))
-    go (Coming p who old v) is h = absurd (none who (r.head % cap) (ap owner is))
-    go (Swapped p who old v) is h = absurd (none who (r.head % cap) (ap owner is))
+    cases : (h t : ℕ) → h ≤ t → (h < t) ⊎ (t ≡ h)
+    cases h t le = grind arith
+
+    go : (r.head < r.tail) ⊎ (r.tail ≡ r.head) → (r.tail ≡ r.head) × (r.cells (r.head % cap) ≡ Free r.head) ⊎ ((x : A) × (r.cells (r.head % cap) ≡ Full r.head x))
+    go (inl some) = let f = is_filled cap r ok none r.head (omega arith) some in inr (f.0, f.1)
+    go (inr empty) = let wide : 1 < cap = ok.ring.0 in inl (empty, is_vacant cap r ok none r.head (omega arith) (omega arith))
 
 -- a step on the head or the tail that claims a slot, or passes it on, leaves its stamp and what lies in it
 pub codes_claim : {A : Type 0} (cap : ℕ) (r r' : Ring A) (s : Shared A) (head tail i : ℕ) (old new : Cell A)

@@ -4,7 +4,7 @@ use Rattle.std.proofs.lemmas.List.{length-set}
 use Rattle.std.proofs.lemmas.Bool.Decides.{eqb_tells}
 use Rattle.machine_replay.specs.Vocabulary.{Touch, Running}
 use Rattle.queue_steps.specs.Words.{slot_at}
-use Rattle.law_ring.proofs.RingCells.{slots-apart}
+use Rattle.law_ring.proofs.RingCells.{apart}
 use Rattle.machine_steps.specs.Left.{written, written_by, all_written, gathered}
 
 -- whether a touch writes slot i
@@ -83,6 +83,6 @@ gathered-items n p (x ∷ xs) slots some few all =
     let here : get_or slots (slot_at n p) None ≡ Some x = ap (λ q. get_or slots (slot_at n q) None) (omega arith) ∙ all 0 (omega arith) in
     let rest = gathered-items n (p + 1) xs (set slots (slot_at n p) None) some (omega arith) (λ j lt.
     let q : (p + 1) + j ≡ p + suc j = omega arith in
-    get_or-set_other slots (slot_at n p) (slot_at n ((p + 1) + j)) None None (slots-apart n p ((p + 1) + j) some (omega arith) (omega arith))
+    get_or-set_other slots (slot_at n p) (slot_at n ((p + 1) + j)) None None (λ e. apart n p ((p + 1) + j) some (omega arith) (omega arith) (sym e))
     ∙ ap (λ k. get_or slots (slot_at n k) None) q ∙ all (suc j) (omega arith)) in
     rw (here, rest) refl

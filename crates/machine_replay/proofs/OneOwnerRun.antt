@@ -10,6 +10,7 @@ use Rattle.machine_replay.specs.Vocabulary.{Call, Reply, Event, Told, Replay, Be
 use Rattle.machine_replay.specs.Book.{Book, Open, Run, begun, after_own, opening}
 use Rattle.machine_replay.specs.Conforms.{Conforms, entries_from, reply_entry}
 use Rattle.machine_replay.specs.OneOwner.{begun_calls, reply_in, IsSequentialRun}
+use Rattle.law_common.proofs.Alone.{alone_first}
 use Rattle.law_moments.proofs.Table.{Agrees}
 use Rattle.machine_replay.proofs.OneOwner.{Ready, Midway, midway-more, midway-ends, at_once}
 use Rattle.machine_replay.proofs.Peaking.{Run-length}
@@ -45,7 +46,7 @@ sequential_from cap b [] [] c (Some o) S run is ready =
     record { calls = []; unended = Some o.call; begun_are = refl; last = S; run = refl; shown = λ e. cc }
 sequential_from cap b (Begin p k ∷ es) (Ran None None ∷ ts) c None S run is ready =
     let f = first_party p (is_none (b.open_call p)) run.1.0 in
-    let here : Midway S b.queue (begun k) = record { from = b.queue; agrees = ready; runs = tt; leads = refl; only = λ e. tt; seen = λ e x. cc; first = tt } in
+    let here : Midway S b.queue (begun k) = record { from = b.queue; agrees = ready; alone = alone_first b.queue } in
     let rest = sequential_from cap run.0 es ts c (Some (begun k)) S run.2
     (ap (λ x. x.open_call 0) run.1.2 ∙ rw f.0 refl)
     (subst (λ x. Ready S x (Some (begun k))) (sym (ap (λ x. x.queue) run.1.2)) here) in

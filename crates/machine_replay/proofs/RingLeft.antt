@@ -16,7 +16,8 @@ use Rattle.machine_replay.proofs.KindLaws.{SimulatesOf}
 use Rattle.machine_replay.proofs.AllWritten.{writes, writes_slot, all_written-none, all_written-one, nth, gathered-items}
 use Rattle.law_common.specs.Stand.{Stand}
 use Rattle.law_ring.specs.RingCells.{Cell, Free, Written, Full, Read, Coming, Swapped, Ring, CellOk, RingOk, owner}
-use Rattle.law_ring.proofs.RingCells.{wraps, apart, together}
+use Rattle.law_ring.proofs.RingCells.{wraps, apart}
+use Rattle.law_ring.proofs.RingIdle.{same_position}
 use Rattle.law_ring.proofs.RingTransitions.{in_ring}
 use Rattle.law_ring.specs.RingWords.{item_in}
 use Rattle.law_ring.specs.RingAt.{At, filling, arriving, swapping, emptying}
@@ -37,14 +38,7 @@ content_is : {A : Type 0} (cap : ℕ) (r : Ring A) (p : ℕ) → RingOk cap r �
 content_is {A} cap r p ok low high = go (r.cells (p % cap)) (ok.cell (p % cap) (in_ring cap p ok.ring))
   where
     near : (q : ℕ) → q % cap ≡ p % cap → r.head ≤ q → q < r.tail → q ≡ p
-    near q same l h = order (cases q p)
-      where
-        cases : (q p : ℕ) → (q ≤ p) ⊎ (p ≤ q)
-        cases q p = grind arith
-
-        order : (q ≤ p) ⊎ (p ≤ q) → q ≡ p
-        order (inl le) = let wide : 1 < cap = ok.ring.0 in let room = ok.room in together cap q p (omega arith) same le (omega arith)
-        order (inr le) = let wide : 1 < cap = ok.ring.0 in let room = ok.room in sym (together cap p q (omega arith) (sym same) le (omega arith))
+    near q same l h = let wide : 1 < cap = ok.ring.0 in let room = ok.room in same_position cap r.head q p (omega arith) same l (omega arith) low (omega arith)
 
     go : (c : Cell A) → CellOk cap r.head r.tail r.items r.coming (p % cap) c → content c ≡ slice_get r.items (p - r.head)
     go (Free q) h = let wide : 1 < cap = ok.ring.0 in let a = h.1 in let b = h.2 in absurd (apart cap p q (omega arith) (omega arith) (omega arith) (sym h.0))

@@ -11,24 +11,11 @@ use Rattle.queue_steps.specs.declared.sizes.TheConstants.{LIMIT}
 use Rattle.queue_steps.specs.State.{start}
 use Rattle.queue_steps.specs.Words.{IsRing, position_of, is_shut, slot_at}
 use Rattle.own_bounded.specs.RingOwned.{HoldsItems, items_of, IsIdle, ring_owned}
-use Rattle.own_bounded.specs.Laws.RingKeeps.{apart}
+use Rattle.law_ring.proofs.RingIdle.{same_position}
 use Rattle.own_bounded.specs.RingMemory.{paired, ring_in}
 use Rattle.own_bounded.specs.RingWords.{words_behind}
 use Rattle.own_bounded.specs.RingOpening.{Opened, IsOpening, IsUntouched}
 use Rattle.own_bounded.proofs.RingWrites.{elem_or, length_paired, pair_at}
-
--- a slot of the lap that n stands in
-pub first-slot : (n cap i : ℕ) → i < cap → slot_at cap (n - n % cap + i) ≡ i
-first-slot n cap i below =
-    let whole = div-add-mod n cap in
-    let lap : n - n % cap ≡ (n / cap) * cap = omega arith in
-    rw lap (mod-mul-add (n / cap) cap i below)
-
--- and of the next
-pub next-slot : (n cap i : ℕ) → i < cap → slot_at cap (n - n % cap + cap + i) ≡ i
-next-slot n cap i below =
-    let turned : n - n % cap + cap + i ≡ (n - n % cap + i) + cap = omega arith in
-    rw turned (add-mod_right (n - n % cap + i) cap ∙ first-slot n cap i below)
 
 pub Opened-none : (n cap : ℕ) → Opened n cap 0 []
 Opened-none n cap = record { long = refl; free = λ k h. absurd (omega arith) }
@@ -66,17 +53,9 @@ module _ {T : Type 0} where
         free = λ p low high.
             let below : p % cap < cap = mod-lt p wide in
             let s = o.free (p % cap) below in
-            let stamp : get_or stamps (p % cap) 0 ≡ p = s.1 ∙ same s.0 p low high s.2 s.3 s.4 (order s.0 p) in
+            let stamp : get_or stamps (p % cap) 0 ≡ p = s.1 ∙ same_position cap n s.0 p wide s.4 s.2 s.3 low high in
             pair_at stamps xs (p % cap) (o.long ∙ sym long) ∙ (λ i. record { stamp = stamp i; item = empty (p % cap) below i });
       }
-    where
-      order : (q p : ℕ) → (q ≡ p) ⊎ (q < p) ⊎ (p < q)
-      order q p = grind arith
-
-      same : (q p : ℕ) → n ≤ p → p < n + cap → n ≤ q → q < n + cap → q % cap ≡ p % cap → (q ≡ p) ⊎ (q < p) ⊎ (p < q) → q ≡ p
-      same q p pl ph ql qh e (inl is) = is
-      same q p pl ph ql qh e (inr (inl less)) = absurd (apart cap q p wide less (omega arith) e)
-      same q p pl ph ql qh e (inr (inr more)) = absurd (apart cap p q wide more (omega arith) (sym e))
 
   -- with empty slots they are an empty open ring
   opens : (cap n : ℕ) (stamps : List ℕ) (xs : List (Option T)) → IsRing cap → n ≤ LIMIT → length xs ≡ cap → ((k : ℕ) → k < cap → get_or xs k None ≡ None) → Opened n cap cap stamps

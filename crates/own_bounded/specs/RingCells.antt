@@ -34,14 +34,14 @@ slot_in slots i = get_or slots i (record { stamp = 0; item = None })
 abbrev pub exchanged : {T : Type 0} → RingState T → ℕ → Option T → RingState T × Option T
 exchanged r i carried = (record r { slots = slice_set r.slots i (record { stamp = (slot_in r.slots i).stamp; item = carried }) }, (slot_in r.slots i).item)
 
-abbrev pub ring_touched : {T : Type 0} → RingState T → Touch → Op Unit → Option T → RingState T × Option T
+abbrev pub ring_touched : {T : Type 0} → RingState T → Touch → Op ℕ → Option T → RingState T × Option T
 ring_touched r touch.Nothing o carried = (r, carried)
 ring_touched r (touch.Put i) o carried = exchanged r i carried
 ring_touched r (touch.Swap i) o carried = exchanged r i carried
 ring_touched r (touch.Take i) o carried = exchanged r i carried
 
 -- the last line stands for what `ring_operable` excludes
-abbrev pub ring_performed : {T : Type 0} → RingState T → Op Unit → Answer Unit × RingState T
+abbrev pub ring_performed : {T : Type 0} → RingState T → Op ℕ → Answer ℕ × RingState T
 ring_performed r (op.Load word.Tail) = (answer.Found r.tail, r)
 ring_performed r (op.Load word.Head) = (answer.Found r.head, r)
 ring_performed r (op.Load (word.Stamp i)) = (answer.Found (slot_in r.slots i).stamp, r)
@@ -52,14 +52,14 @@ ring_performed r (op.Add word.Tail more) = (answer.Found r.tail, record r { tail
 ring_performed r (op.Store (word.Stamp i) stamp) = (answer.Done, record r { slots = slice_set r.slots i (record { stamp = stamp; item = (slot_in r.slots i).item }) })
 ring_performed r _ = (answer.Done, r)
 
-abbrev pub ring_touchable : {T : Type 0} → RingState T → Touch → Op Unit → Bool
+abbrev pub ring_touchable : {T : Type 0} → RingState T → Touch → Op ℕ → Bool
 ring_touchable r touch.Nothing o = true
 ring_touchable r (touch.Put i) o = nat_lt i (length r.slots)
 ring_touchable r (touch.Swap i) o = nat_lt i (length r.slots)
 ring_touchable r (touch.Take i) o = nat_lt i (length r.slots)
 
 -- a ring's words are its two positions and the stamps of its slots, each with operations of its own
-abbrev pub ring_operable : {T : Type 0} → RingState T → Op Unit → Bool
+abbrev pub ring_operable : {T : Type 0} → RingState T → Op ℕ → Bool
 ring_operable r (op.Load word.Tail) = true
 ring_operable r (op.Load word.Head) = true
 ring_operable r (op.Load (word.Stamp i)) = nat_lt i (length r.slots)
@@ -70,21 +70,21 @@ ring_operable r (op.Add word.Tail more) = nat_lt (r.tail + more) (2 ^ 64)
 ring_operable r (op.Store (word.Stamp i) stamp) = nat_lt i (length r.slots)
 ring_operable r _ = false
 
-abbrev pub ring_can_touch : {T : Type 0} → RingState T → Touch → Op Unit → Type 0
+abbrev pub ring_can_touch : {T : Type 0} → RingState T → Touch → Op ℕ → Type 0
 ring_can_touch r t o = CanTouch ring_touchable ring_touched ring_operable ring_performed r t o
 
-abbrev pub ring_can_perform : {T : Type 0} → RingState T → Op Unit → Type 0
+abbrev pub ring_can_perform : {T : Type 0} → RingState T → Op ℕ → Type 0
 ring_can_perform {T} r o = CanPerform ring_touchable (ring_touched {T = T}) ring_operable ring_performed r o
 
-abbrev pub ring_touches : {T : Type 0} → RingState T → Touch → Op Unit → Option T → RingState T → Option T → Type 0
+abbrev pub ring_touches : {T : Type 0} → RingState T → Touch → Op ℕ → Option T → RingState T → Option T → Type 0
 ring_touches r t o carried after left = Touches ring_touchable ring_touched ring_operable ring_performed r t o carried after left
 
-abbrev pub ring_performs : {T : Type 0} → RingState T → Op Unit → Answer Unit → RingState T → Type 0
+abbrev pub ring_performs : {T : Type 0} → RingState T → Op ℕ → Answer ℕ → RingState T → Type 0
 ring_performs {T} r o a after = Performs ring_touchable (ring_touched {T = T}) ring_operable ring_performed r o a after
 
 -- a ring has no blocks, so nothing is given up
-abbrev pub ring_can_release : {T : Type 0} → RingState T → Unit {0} → Type 0
+abbrev pub ring_can_release : {T : Type 0} → RingState T → ℕ → Type 0
 ring_can_release r b = Unit {0}
 
-abbrev pub ring_releases : {T : Type 0} → RingState T → Unit {0} → RingState T → Type 0
+abbrev pub ring_releases : {T : Type 0} → RingState T → ℕ → RingState T → Type 0
 ring_releases r b after = after ≡ r

@@ -216,7 +216,7 @@ impl<T, A: Allocator> Ring<T, A> {
 
     /// What a word holds.
     #[inline(always)]
-    fn load(&self, word: Word<()>) -> u64
+    fn load(&self, word: Word<usize>) -> u64
         requires { ring_operable self.now (Load word) ≡ true }
         ensures { ring_performed self.now (Load word) ≡ (Found result, self.now) }
     {
@@ -229,7 +229,7 @@ impl<T, A: Allocator> Ring<T, A> {
     }
 }
 
-impl<T, A: Allocator> OwnCells<T, ()> for Ring<T, A> {
+impl<T, A: Allocator> OwnCells<T, usize> for Ring<T, A> {
     type Steps = RingSteps;
 
     ghost use Rattle.own_bounded.specs.RingCells.{RingState, kind_of_ring, ring_can_touch, ring_touches, ring_can_perform, ring_performs, ring_can_release, ring_releases};
@@ -268,7 +268,7 @@ impl<T, A: Allocator> OwnCells<T, ()> for Ring<T, A> {
     }
 
     #[inline(always)]
-    fn touch(&mut self, touch: Touch, _op: &Op<()>, carried: &mut Option<T>) {
+    fn touch(&mut self, touch: Touch, _op: &Op<usize>, carried: &mut Option<T>) {
         match touch {
             Touch::Nothing => {}
             Touch::Put(i) | Touch::Swap(i) | Touch::Take(i) => {
@@ -281,7 +281,7 @@ impl<T, A: Allocator> OwnCells<T, ()> for Ring<T, A> {
     }
 
     #[inline(always)]
-    fn perform(&mut self, op: Op<()>) -> Answer<()>
+    fn perform(&mut self, op: Op<usize>) -> Answer<usize>
         requires { ring_can_perform self.old op }
         ensures { ring_performs self.old op result self.new }
     {
@@ -316,10 +316,10 @@ impl<T, A: Allocator> OwnCells<T, ()> for Ring<T, A> {
     }
 
     #[inline(always)]
-    fn release(&mut self, _block: ()) {}
+    fn release(&mut self, _block: usize) {}
 
     #[inline(always)]
-    fn look(&self, op: &Op<()>) -> Answer<()>
+    fn look(&self, op: &Op<usize>) -> Answer<usize>
         requires load { IsLoad op.now }
         requires can { ring_can_perform self.now op.now }
         ensures { ring_performs self.now op.now result self.now }

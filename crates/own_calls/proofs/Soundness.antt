@@ -3,7 +3,7 @@ use Rattle.std.proofs.Common.{◌-◌, ◌≤◌, length, Option, Some, None, re
 use Rattle.queue_steps.specs.Words.{position_of}
 use Rattle.queue_steps.specs.Legal.{IsSoundOwned}
 use Rattle.own_bounded.specs.SingleCells.{items_in, single_owned, IsIdle as IsSlotIdle}
-use Rattle.own_bounded.specs.Laws.RingKeeps.{length-items_of}
+use Rattle.own_bounded.specs.Laws.RingParty.{length-items_of}
 use Rattle.own_bounded.specs.RingCells.{RingState}
 use Rattle.own_bounded.specs.RingOwned.{IsIdle, ring_owned}
 use Rattle.own_unbounded.specs.Laws.OwnChainSequential.{holds-blocks}

@@ -78,12 +78,12 @@ impl<T, A: Allocator> Sealed<T> for Ring<T, A> {
         ensures idle { IsIdle self.new }
         ensures sequential { SequentialApart (ring_owned self.old) call carried.old result carried.new (ring_owned self.new) }
     {
-        drive::<T, (), Ring<T, A>, W>(self, call, carried)
+        drive::<T, usize, Ring<T, A>, W>(self, call, carried)
     }
 
     #[inline(always)]
     fn look(&self, call: CallKind) -> ReplyKind {
-        observe::<T, (), Ring<T, A>>(self, call)
+        observe::<T, usize, Ring<T, A>>(self, call)
     }
 
     fn show_sound(&self) {}

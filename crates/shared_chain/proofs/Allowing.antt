@@ -8,7 +8,7 @@ use Rattle.law_common.specs.Vocabulary.{Call, Effect, Kind, Answer, Local, Next}
 use Rattle.queue_steps.specs.Next.{CanNext, next_of}
 use Rattle.queue_steps.specs.State.{State as Queue}
 use Rattle.queue_steps.specs.UnboundedNext.{FitsChain, unbounded_next}
-use Rattle.law_common.specs.Effects.{Leads, with_effect}
+use Rattle.law_common.specs.Effects.{Leads, with_effect, MayFront}
 use Rattle.law_common.specs.Stand.{Stand}
 use Rattle.law_chain.specs.ChainCells.{Reading, Chain, queue_of}
 use Rattle.law_chain.specs.ChainAt.{At}
@@ -20,7 +20,7 @@ use Rattle.mem_blocks.specs.Web.{Block, State, Sitter, word_of, viewed}
 use Rattle.mem_blocks.specs.declared.hub.TheConstants.{PARTIES}
 use Rattle.shared_parties.specs.declared.known.CallState.{CallState}
 use Rattle.shared_parties.specs.declared.known.InCall.{InCall}
-use Rattle.shared_parties.specs.Calling.{Standing, MayFront, NextOk, handed_by, stand_of}
+use Rattle.shared_parties.specs.Calling.{Standing, NextOk, handed_by, stand_of}
 use Rattle.shared_parties.specs.CallsAt.{CallsAt}
 use Rattle.shared_parties.proofs.Callings.{grown}
 use Rattle.shared_parties.proofs.CallSteps.{Stepping, call_step}

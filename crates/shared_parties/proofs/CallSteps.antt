@@ -15,7 +15,7 @@ use Rattle.queue_steps.specs.Kinds.{call_value}
 use Rattle.queue_steps.specs.Shares.{Share, IsEntire}
 use Rattle.queue_steps.specs.Parties.{IsWhole}
 use Rattle.law_common.proofs.Runs.{after_snoc, runs_snoc}
-use Rattle.law_common.specs.Effects.{Leads, with_effect}
+use Rattle.law_common.specs.Effects.{Leads, with_effect, MayFront}
 use Rattle.law_common.specs.Stand.{stand}
 use Rattle.shared_parties.specs.declared.known.Known.{Known}
 use Rattle.shared_parties.specs.declared.known.InCall.{InCall}
@@ -24,7 +24,7 @@ use Rattle.shared_parties.specs.declared.known.CallState.{CallState}
 use Rattle.shared_parties.specs.Known.{party, view_of, Kept}
 use Rattle.shared_parties.specs.CallStates.{is_busy, idle, known_by, IsResting}
 use Rattle.shared_parties.proofs.Histories.{prefix_self}
-use Rattle.shared_parties.specs.Calling.{CallsOf, CallLaws, cap_of, Standing, MayFront, NextOk, first_of, Opens}
+use Rattle.shared_parties.specs.Calling.{CallsOf, CallLaws, cap_of, Standing, NextOk, first_of, Opens}
 use Rattle.shared_parties.specs.CallsAt.{CallsAt, IsFirst, Ready, Told}
 use Rattle.shared_parties.proofs.Keeping.{looks, gains}
 use Rattle.shared_parties.proofs.Alone.{alone}

@@ -9,7 +9,7 @@ use Rattle.queue_steps.specs.Replies.{Allows, Tells}
 use Rattle.queue_steps.specs.Shares.{Share}
 use Rattle.queue_steps.specs.Parties.{View, StandAt, Between, Displaces, SharedCall}
 use Rattle.law_common.specs.Moments.{SeenIn}
-use Rattle.law_common.specs.Effects.{with_effect}
+use Rattle.law_common.specs.Effects.{with_effect, MayFront}
 use Rattle.law_common.specs.Stand.{stand}
 use Rattle.law_common.proofs.Tests.{or_true, not_true}
 use Rattle.shared_parties.specs.declared.known.Known.{Known}
@@ -18,7 +18,7 @@ use Rattle.shared_parties.specs.Known.{party, looked, gained, view_of}
 use Rattle.law_common.proofs.TellsAs.{TellsAs, displace, tells_as}
 use Rattle.queue_steps.proofs.Places.{below_at}
 use Rattle.shared_parties.proofs.Histories.{prefix_self, prefix_trans, prefix_length}
-use Rattle.shared_parties.specs.Calling.{CallsOf, cap_of, AreMoments, Opened, Waits, Standing, MayFront}
+use Rattle.shared_parties.specs.Calling.{CallsOf, cap_of, AreMoments, Opened, Waits, Standing}
 use Rattle.shared_parties.proofs.Callings.{grown, grown_more, moments_later, moment_now, open_later, shorter}
 
 -- what a party knows after a step of its own at the history h

@@ -94,11 +94,6 @@ handed_by _ v xs = lies_in xs
 abbrev pub HasTouched : {T : Type 0} → Touch → List (ℕ × Option T) → Type 0
 HasTouched {T} t xs = (i : ℕ) → Touches t i → (y : Option T) × (xs ≡ (i, y) ∷ [])
 
--- a front is made only by a call that saw the queue open
-abbrev pub MayFront : {T : Type 0} → Option (Effect T) → Bool → Type 0
-MayFront (Some (Effect.Front old v)) was = was ≡ true
-MayFront _ was = Unit {0}
-
 -- the call of the party j goes on from a known place, or ends with a reply that is right, and the party has no part in the cells then
 abbrev pub NextOk : {T : Type 0} (K : CallsOf T) → K.Cells → ℕ → List (State T) → Bool → Next ℕ → Option T → Call T → List (Effect T) → Type 0
 NextOk K g j ms was (Next.Step l t o) v k es = K.At g j ms was (stand l t o v k es)

@@ -9,13 +9,13 @@ use Rattle.queue_steps.specs.Kinds.{call_kind, call_value}
 use Rattle.queue_steps.specs.Next.{CanNext, first_local, next_of}
 use Rattle.queue_steps.specs.WaitFree.{is_wait_free, EndsWaitFree}
 use Rattle.queue_steps.specs.State.{State}
-use Rattle.law_common.specs.Effects.{Leads, with_effect}
+use Rattle.law_common.specs.Effects.{Leads, with_effect, MayFront}
 use Rattle.law_common.specs.Stand.{Stand}
 use Rattle.shared_tables.specs.Early.{IsEarly}
 use Rattle.shared_tables.specs.Seats.{Table, count_of}
 use Rattle.law_common.specs.Operations.{OnWord, op_word, op_makes, answer_for}
 use Rattle.shared_parties.specs.CallsAt.{CallsAt}
-use Rattle.shared_parties.specs.Calling.{CallsOf, CallLaws, touched_list, handed_by, MayFront, NextOk, first_of, Opens}
+use Rattle.shared_parties.specs.Calling.{CallsOf, CallLaws, touched_list, handed_by, NextOk, first_of, Opens}
 
 -- A kind of queue in a table: which of the steps' words it has and where, and how the words behind the count and the slots at home stand for its cells
 pub record TableOf (T : Type 0) : Type 1 where

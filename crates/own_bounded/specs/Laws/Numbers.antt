@@ -1,7 +1,9 @@
 -- Tests of numbers, and the cases of two numbers.
-use Rattle.std.specs.Prelude.{◌==◌, nat_lt, not}
+use Rattle.std.specs.Prelude.{◌==◌, nat_lt, not, bit_or}
 use Rattle.std.proofs.Common.{◌≡◌, ◌≢◌, ◌⊎◌, ℕ, ◌+◌, ◌%◌, ◌<◌, ◌≤◌, true, false, arith}
-use Rattle.queue_steps.specs.Words.{is_shut}
+use Rattle.queue_steps.specs.Words.{position_of, is_shut}
+use Rattle.law_common.specs.Vocabulary.{MARK, TAIL_STEP}
+use Rattle.law_common.proofs.Tails.{or_one}
 
 pub less : (m n : ℕ) → m < n → nat_lt m n ≡ true
 less m n h = grind arith
@@ -40,3 +42,13 @@ equal_or_above m n h = grind arith
 -- whether m is the last number below n
 pub last_or_not : (m n : ℕ) → m < n → (m + 1 ≡ n) ⊎ (m + 1 < n)
 last_or_not m n h = grind arith
+
+-- a tail one position on, and a tail with the mark
+pub odd_up : (t : ℕ) → (t + TAIL_STEP) % 2 ≡ t % 2
+odd_up t = omega arith
+
+pub half_mark : (t : ℕ) → position_of (bit_or t MARK) ≡ position_of t
+half_mark t = let e = or_one t in omega arith
+
+pub odd_mark : (t : ℕ) → (bit_or t MARK) % 2 ≡ 1
+odd_mark t = let e = or_one t in omega arith

@@ -1,239 +1,148 @@
--- Every call on a ring ends with its reply.
-use Rattle.std.specs.Prelude.{◌==◌, nat_eq, if◌then◌else◌}
-use Rattle.std.proofs.Common.{◌≡◌, ◌⊎◌, ℕ, ◌+◌, ◌-◌, ◌%◌, ◌<◌, ◌≤◌, Bool, true, false, List, [], ◌∷◌, ◌++◌, length, Option, Some, None, Ok, Err, refl, arith, sym, ap, ◌∙◌, subst, inl, inr, mod-lt}
-use Rattle.queue_steps.specs.declared.sizes.TheConstants.{LIMIT, SOLO_STEPS}
-use Rattle.queue_steps.specs.declared.model.Call.{Call}
-use Rattle.queue_steps.specs.declared.model.Call.TheVariants as call
-use Rattle.queue_steps.specs.declared.model.Reply.{Reply}
-use Rattle.queue_steps.specs.declared.model.Reply.TheVariants as reply
-use Rattle.queue_steps.specs.declared.errors.PopError.TheVariants as pop
-use Rattle.queue_steps.specs.declared.errors.PushError.TheVariants as push
-use Rattle.queue_steps.specs.declared.errors.ForcePushError.TheVariants as force
-use Rattle.queue_steps.specs.declared.steps.types.Op.{Op}
-use Rattle.queue_steps.specs.declared.steps.types.Touch.TheVariants as touch
-use Rattle.queue_steps.specs.declared.steps.bounded.PushKind.TheVariants as push_kind
-use Rattle.queue_steps.specs.State.{State, is_full}
-use Rattle.queue_steps.specs.Effect.{rest}
-use Rattle.queue_steps.specs.Replies.{is_empty}
-use Rattle.queue_steps.specs.Sequential.{Sequential, owner_table, sequential_reply, sequential_state, moved}
-use Rattle.queue_steps.proofs.TableCases.{at_spent, at_full, at_room}
-use Rattle.queue_steps.specs.declared.steps.types.Word.TheVariants as word
-use Rattle.queue_steps.specs.declared.steps.bounded.BoundedLocal.TheVariants as ring
-use Rattle.queue_steps.specs.BoundedNext.{loads}
-use Rattle.queue_steps.specs.Words.{IsWord, position_of, is_shut, slot_at}
-use Rattle.call_driver.specs.EndsIn.{EndsRight, Answered}
-use Rattle.own_bounded.specs.Laws.Numbers.{apart_nat, equal_nat, is_below, is_even, equal_or_above}
-use Rattle.own_bounded.specs.RingCells.{RingState, kind_of_ring, ring_can_touch, ring_touches, ring_can_perform, ring_performs, ring_can_release, ring_releases}
-use Rattle.own_bounded.specs.Laws.RingKeeps.{next_lap}
-use Rattle.own_bounded.specs.RingOwned.{at_position, filled_slot, IsIdle, ring_queue, ring_owned}
-use Rattle.own_bounded.specs.Laws.RingRuns.{Ending, RingEnds}
-use Rattle.own_bounded.specs.Laws.RingCalls.{marked, pushed, popped, displaced, run-closed, run-spent, run-room, run-full, run-displaced, run-pop, run-empty, run-close, run-is_closed, run-is_empty, run-is_full, run-len}
-use Rattle.own_bounded.specs.Laws.RingLeaves.{idle-marked, queue-marked, idle-pushed, queue-pushed, idle-popped, items-front, queue-popped, displaced-is, length-items}
-
--- what a call has to end with
-abbrev Right : {T : Type 0} → Call T → RingState T → Ending T
-Right c r = Answered ring_can_release ring_releases IsIdle ring_owned c r
+-- Every call on a ring ends with its reply: it is a call of the only party, whose steps are those of the laws of parties.
+use Rattle.std.specs.Prelude.{◌==◌, if◌then◌else◌}
+use Rattle.std.proofs.Common.{◌≡◌, ◌||◌, ℕ, zero, suc, ◌<◌, ◌≤◌, not, Bool, true, false, List, [], ◌∷◌, length, get_or, Option, Some, None, Ok, Err, refl, arith, sym, ap, ◌∙◌, subst, inl, inr}
+use Rattle.std.proofs.lemmas.List.{get_or-map, length-map}
+use Rattle.queue_steps.specs.State.{State, is_single_cap}
+use Rattle.queue_steps.specs.Effect.{after_from}
+use Rattle.queue_steps.specs.Kinds.{call_kind, call_value, filled}
+use Rattle.queue_steps.specs.Legal.{IsShown}
+use Rattle.queue_steps.specs.Next.{CanNext, next_of}
+use Rattle.queue_steps.specs.BoundedNext.{bounded_begin}
+use Rattle.queue_steps.specs.Replies.{IsRightAt, LacksMemory, Tells}
+use Rattle.queue_steps.specs.Words.{position_of}
+use Rattle.queue_steps.specs.Sequential.{Sequential, sequential_reply, sequential_state, moved}
+use Rattle.queue_steps.proofs.Rows.{does_row}
+use Rattle.law_common.specs.Vocabulary.{Call, Reply, Effect, PushError, ForcePushError, Kind, Op, Touch, Answer, Next, SOLO_STEPS}
+use Rattle.law_common.specs.Effects.{FrontOpen, with_effect}
+use Rattle.law_common.specs.Moments.{SeenIn}
+use Rattle.law_common.proofs.Alone.{Alone, alone_first, alone_more, only_seen}
+use Rattle.law_ring.specs.RingShared.{answered, touched, handed}
+use Rattle.law_ring.specs.RingCells.{Ring, queue_of, RingOk, HoldsNone}
+use Rattle.law_ring.specs.RingWords.{Codes}
+use Rattle.law_ring.proofs.RingIdle.{NobodyHolds, AtRest, at_rest}
+use Rattle.law_ring.proofs.RingTransitions.{not_single}
+use Rattle.law_ring.proofs.RingRanks.{rank, rank_some}
+use Rattle.law_ring.proofs.RingSlots.{nobody}
+use Rattle.law_ring.proofs.RingStepOk.{IsQuiet, NextOk}
+use Rattle.law_ring.proofs.RingFronts.{may_front}
+use Rattle.law_ring.proofs.RingStart.{at_first}
+use Rattle.law_ring.proofs.RingStep.{step_good}
+use Rattle.call_driver.specs.EndsIn.{EndsIn, EndsRight, Released, Replied, Answered}
+use Rattle.call_driver.specs.Apart.{AnswersApart}
+use Rattle.own_bounded.specs.RingCells.{RingSlot, RingState, slot_in, kind_of_ring, ring_touchable, ring_touched, ring_operable, ring_performed, ring_can_touch, ring_touches, ring_can_perform, ring_performs, ring_can_release, ring_releases}
+use Rattle.own_bounded.specs.RingOwned.{IsIdle, ring_queue, ring_owned}
+use Rattle.own_bounded.specs.Laws.ComputedRuns.{EndsIn-step}
+use Rattle.own_bounded.specs.Laws.RingParty.{part, ring_of, nobody_holds, party_ok, party_codes}
+use Rattle.own_bounded.specs.Laws.RingRests.{rested_idle, rested_queue}
+use Rattle.own_bounded.specs.Laws.RingSame.{is_done, same_step}
 
 abbrev pub RingAnswers : {T : Type 0} → RingState T → Call T → Type 0
 RingAnswers r c = EndsRight ring_can_touch ring_touches ring_can_perform ring_performs ring_can_release ring_releases IsIdle ring_owned (kind_of_ring r) c r
 
--- no block is held, before and after
-sequential : {T : Type 0} (r done : RingState T) (c : Call T) (x : Reply T) → x ≡ sequential_reply (ring_queue r) c → ring_queue done ≡ sequential_state (ring_queue r) c → Sequential (ring_owned r) c x (ring_owned done)
-sequential {T} r done c x answers leaves =
-    let Moved : State T → Type 0 = λ q. ring_owned done ≡ moved (ring_owned r) q in
-    inl (answers, subst Moved leaves (ap (λ n. record { queue = ring_queue done; blocks = n }) (sym (either (position_of done.tail == 0)))))
-  where
-    either : (b : Bool) → ◌≡◌ {A = ℕ} (if b then 0 else 0) 0
-    either true = refl
-    either false = refl
+module _ {T : Type 0} where
+  -- no block is held, before and after
+  sequential : (r done : RingState T) (c : Call T) (x : Reply T) → x ≡ sequential_reply (ring_queue r) c → ring_queue done ≡ sequential_state (ring_queue r) c → Sequential (ring_owned r) c x (ring_owned done)
+  sequential r done c x answers leaves =
+      let Moved : State T → Type 0 = λ q. ring_owned done ≡ moved (ring_owned r) q in
+      inl (answers, subst Moved leaves (ap (λ n. record { queue = ring_queue done; blocks = n }) (sym (either (position_of done.tail == 0)))))
+    where
+      either : (b : Bool) → ◌≡◌ {A = ℕ} (if b then 0 else 0) 0
+      either true = refl
+      either false = refl
 
--- the reply and the queue that is left are those of a line of the table
-abbrev Leaves : {T : Type 0} → RingState T → Reply T → Reply T × State T → Type 0
-Leaves done x l = (x ≡ l.0) × (ring_queue done ≡ l.1)
+  -- states that are shown as the same are the same, where there are more slots than one
+  shown_same : (R P : State T) → is_single_cap R.cap ≡ false → IsShown R P → R ≡ P
+  shown_same R P many h =
+      let accepted : R.accepted ≡ P.accepted = elim h.accepted [ inl e ↦ (let f : true ≡ false = sym e ∙ many in cc) | inr e ↦ e ] in
+      λ i. record { items = h.items i; cap = h.cap i; closed = h.closed i; coming = h.coming i; accepted = accepted i }
 
-by_line : {T : Type 0} (r done : RingState T) (c : Call T) (x : Reply T) → Leaves done x (owner_table (ring_queue r) c) → Sequential (ring_owned r) c x (ring_owned done)
-by_line r done c x line = sequential r done c x line.0 line.1
+  -- only without a capacity a push lacks memory
+  lacks_none : (Q : State T) (c : Call T) (x : Reply T) → LacksMemory Q c x → Q.cap ≡ None
+  lacks_none Q (Call.Push v) (Reply.Push (Err (PushError.NoMemory w))) l = l.1.0
+  lacks_none Q (Call.ForcePush v) (Reply.ForcePush (Err (ForcePushError.NoMemory w))) l = l.1.0
+  lacks_none Q _ _ l = absurd l
 
-over_one : (n : ℕ) → 1 < n → nat_eq n 1 ≡ false
-over_one n h = grind arith
+  module _ (first : RingState T) (c : Call T) where
+    abbrev cap : ℕ
+    cap = first.cap
 
--- where the positions are a whole lap apart the ring is full, and else it has room
-full-is : {T : Type 0} (r : RingState T) → IsIdle r → (position_of r.tail ≡ r.head + r.cap) → is_full (ring_queue r) ≡ true
-full-is r i full = let long = length-items r i in equal_nat (length (ring_queue r).items) r.cap (omega arith)
+    -- the words and slots, and the ring that they stand for, of which no other party has a slot
+    record Holds (r : RingState T) (g : Ring T) : Type 0 where
+      same : r.cap ≡ cap
+      ok : RingOk cap g
+      codes : Codes cap g (part r)
+      quiet : IsQuiet g 0
 
-room-is : {T : Type 0} (r : RingState T) → IsIdle r → position_of r.tail < r.head + r.cap → is_full (ring_queue r) ≡ false
-room-is r i room =
-    let long = length-items r i in
-    let o = i.holds.order in
-    apart_nat (length (ring_queue r).items) r.cap (omega arith)
+    -- between calls again
+    rests : (r : RingState T) (g : Ring T) → Holds r g → HoldsNone g.cells 0 → IsIdle r × (ring_queue r ≡ queue_of cap g)
+    rests r g h none =
+        subst (λ (n : ℕ). RingOk n g → Codes n g (part r) → IsIdle r × (ring_queue r ≡ queue_of n g)) h.same there h.ok h.codes
+      where
+        there : RingOk r.cap g → Codes r.cap g (part r) → IsIdle r × (ring_queue r ≡ queue_of r.cap g)
+        there ok codes =
+            let rest : AtRest r.cap g (part r) = at_rest r.cap g (part r) ok codes (nobody g 0 none h.quiet) in
+            let long : length r.slots ≡ r.cap = sym (length-map r.slots (λ (s : RingSlot T). s.item)) ∙ codes.slotted in
+            let lies : (i : ℕ) → i < r.cap → slot_in r.slots i ≡ record { stamp = get_or (part r).stamps i 0; item = get_or (part r).slots i None } = λ i lt.
+            let stamp = get_or-map (λ (s : RingSlot T). s.stamp) r.slots i (record { stamp = 0; item = None }) 0 (rw long lt) in
+            let item = get_or-map (λ (s : RingSlot T). s.item) r.slots i (record { stamp = 0; item = None }) None (rw long lt) in
+            λ j. record { stamp = sym stamp j; item = sym item j } in
+            (rested_idle r.cap g (part r) r.slots ok codes rest long lies, rested_queue r.cap g (part r) r.slots ok codes rest long lies)
 
-cases : {T : Type 0} (r : RingState T) → IsIdle r → (position_of r.tail ≡ r.head + r.cap) ⊎ (position_of r.tail < r.head + r.cap)
-cases r i = let w = i.holds.within in grind arith
+    -- the call ends with its reply
+    ends : (r : RingState T) (g : Ring T) (ms : List (State T)) (was : Bool) (es : List (Effect T)) (x : Reply Unit) (v : Option T)
+        → Holds r g → Alone (ring_queue first) (queue_of cap g) ms was es → HoldsNone g.cells 0
+        → (y : Reply T) × (filled x v ≡ Some y) × Tells c y es × (es ≡ [] → SeenIn ms (λ m. IsRightAt m c y)) → Replied IsIdle ring_owned c first x v r
+    ends r g ms was es x v h alone none (y, fills, tells, right) =
+        let rest = rests r g h none in
+        let Q : State T = ring_queue first in
+        let leads : after_from Q es ≡ ring_queue r = alone.leads ∙ sym rest.1 in
+        (rest.0, (y, fills, elim (does_row Q Q.accepted (inr refl) c y es tells alone.runs (λ e. inl (only_seen Q ms (λ m. IsRightAt m c y) (alone.only e) (right e))) (λ old w e. subst (FrontOpen Q) e alone.first)) [
+          | inl d ↦
+              let shown : IsShown (sequential_state Q c) (ring_queue r) = subst (IsShown (sequential_state Q c)) leads d.1 in
+              let many : is_single_cap (sequential_state Q c).cap ≡ false = ap is_single_cap shown.cap ∙ (ap (λ n. is_single_cap (Some n)) h.same ∙ not_single cap h.ok.ring) in
+              sequential first r c y d.0 (sym (shown_same (sequential_state Q c) (ring_queue r) many shown))
+          | inr l ↦ absurd (let f : Some cap ≡ None = lacks_none Q c y l.0 in cc)
+        ]))
 
--- the words of an idle ring are small
-tail-word : {T : Type 0} (r : RingState T) → IsIdle r → IsWord r.tail
-tail-word r i = let b = i.below in omega arith
+    -- what a call has to end with
+    abbrev Right : Reply Unit → Option ℕ → Option T → RingState T → Type 0
+    Right = Answered ring_can_release ring_releases IsIdle ring_owned c first
 
-head-word : {T : Type 0} (r : RingState T) → IsIdle r → IsWord r.head
-head-word r i = let b = i.below in let o = i.holds.order in omega arith
+    abbrev Ends : ℕ → Next ℕ → RingState T → Option T → Type 0
+    Ends n todo r v = EndsIn ring_can_touch ring_touches ring_can_perform ring_performs n (Kind.Bounded cap) todo r v Right
 
-inside : {T : Type 0} (r : RingState T) (p : ℕ) → IsIdle r → slot_at r.cap p < length r.slots
-inside r p i = let h = i.holds in let below : p % r.cap < r.cap = mod-lt p h.some in rw h.slotted below
-
--- the slot of the next position in a full ring is that of the front
-front-slot : {T : Type 0} (r : RingState T) → IsIdle r → position_of r.tail ≡ r.head + r.cap → (x : T) × (at_position r.cap r.slots (position_of r.tail) ≡ filled_slot r.head x) × (at_position r.cap r.slots r.head ≡ filled_slot r.head x)
-front-slot r i full =
-    let h = i.holds in
-    let s = h.some in
-    let front = h.filled r.head (omega arith) (omega arith) in
-    let same : slot_at r.cap (position_of r.tail) ≡ slot_at r.cap r.head = next_lap r.cap r.head (position_of r.tail) full in
-    (front.0, rw same front.1, front.1)
-
-push-answers : {T : Type 0} (r : RingState T) (v : T) → IsIdle r → RingAnswers r (call.Push v)
-push-answers {T} r v i = (i.ring, go (is_shut r.tail) (position_of r.tail == LIMIT) (cases r i) refl refl)
-  where
-    go : (b1 b2 : Bool) → (position_of r.tail ≡ r.head + r.cap) ⊎ (position_of r.tail < r.head + r.cap) → is_shut r.tail ≡ b1 → (position_of r.tail == LIMIT) ≡ b2
-        → RingEnds r.cap SOLO_STEPS (loads (ring.PushTail push_kind.Push) word.Tail) r (Some v) (Right (call.Push v) r)
-    go true b2 c e1 e2 =
-        run-closed r v push_kind.Push (Right (call.Push v) r) i.ring (tail-word r i) e1 (i, (reply.Push (Err (push.Closed v)), refl, sequential r r (call.Push v) (reply.Push (Err (push.Closed v))) (rw e1 refl) (rw e1 refl)))
-    go false true c e1 e2 =
-        run-spent r v push_kind.Push (Right (call.Push v) r) i.ring (tail-word r i) e1 e2
-        (idle-marked r i, (reply.Push (Err (push.Closed v)), refl, by_line r (marked r) (call.Push v) (reply.Push (Err (push.Closed v))) (at_spent (Leaves (marked r) (reply.Push (Err (push.Closed v)))) (ring_queue r) _ _ _ _ e1 (rw (over_one r.cap i.ring.0, e2) refl) (refl, queue-marked r))))
-    go false false (inl full) e1 e2 =
-        let front = front-slot r i full in
-        let f = full-is r i full in
-        run-full r front.0 v (Right (call.Push v) r) i.ring (tail-word r i) e1 e2 full (inside r (position_of r.tail) i) front.1
-        (i, (reply.Push (Err (push.Full v)), refl, by_line r r (call.Push v) (reply.Push (Err (push.Full v))) (at_full (Leaves r (reply.Push (Err (push.Full v)))) (ring_queue r) _ _ _ _ e1 (rw (over_one r.cap i.ring.0, e2) refl) f (refl, refl))))
-    go false false (inr room) e1 e2 =
-        let f = room-is r i room in
-        let below : position_of r.tail < LIMIT = is_below (position_of r.tail) LIMIT e2 i.below in
-        run-room r v push_kind.Push (Right (call.Push v) r) i.ring (tail-word r i) e1 e2 (inside r (position_of r.tail) i) (i.holds.free (position_of r.tail) (omega arith) room)
-        (idle-pushed r v below room i, (reply.Push (Ok tt), refl, by_line r (pushed r v) (call.Push v) (reply.Push (Ok tt)) (at_room (Leaves (pushed r v) (reply.Push (Ok tt))) (ring_queue r) _ _ _ _ e1 (rw (over_one r.cap i.ring.0, e2) refl) f (refl, queue-pushed r v room i ∙ rw (over_one r.cap i.ring.0) refl))))
-
-force-answers : {T : Type 0} (r : RingState T) (v : T) → IsIdle r → RingAnswers r (call.ForcePush v)
-force-answers {T} r v i = (i.ring, go (is_shut r.tail) (position_of r.tail == LIMIT) (cases r i) refl refl)
-  where
-    go : (b1 b2 : Bool) → (position_of r.tail ≡ r.head + r.cap) ⊎ (position_of r.tail < r.head + r.cap) → is_shut r.tail ≡ b1 → (position_of r.tail == LIMIT) ≡ b2
-        → RingEnds r.cap SOLO_STEPS (loads (ring.PushTail push_kind.Force) word.Tail) r (Some v) (Right (call.ForcePush v) r)
-    go true b2 c e1 e2 =
-        run-closed r v push_kind.Force (Right (call.ForcePush v) r) i.ring (tail-word r i) e1
-        (i, (reply.ForcePush (Err (force.Closed v)), refl, sequential r r (call.ForcePush v) (reply.ForcePush (Err (force.Closed v))) (rw e1 refl) (rw e1 refl)))
-    go false true c e1 e2 =
-        let many = over_one r.cap i.ring.0 in
-        run-spent r v push_kind.Force (Right (call.ForcePush v) r) i.ring (tail-word r i) e1 e2
-        (idle-marked r i, (reply.ForcePush (Err (force.Closed v)), refl, by_line r (marked r) (call.ForcePush v) (reply.ForcePush (Err (force.Closed v))) (at_spent (Leaves (marked r) (reply.ForcePush (Err (force.Closed v)))) (ring_queue r) _ _ _ _ e1 (rw (many, e2) refl) (refl, queue-marked r))))
-    go false false (inl full) e1 e2 =
-        let many = over_one r.cap i.ring.0 in
-        let s = i.holds.some in
-        let some : r.head < position_of r.tail = omega arith in
-        let room : position_of r.tail < (r.head + 1) + r.cap = omega arith in
-        let below : position_of r.tail < LIMIT = is_below (position_of r.tail) LIMIT e2 i.below in
-        let x = front-slot r i full in
-        let f = full-is r i full in
-        let items = items-front r x.0 some x.2 in
-        let mid = idle-popped r some i in
-        let done = displaced-is r v full in
-        let Idle : RingState T → Type 0 = λ y. IsIdle y in
-        let Queue : State T → State T = λ q. record q { items = q.items ++ v ∷ []; accepted = q.accepted + 1 } in
-        let leaves : ring_queue (displaced r v) ≡ Queue (record (ring_queue r) { items = rest (ring_queue r).items }) =
-        ap ring_queue done ∙ (queue-pushed (popped r) v room mid ∙ ap Queue (queue-popped r x.0 some x.2 i)) in
-        run-displaced r x.0 v (Right (call.ForcePush v) r) i.ring (tail-word r i) e1 e2 full (inside r (position_of r.tail) i) x.1 (
-          subst Idle (sym done) (idle-pushed (popped r) v below room mid),
-          (
-            reply.ForcePush (Ok (Some x.0)),
-            refl,
-            by_line r (displaced r v) (call.ForcePush v) (reply.ForcePush (Ok (Some x.0))) (at_full (Leaves (displaced r v) (reply.ForcePush (Ok (Some x.0)))) (ring_queue r) _ _ _ _ e1 (rw (many, e2) refl) f (rw items refl, leaves ∙ rw many refl)),
-          ),
-        )
-    go false false (inr room) e1 e2 =
-        let many = over_one r.cap i.ring.0 in
-        let f = room-is r i room in
-        let below : position_of r.tail < LIMIT = is_below (position_of r.tail) LIMIT e2 i.below in
-        run-room r v push_kind.Force (Right (call.ForcePush v) r) i.ring (tail-word r i) e1 e2 (inside r (position_of r.tail) i) (i.holds.free (position_of r.tail) (omega arith) room) (
-          idle-pushed r v below room i,
-          (
-            reply.ForcePush (Ok None),
-            refl,
-            by_line r (pushed r v) (call.ForcePush v) (reply.ForcePush (Ok None)) (at_room (Leaves (pushed r v) (reply.ForcePush (Ok None))) (ring_queue r) _ _ _ _ e1 (rw (many, e2) refl) f (refl, queue-pushed r v room i ∙ rw (over_one r.cap i.ring.0) refl)),
-          ),
-        )
-
-pop-answers : {T : Type 0} (r : RingState T) → IsIdle r → RingAnswers r call.Pop
-pop-answers {T} r i = (i.ring, go (equal_or_above r.head (position_of r.tail) i.holds.order))
-  where
-    go : (position_of r.tail ≡ r.head) ⊎ (r.head < position_of r.tail) → RingEnds r.cap SOLO_STEPS (loads ring.PopHead word.Head) r None (Right call.Pop r)
-    go (inl empty) =
-        let s = i.holds.some in
-        let none : position_of r.tail - r.head ≡ 0 = omega arith in
-        run-empty r (Right call.Pop r) i.ring (head-word r i) empty (inside r r.head i) (i.holds.free r.head (omega arith) (omega arith))
-        (i, (reply.Pop (Err (if is_shut r.tail then pop.Closed else pop.Empty)), refl, sequential r r call.Pop (reply.Pop (Err (if is_shut r.tail then pop.Closed else pop.Empty))) (rw none refl) (rw none refl)))
-    go (inr some) =
-        let x = i.holds.filled r.head (omega arith) some in
-        let items = items-front r x.0 some x.1 in
-        run-pop r x.0 (Right call.Pop r) i.ring (head-word r i) (inside r r.head i) x.1
-        (idle-popped r some i, (reply.Pop (Ok x.0), refl, sequential r (popped r) call.Pop (reply.Pop (Ok x.0)) (rw items refl) (queue-popped r x.0 some x.1 i)))
-
-close-answers : {T : Type 0} (r : RingState T) → IsIdle r → RingAnswers r call.Close
-close-answers {T} r i =
-    (i.ring, run-close r (Right call.Close r) i.ring (idle-marked r i, (reply.Close (r.tail % 2 == 0), refl, sequential r (marked r) call.Close (reply.Close (r.tail % 2 == 0)) (ap reply.Close (is_even r.tail)) (queue-marked r))))
-
-is_empty-answers : {T : Type 0} (r : RingState T) → IsIdle r → RingAnswers r call.IsEmpty
-is_empty-answers {T} r i = (
-  i.ring,
-  run-is_empty r (Right call.IsEmpty r) i.ring (
-    i,
-    (
-      reply.IsEmpty (position_of r.tail == r.head),
-      refl,
-      sequential r r call.IsEmpty (reply.IsEmpty (position_of r.tail == r.head)) (ap reply.IsEmpty (same (position_of r.tail) r.head (ring_queue r).items i.holds.order (length-items r i))) refl,
-    ),
-  ),
-)
-  where
-    same : (t h : ℕ) (xs : List T) → h ≤ t → length xs ≡ t - h → (t == h) ≡ is_empty xs
-    same t h [] o e = equal_nat t h (omega arith)
-    same t h (x ∷ xs) o e = apart_nat t h (omega arith)
-
-is_full-answers : {T : Type 0} (r : RingState T) → IsIdle r → RingAnswers r call.IsFull
-is_full-answers {T} r i = (
-  i.ring,
-  run-is_full r (Right call.IsFull r) i.ring (head-word r i) (
-    i,
-    (
-      reply.IsFull (r.head + r.cap == position_of r.tail),
-      refl,
-      sequential r r call.IsFull (reply.IsFull (r.head + r.cap == position_of r.tail)) (ap reply.IsFull (same (cases r i))) refl,
-    ),
-  ),
-)
-  where
-    same : (position_of r.tail ≡ r.head + r.cap) ⊎ (position_of r.tail < r.head + r.cap) → (r.head + r.cap == position_of r.tail) ≡ is_full (ring_queue r)
-    same (inl full) = equal_nat (r.head + r.cap) (position_of r.tail) (sym full) ∙ sym (full-is r i full)
-    same (inr room) = apart_nat (r.head + r.cap) (position_of r.tail) (omega arith) ∙ sym (room-is r i room)
-
-len-answers : {T : Type 0} (r : RingState T) → IsIdle r → RingAnswers r call.Len
-len-answers {T} r i = (
-  i.ring,
-  run-len r (Right call.Len r) i.ring i.holds.order (
-    i,
-    (
-      reply.Len (position_of r.tail - r.head),
-      refl,
-      sequential r r call.Len (reply.Len (position_of r.tail - r.head)) (ap reply.Len (sym (length-items r i))) refl,
-    ),
-  ),
-)
+    -- a call that stands here, with fewer than m steps before it, ends before n steps
+    runs : (n m : ℕ) (r : RingState T) (before g : Ring T) (todo : Next ℕ) (v : Option T) (ms : List (State T)) (was : Bool) (es : List (Effect T))
+        → Holds r g → IsQuiet before 0 → Alone (ring_queue first) (queue_of cap g) ms was es → NextOk cap before g 0 ms was todo v c es m → 0 < m → m ≤ n → Ends n todo r v
+    runs zero m r before g todo v ms was es h calm alone goes some few = absurd (omega arith)
+    runs (suc n) m r before g (Next.Reply x spare) v ms was es h calm alone goes some few =
+        subst (λ b. Released ring_can_release ring_releases b r (Replied IsIdle ring_owned c first x v)) (sym goes.1) (ends r g ms was es x v h alone goes.0 goes.2)
+    runs (suc n) m r before g (Next.Step l t o) v ms was es h calm alone goes some few =
+        let good = step_good h.ok h.codes goes.0 in
+        let same = same_step r t o v good.touches (is_done goes.0) good.operates in
+        let after = good.after in
+        let done : RingState T = (ring_performed (ring_touched r t o v).0 o).1 in
+        let less = goes.1 (λ _. calm) in
+        let holds : Holds done after = record {
+          same = same.cap ∙ h.same;
+          ok = good.ok;
+          codes = subst (λ s. Codes cap after s) (sym same.leaves) good.codes;
+          quiet = λ other ne k e. h.quiet other ne k (good.passes.owned k other ne e);
+        } in
+        let more = runs n (rank cap g l) done g after (next_of (Kind.Bounded cap) l (answered (touched (part r) t v) o)) (handed (part r) t v) (queue_of cap after ∷ ms) (was || not after.closed) (with_effect es good.e)
+        holds h.quiet (alone_more (ring_queue first) (queue_of cap g) (queue_of cap after) ms was es good.e alone good.makes (may_front cap was l (answered (touched (part r) t v) o) good.e good.told)) good.goes (rank_some cap g l) (omega arith) in
+        EndsIn-step ring_touchable ring_touched ring_operable ring_performed n (Kind.Bounded cap) l t o r v Right same.touches same.operates
+        (subst (λ a. CanNext (Kind.Bounded cap) l a) (sym same.answers) good.goes_on)
+        (subst (λ (z : Answer ℕ × Option T). Ends n (next_of (Kind.Bounded cap) l z.0) done z.1) (λ i. (sym same.answers i, sym same.hands i)) more)
 
 pub ring_answers : {T : Type 0} (r : RingState T) (c : Call T) → IsIdle r → RingAnswers r c
-ring_answers r (call.Push v) i = push-answers r v i
-ring_answers r (call.ForcePush v) i = force-answers r v i
-ring_answers r call.Pop i = pop-answers r i
-ring_answers r call.Close i = close-answers r i
-ring_answers r call.IsClosed i = (i.ring, run-is_closed r (Right call.IsClosed r) i.ring (i, (reply.IsClosed (is_shut r.tail), refl, sequential r r call.IsClosed (reply.IsClosed (is_shut r.tail)) refl refl)))
-ring_answers r call.IsEmpty i = is_empty-answers r i
-ring_answers r call.IsFull i = is_full-answers r i
-ring_answers r call.Len i = len-answers r i
-ring_answers r call.Capacity i = (i.ring, (i, (reply.Capacity (Some r.cap), refl, sequential r r call.Capacity (reply.Capacity (Some r.cap)) refl refl)))
+ring_answers r Call.Capacity i = (i.ring, (i, (Reply.Capacity (Some r.cap), refl, sequential r r Call.Capacity (Reply.Capacity (Some r.cap)) refl refl)))
+ring_answers {T} r c i =
+    let g : Ring T = ring_of r in
+    let none = nobody_holds r in
+    (i.ring, runs r c SOLO_STEPS SOLO_STEPS r g g (bounded_begin r.cap (call_kind c)) (call_value c) [] false []
+    (record { same = refl; ok = party_ok r i; codes = party_codes r i; quiet = λ other ne. none other }) (λ other ne. none other) (alone_first (ring_queue r))
+    (at_first r.cap g 0 c (none 0), λ calm. omega arith) (omega arith) (omega arith))
 
-pub ring_stays : {T : Type 0} (r : RingState T) (o : Op Unit) (carried : Option T) → ring_touches r touch.Nothing o carried r carried
+pub ring_stays : {T : Type 0} (r : RingState T) (o : Op ℕ) (carried : Option T) → ring_touches r Touch.Nothing o carried r carried
 ring_stays r o carried = refl

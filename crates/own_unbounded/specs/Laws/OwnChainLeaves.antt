@@ -9,7 +9,7 @@ use Rattle.queue_steps.specs.Effect.{rest}
 use Rattle.queue_steps.specs.Words.{IsWord, position_of, is_shut}
 use Rattle.queue_steps.specs.ChainWords.{offset_of, items_before}
 use Rattle.own_unbounded.specs.declared.unbounded.Name.{Name}
-use Rattle.own_bounded.specs.Laws.RingLeaves.{odd_up, half_mark, odd_mark}
+use Rattle.own_bounded.specs.Laws.Numbers.{odd_up, half_mark, odd_mark}
 use Rattle.own_unbounded.specs.OwnChainCells.{Piece, OwnChain, piece_at, fresh_piece}
 use Rattle.own_unbounded.specs.OwnChainOwned.{taken, accepted, cell_of, items_from, own_chain_queue, HoldsItems, Linked, IsBare, IsLaid, IsIdle}
 use Rattle.own_unbounded.specs.Laws.OwnChainKeeps.{set_item, length-set_item, name-set_item, item-same, item-other, items_from-same, items_from-more, Linked-set, HoldsItems-push, HoldsItems-pop}

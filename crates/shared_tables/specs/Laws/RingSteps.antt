@@ -16,21 +16,22 @@ use Rattle.law_common.proofs.Puts.{put_ok, put_same}
 use Rattle.law_ring.specs.RingCells.{Cell, Ring, queue_of, RingOk, owner, HoldsNone}
 use Rattle.law_ring.specs.RingWords.{Codes, item_in}
 use Rattle.law_ring.specs.RingShared.{Shared, HasPlace, HasWord, word_at, put_word, CanOperate, CanTouch, answered, operated, touched, handed}
-use Rattle.law_common.specs.Effects.{Touches, Whether, with_effect}
+use Rattle.law_common.specs.Effects.{Touches, with_effect}
 use Rattle.law_common.specs.Stand.{Stand}
 use Rattle.law_ring.specs.RingAt.{At, closing}
 use Rattle.law_ring.proofs.RingAt.{at_stays}
 use Rattle.law_ring.proofs.RingRanks.{rank}
-use Rattle.law_ring.proofs.RingStepOk.{IsEffect, NextOk as RingNextOk, StepOk, operates_on}
+use Rattle.law_ring.proofs.RingStepOk.{NextOk as RingNextOk, StepOk, operates_on}
 use Rattle.law_ring.proofs.RingEarly.{early}
 use Rattle.law_ring.proofs.RingStart.{at_first, at_touches, at_coming, at_word}
 use Rattle.law_ring.proofs.RingStep.{step_good}
+use Rattle.law_ring.proofs.RingFronts.{may_front}
 use Rattle.law_ring.proofs.RingHands.{lent_stays, Shift, Rests, Claims, GoesOn, Returns}
 use Rattle.law_ring.specs.RingPasses.{Lent}
 use Rattle.own_bounded.specs.RingWords.{words_behind}
 use Rattle.own_bounded.specs.declared.ring_words.TheConstants.{STAMPS}
 use Rattle.law_common.proofs.Moments.{seen_map}
-use Rattle.shared_parties.specs.Calling.{touched_list, lies_in, handed_by, HasTouched, MayFront, NextOk, CallLaws}
+use Rattle.shared_parties.specs.Calling.{touched_list, lies_in, handed_by, HasTouched, NextOk, CallLaws}
 use Rattle.shared_tables.specs.TableRule.{found_by, TableStepOk, TakesOff, OpensIn, TableLaws}
 use Rattle.law_common.specs.Operations.{op_word, op_makes, answer_for}
 use Rattle.shared_tables.specs.RingTable.{home_when, home_of, Homes, ring_words, word_index, RingCoded, ring_calls, ring_table}
@@ -170,29 +171,6 @@ module _ {T : Type 0} where
         lent = λ k e. put_ok r.cells i k c (λ j d. owner d ≡ Some who → ⊥) (λ e. let f : None ≡ Some who = sym free ∙ e in cc) (λ ne e. ne (l.2 k e ∙ sym (l.2 i own))) (ap (λ f. owner (f k)) (sym cells) ∙ e);
       })
       from (y ∷ z ∷ zs) l = absurd l
-
-  -- a front leaves by a call that has seen the queue open alone
-  none_fronts : (was : Bool) (e : Option (Effect T)) → e ≡ None → MayFront e was
-  none_fronts was e is = subst (λ x. MayFront x was) (sym is) tt
-
-  fronts : (was : Bool) (e : Option (Effect T)) (b : Bool) (P Q : Type 0) → Whether b P Q → (P → MayFront e was) → (Q → MayFront e was) → MayFront e was
-  fronts was e true P Q h here there = here h
-  fronts was e false P Q h here there = there h
-
-  may_front : (cap : ℕ) (was : Bool) (l : Local ℕ) (a : Answer ℕ) (e : Option (Effect T)) → IsEffect cap was l a e → MayFront e was
-  may_front cap was (Local.Bounded (ring.Claiming d tail)) (Answer.Found found) e h =
-      fronts was e (found == tail) _ _ h (λ w. subst (λ x. MayFront x was) (sym w.1) tt) (none_fronts was e)
-  may_front cap was (Local.Bounded (ring.Displacing tail)) (Answer.Found found) e h =
-      fronts was e (found + cap == position_of tail) _ _ h (λ w. subst (λ x. MayFront x was) (sym w.1) w.2) (none_fronts was e)
-  may_front cap was (Local.Bounded (ring.Arriving tail)) (Answer.Found found) e h = subst (λ x. MayFront x was) (sym h) tt
-  may_front cap was (Local.Bounded (ring.ClosingAtLimit d)) (Answer.Found found) e h =
-      fronts was e (is_shut found) _ _ h (none_fronts was e) (λ is. subst (λ x. MayFront x was) (sym is) tt)
-  may_front cap was (Local.Bounded (ring.Taking head)) (Answer.Found found) e h =
-      fronts was e (found == head) _ _ h (λ w. subst (λ x. MayFront x was) (sym w.1) tt) (none_fronts was e)
-  may_front cap was (Local.Bounded ring.Closing) (Answer.Found found) e h =
-      fronts was e (is_shut found) _ _ h (none_fronts was e) (λ is. subst (λ x. MayFront x was) (sym is) tt)
-  may_front cap was (Local.Bounded l) a e h = none_fronts was e h
-  may_front cap was _ a e h = absurd h
 
   has_touched : (cap : ℕ) (s : Ring T) (who : ℕ) (ms : List (State T)) (was : Bool) (c : Stand T) (xs : List (ℕ × Option T)) → At cap s who ms was c → Lent s who xs → HasTouched c.touch xs
   has_touched cap s who ms was c [] here lent = λ i e. absurd (lent i (at_touches i here e))

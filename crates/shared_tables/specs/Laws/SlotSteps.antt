@@ -9,7 +9,7 @@ use Rattle.queue_steps.specs.State.{State}
 use Rattle.queue_steps.specs.Kinds.{call_kind}
 use Rattle.queue_steps.specs.Next.{CanNext, next_of}
 use Rattle.queue_steps.specs.WaitFree.{is_wait_free, EndsBefore, EndsWaitFree}
-use Rattle.law_common.specs.Effects.{Leads, with_effect}
+use Rattle.law_common.specs.Effects.{Leads, with_effect, MayFront}
 use Rattle.law_common.specs.Stand.{Stand, stand}
 use Rattle.law_slot.specs.SlotShared.{Shared, one_slot, answered, operated, touched, handed}
 use Rattle.law_slot.specs.SlotHolder.{SlotHolder, Nobody}
@@ -21,7 +21,7 @@ use Rattle.law_slot.proofs.SlotHolder.{share_of, next_who, own_self, own_other}
 use Rattle.law_slot.specs.SlotCells.{Slot, queue_of, own_in, lent_by, Lent, IsHeld}
 use Rattle.law_slot.proofs.SlotCells.{nobody_if, held_lent, at_stays, lent_stays, at_whole, at_lock, at_touches}
 use Rattle.law_common.proofs.Moments.{seen_map}
-use Rattle.shared_parties.specs.Calling.{touched_list, lies_in, handed_by, MayFront, NextOk, CallLaws}
+use Rattle.shared_parties.specs.Calling.{touched_list, lies_in, handed_by, NextOk, CallLaws}
 use Rattle.shared_tables.specs.TableRule.{TakesOff, TableStepOk, OpensIn, TableLaws}
 use Rattle.law_common.specs.Operations.{op_makes, answer_for}
 use Rattle.shared_tables.specs.SlotTable.{home_under, SlotCoded, slot_calls, slot_table}

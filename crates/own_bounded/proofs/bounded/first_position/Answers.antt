@@ -1,5 +1,5 @@
 use Rattle.std.proofs.Common.{arith}
-use Rattle.own_bounded.proofs.Openings.{first-slot, next-slot}
+use Rattle.own_bounded.specs.Laws.RingParty.{first-slot, next-slot}
 use Rattle.own_bounded.proofs.bounded.first_position.Goals as goal
 
 pub returns-then-slot-passed-clause-slot : goal.returns-then-slot-passed-clause-slot
