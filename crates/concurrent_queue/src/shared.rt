@@ -236,14 +236,13 @@ impl<T, A: Allocator> ConcurrentQueue<T, A> {
         // In place, as in `pop`: each function that may wait costs a test behind its call. And by form, so that what a ring leaves is put together for a ring.
         let reply = match (&self.form, &mut party.place) {
             (Form::Single(slot), SeatPlace::Table(seat)) => {
-                match run_fast::<
-                    SharedTable<T, Slots, A>,
-                    Open,
-                    Short<Pushes>,
-                >(slot, &Open, seat, call)
-                {
+                match run_fast::<SharedTable<T, Slots, A>, Open, Short<Pushes>>(
+                    slot, &Open, seat, call,
+                ) {
                     ControlFlow::Break(reply) => reply,
-                    ControlFlow::Continue(left) => run_slow::<SharedTable<T, Slots, A>, Open, R>(slot, rt, &Open, seat, left),
+                    ControlFlow::Continue(left) => run_slow::<SharedTable<T, Slots, A>, Open, R>(
+                        slot, rt, &Open, seat, left,
+                    ),
                 }
             }
             (Form::Ring(ring), SeatPlace::Table(seat)) => {
@@ -255,7 +254,9 @@ impl<T, A: Allocator> ConcurrentQueue<T, A> {
                 >(ring.slots().is_power_of_two(), ring, &Open, seat, call)
                 {
                     ControlFlow::Break(reply) => reply,
-                    ControlFlow::Continue(left) => run_slow::<SharedTable<T, Rings, A>, Open, R>(ring, rt, &Open, seat, left),
+                    ControlFlow::Continue(left) => run_slow::<SharedTable<T, Rings, A>, Open, R>(
+                        ring, rt, &Open, seat, left,
+                    ),
                 }
             }
             (Form::Chain(chain), SeatPlace::Web(rested)) => {

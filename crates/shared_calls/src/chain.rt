@@ -33,7 +33,13 @@ pub fn answer<T, A: Allocator, Q: Source<T, A>, G: Gate, R: Wait, W>(
     let mut asking: Asking<T, A, Q> = Asking::wake(&queue.chain, party);
     let reply = match run_fast::<Asking<T, A, Q>, G, Usual<W>>(queue, gate, &mut asking, call) {
         ControlFlow::Break(reply) => reply,
-        ControlFlow::Continue(left) => run_slow::<Asking<T, A, Q>, G, R>(queue, rt, gate, &mut asking, left),
+        ControlFlow::Continue(left) => run_slow::<Asking<T, A, Q>, G, R>(
+            queue,
+            rt,
+            gate,
+            &mut asking,
+            left,
+        ),
     };
     *party = asking.rests();
     reply

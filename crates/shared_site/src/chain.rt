@@ -101,9 +101,7 @@ impl<T, A: Allocator, Q: Source<T, A>> Site for Asking<T, A, Q> {
         requires { SitsAt queue.now.chain asking.old.seat × Carries (Some block) asking.old.seat.sitter }
         ensures { GaveUp asking.old.seat asking.new.seat }
     {
-        queue
-            .chain
-            .give_up(&queue.alloc, &mut asking.seat, block);
+        queue.chain.give_up(&queue.alloc, &mut asking.seat, block);
     }
 }
 

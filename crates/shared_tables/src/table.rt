@@ -221,11 +221,7 @@ impl<T, K: TableSteps<T>, A: Allocator> Site for SharedTable<T, K, A> {
     }
 
     /// No reply has a block, so nothing is done.
-    fn give_up(
-        queue: &SharedTable<T, K, A>,
-        seat: &mut Seat<Option<T>, CallState<T>>,
-        block: usize,
-    )
+    fn give_up(queue: &SharedTable<T, K, A>, seat: &mut Seat<Option<T>, CallState<T>>, block: usize)
         ensures { NoGift queue.now.table.shared.table_id (seat.old.table_id, seat.old.me) block (seat.new.table_id, seat.new.me) }
     {
         let _ = queue;

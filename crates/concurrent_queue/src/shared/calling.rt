@@ -64,8 +64,12 @@ impl<T, A: Allocator> Form<T, A> {
         ensures { (call : SpecCall T) (first : SpecSeat (SpecOption T) (SpecState T)) → HasLeft ⟦<SharedTable<T, Slots, A> as Site>⟧ ⟦<SharedTable<T, Rings, A> as Site>⟧ form.Single form.Ring self.now first call left seat.old → IsHeld (place.Table seat.new) × Calls (party_view_of (place.Table first)) call result (party_view_of (place.Table seat.new)) }
     {
         match self {
-            Form::Single(slot) => run_slow::<SharedTable<T, Slots, A>, G, R>(slot, rt, gate, seat, left),
-            Form::Ring(ring) => run_slow::<SharedTable<T, Rings, A>, G, R>(ring, rt, gate, seat, left),
+            Form::Single(slot) => run_slow::<SharedTable<T, Slots, A>, G, R>(
+                slot, rt, gate, seat, left,
+            ),
+            Form::Ring(ring) => run_slow::<SharedTable<T, Rings, A>, G, R>(
+                ring, rt, gate, seat, left,
+            ),
             Form::Chain(_) => unreachable!(),
         }
     }

@@ -113,7 +113,9 @@ impl<T, A: NullTestable> ConcurrentQueue<T, A> {
     {
         match (&self.form, party.place) {
             (Form::Single(slot), SeatPlace::Table(mut seat)) => {
-                match set_out::<SharedTable<T, Slots, A>, Open, Short<Begins>>(slot, &Open, &mut seat, call) {
+                match set_out::<SharedTable<T, Slots, A>, Open, Short<Begins>>(
+                    slot, &Open, &mut seat, call,
+                ) {
                     ControlFlow::Break(reply) => {
                         Outcome::Done(Party::at(SeatPlace::Table(seat)), reply)
                     }
@@ -123,7 +125,9 @@ impl<T, A: NullTestable> ConcurrentQueue<T, A> {
                 }
             }
             (Form::Ring(ring), SeatPlace::Table(mut seat)) => {
-                match set_out::<SharedTable<T, Rings, A>, Open, Usual<Begins>>(ring, &Open, &mut seat, call) {
+                match set_out::<SharedTable<T, Rings, A>, Open, Usual<Begins>>(
+                    ring, &Open, &mut seat, call,
+                ) {
                     ControlFlow::Break(reply) => {
                         Outcome::Done(Party::at(SeatPlace::Table(seat)), reply)
                     }
@@ -134,7 +138,12 @@ impl<T, A: NullTestable> ConcurrentQueue<T, A> {
             }
             (Form::Chain(queue), SeatPlace::Web(mut rested)) => {
                 let mut asking: Asking<T, A, Granting> = Asking::wake(&queue.chain, &mut rested);
-                match set_out::<Asking<T, A, Granting>, Open, Usual<Begins>>(queue, &Open, &mut asking, call) {
+                match set_out::<Asking<T, A, Granting>, Open, Usual<Begins>>(
+                    queue,
+                    &Open,
+                    &mut asking,
+                    call,
+                ) {
                     ControlFlow::Break(reply) => {
                         Outcome::Done(Party::at(SeatPlace::Web(asking.rests())), reply)
                     }
@@ -157,7 +166,9 @@ impl<T, A: NullTestable> ConcurrentQueue<T, A> {
         let place = pending.into_place();
         match place {
             CallPlace::Slot(mut seat, left) => match &self.form {
-                Form::Single(slot) => match take_up::<SharedTable<T, Slots, A>, Open>(slot, &Open, &mut seat, left) {
+                Form::Single(slot) => match take_up::<SharedTable<T, Slots, A>, Open>(
+                    slot, &Open, &mut seat, left,
+                ) {
                     ControlFlow::Break(reply) => {
                         Outcome::Done(Party::at(SeatPlace::Table(seat)), reply)
                     }
@@ -169,7 +180,9 @@ impl<T, A: NullTestable> ConcurrentQueue<T, A> {
                 Form::Chain(_) => unreachable!(),
             },
             CallPlace::Ring(mut seat, left) => match &self.form {
-                Form::Ring(ring) => match take_up::<SharedTable<T, Rings, A>, Open>(ring, &Open, &mut seat, left) {
+                Form::Ring(ring) => match take_up::<SharedTable<T, Rings, A>, Open>(
+                    ring, &Open, &mut seat, left,
+                ) {
                     ControlFlow::Break(reply) => {
                         Outcome::Done(Party::at(SeatPlace::Table(seat)), reply)
                     }
@@ -181,7 +194,12 @@ impl<T, A: NullTestable> ConcurrentQueue<T, A> {
                 Form::Chain(_) => unreachable!(),
             },
             CallPlace::Chain(mut asking, left) => match &self.form {
-                Form::Chain(queue) => match take_up::<Asking<T, A, Granting>, Open>(queue, &Open, &mut asking, left) {
+                Form::Chain(queue) => match take_up::<Asking<T, A, Granting>, Open>(
+                    queue,
+                    &Open,
+                    &mut asking,
+                    left,
+                ) {
                     ControlFlow::Break(reply) => {
                         Outcome::Done(Party::at(SeatPlace::Web(asking.rests())), reply)
                     }
