@@ -19,7 +19,7 @@ use Rattle.call_driver.specs.OnWay.{OnWay, Before, Stood}
 use Rattle.call_driver.specs.declared.site.Site.{Ghosts}
 use Rattle.call_driver.specs.declared.progress.Progress.{Progress}
 
-module _ {T B S M K : Type 0} (m : Ghosts M T B S K) where
+module _ {O M T B S K : Type 0} (m : Ghosts O M T B S K) where
   -- wherever a call stands, it leads on
   abbrev pub GoesOnFrom : Type 0
   GoesOnFrom = (n : ℕ) (site : M) (first : S) (c : Call T) (l : Local B) (a : Answer B) (s : S) (x : Option T) → m.stands (suc n) site first c l a s x

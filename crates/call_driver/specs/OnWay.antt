@@ -11,7 +11,7 @@ use Rattle.call_driver.specs.Leads.{GoesOn}
 use Rattle.call_driver.specs.declared.site.Site.{Ghosts}
 use Rattle.call_driver.specs.declared.progress.Progress.{Progress}
 
-module _ {T B S M K : Type 0} (m : Ghosts M T B S K) where
+module _ {O M T B S K : Type 0} (m : Ghosts O M T B S K) where
   -- the kind and the call are those of the call c that the seat `first` began
   abbrev pub IsOf : Kind → Call Unit → M → S → Call T → Type 0
   IsOf k call site first c = (k ≡ m.kind_of site first) × (call ≡ call_kind c)

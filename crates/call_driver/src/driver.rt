@@ -24,16 +24,16 @@ use std::ops::ControlFlow;
 
 /// A call on its way, before its first step.
 #[inline(always)]
-pub fn begin<T, B: Copy, S, M: Site<T, B, S>>(
-    site: &M,
-    seat: &S,
+pub fn begin<M: Site>(
+    site: &M::Shared,
+    seat: &M::Seat,
     call: CallKind,
-) -> (Kind, Progress<B>)
+) -> (Kind, Progress<M::Block>)
     requires { M.rests site.now seat.now }
-    ensures { (whole : SpecCall T) (n : ℕ) → call ≡ call_kind whole → suc n ≡ SOLO_STEPS → OnWay M.Site n result.0 call site.now seat.now whole result.1 (call_value whole) seat.now }
+    ensures { (whole : SpecCall M.Item) (n : ℕ) → call ≡ call_kind whole → suc n ≡ SOLO_STEPS → OnWay M.Site n result.0 call site.now seat.now whole result.1 (call_value whole) seat.now }
 {
-    let kind = site.kind(seat);
-    let local: Local<B> = call_steps::start(kind, call);
+    let kind = M::kind(site, seat);
+    let local: Local<M::Block> = call_steps::start(kind, call);
     (
         kind,
         Progress {
@@ -46,21 +46,21 @@ pub fn begin<T, B: Copy, S, M: Site<T, B, S>>(
 /// The steps of a call that are not known to be common, to its end.
 #[cold]
 #[inline(never)]
-fn slow_path<T, B: Copy, S, M: Site<T, B, S>, G: Gate, E: End<T, B, S, M> + Drop>(
-    site: &M,
+fn slow_path<M: Site, G: Gate, E: End<M> + Drop>(
+    site: &M::Shared,
     gate: &G,
     end: E,
     kind: Kind,
     call: CallKind,
-    seat: &mut S,
-    progress: Progress<B>,
-    carried: &mut Option<T>,
+    seat: &mut M::Seat,
+    progress: Progress<M::Block>,
+    carried: &mut Option<M::Item>,
 ) -> ReplyKind
     requires { CanEnd M.Site kind call site.now progress carried.old seat.old }
     ensures { EndsRightly M.Site kind call site.now progress carried.old seat.old carried.new seat.new result }
 {
     let mut progress = progress;
-    match pass_block_end(site, gate, kind, call, seat, &mut progress, carried) {
+    match pass_block_end::<M, G>(site, gate, kind, call, seat, &mut progress, carried) {
         ControlFlow::Break(reply) => reply,
         ControlFlow::Continue(()) => end.finish(site, gate, kind, call, seat, progress, carried),
     }
@@ -68,15 +68,15 @@ fn slow_path<T, B: Copy, S, M: Site<T, B, S>, G: Gate, E: End<T, B, S, M> + Drop
 
 /// Goes on where no step is known to be common. What the slow path is handed is made here alone, so that the fast steps write none of it. So the carried value goes to a place of its own and back: the slow path never gets the place that the fast steps are lent, and a word stays in a register there.
 #[inline(always)]
-pub fn leave<T, B: Copy, S, M: Site<T, B, S>, G: Gate, E: End<T, B, S, M> + Drop>(
-    site: &M,
+pub fn leave<M: Site, G: Gate, E: End<M> + Drop>(
+    site: &M::Shared,
     gate: &G,
     end: E,
     kind: Kind,
     call: CallKind,
-    seat: &mut S,
-    progress: &Progress<B>,
-    carried: &mut Option<T>,
+    seat: &mut M::Seat,
+    progress: &Progress<M::Block>,
+    carried: &mut Option<M::Item>,
 ) -> ReplyKind
     requires { CanEnd M.Site kind call site.now progress.now carried.old seat.old }
     ensures { EndsRightly M.Site kind call site.now progress.now carried.old seat.old carried.new seat.new result }
@@ -86,7 +86,7 @@ pub fn leave<T, B: Copy, S, M: Site<T, B, S>, G: Gate, E: End<T, B, S, M> + Drop
         answer: progress.answer,
     };
     let mut own = carried.take();
-    let reply = slow_path(site, gate, end, kind, call, seat, left, &mut own);
+    let reply = slow_path::<M, G, E>(site, gate, end, kind, call, seat, left, &mut own);
     let none = mem::replace(carried, own);
     let None = none else { unreachable!() };
     reply
@@ -96,69 +96,70 @@ pub fn leave<T, B: Copy, S, M: Site<T, B, S>, G: Gate, E: End<T, B, S, M> + Drop
 ///
 /// The place of the value that the call carries is lent, and then holds what it ends with.
 #[inline(always)]
-pub fn drive<
-    T,
-    B: Copy,
-    S,
-    M: Site<T, B, S>,
-    G: Gate,
-    E: End<T, B, S, M> + Drop,
-    F: Row<T, B, S, M, G>,
->(site: &M, gate: &G, end: E, seat: &mut S, call: CallKind, carried: &mut Option<T>) -> ReplyKind
+pub fn drive<M: Site, G: Gate, E: End<M> + Drop, F: Row<M, G>>(
+    site: &M::Shared,
+    gate: &G,
+    end: E,
+    seat: &mut M::Seat,
+    call: CallKind,
+    carried: &mut Option<M::Item>,
+) -> ReplyKind
     requires rests { M.rests site.now seat.old }
     requires whole { FitsCall call carried.old }
-    ensures { (c : SpecCall T) → IsCall call carried.old c → EndsWith M.Site site.now seat.old c carried.new seat.new result }
+    ensures { (c : SpecCall M.Item) → IsCall call carried.old c → EndsWith M.Site site.now seat.old c carried.new seat.new result }
 {
-    let (kind, mut progress) = begin(site, seat, call);
+    let (kind, mut progress) = begin::<M>(site, seat, call);
     match F::run(site, gate, kind, call, seat, &mut progress, carried) {
         ControlFlow::Break(reply) => reply,
-        ControlFlow::Continue(()) => leave(site, gate, end, kind, call, seat, &progress, carried),
+        ControlFlow::Continue(()) => {
+            leave::<M, G, E>(site, gate, end, kind, call, seat, &progress, carried)
+        }
     }
 }
 
 /// Runs a call to its end, in the loop alone.
-pub fn drive_in_loop<T, B: Copy, S, M: Site<T, B, S>, G: Gate, E: End<T, B, S, M> + Drop>(
-    site: &M,
+pub fn drive_in_loop<M: Site, G: Gate, E: End<M> + Drop>(
+    site: &M::Shared,
     gate: &G,
     end: E,
-    seat: &mut S,
+    seat: &mut M::Seat,
     call: CallKind,
-    carried: &mut Option<T>,
+    carried: &mut Option<M::Item>,
 ) -> ReplyKind
     requires rests { M.rests site.now seat.old }
     requires whole { FitsCall call carried.old }
-    ensures { (c : SpecCall T) → IsCall call carried.old c → EndsWith M.Site site.now seat.old c carried.new seat.new result }
+    ensures { (c : SpecCall M.Item) → IsCall call carried.old c → EndsWith M.Site site.now seat.old c carried.new seat.new result }
 {
-    let (kind, progress) = begin(site, seat, call);
+    let (kind, progress) = begin::<M>(site, seat, call);
     end.finish(site, gate, kind, call, seat, progress, carried)
 }
 
 /// Runs a wait-free call to its end, which comes by its second step.
 #[inline(always)]
-pub fn drive_wait_free<T, B: Copy, S, M: SharedSite<T, B, S>, G: Gate>(
-    site: &M,
+pub fn drive_wait_free<M: SharedSite, G: Gate>(
+    site: &M::Shared,
     gate: &G,
-    seat: &mut S,
-    call: Call<T>,
-) -> Reply<T>
+    seat: &mut M::Seat,
+    call: Call<M::Item>,
+) -> Reply<M::Item>
     requires rests { M.rests site.now seat.old }
     requires wait_free { is_wait_free call ≡ true }
     ensures { M.ended site.now seat.old call result seat.new }
 {
-    let kind = site.kind(seat);
+    let kind = M::kind(site, seat);
     let (call, mut carried) = call.split();
-    let mut local: Local<B> = call_steps::start(kind, call);
-    let mut answer: Answer<B> = Answer::Start;
+    let mut local: Local<M::Block> = call_steps::start(kind, call);
+    let mut answer: Answer<M::Block> = Answer::Start;
     for _ in 0..WAIT_FREE_STEPS + 1 {
         let todo = M::Steps::next(kind, local, answer);
         match todo {
             Next::Reply(reply, spare) => {
-                end(site, seat, spare);
+                end::<M>(site, seat, spare);
                 return Reply::fill(reply, carried);
             }
             Next::Step(after, touch, op) => {
                 gate.pass(&op);
-                answer = site.take_step(seat, &call, &after, touch, op, &mut carried);
+                answer = M::take_step(site, seat, &call, &after, touch, op, &mut carried);
                 local = after;
             }
         }

@@ -21,15 +21,15 @@ use std::ops::ControlFlow;
 /// Steps one after another, until there is a reply or no more of them.
 ///
 /// How far the call is is lent to them: if they returned it, each way out of a step would write it to memory.
-pub trait Row<T, B: Copy, S, M: Site<T, B, S>, G: Gate> {
+pub trait Row<M: Site, G: Gate> {
     fn run(
-        site: &M,
+        site: &M::Shared,
         gate: &G,
         kind: Kind,
         call: CallKind,
-        seat: &mut S,
-        progress: &mut Progress<B>,
-        carried: &mut Option<T>,
+        seat: &mut M::Seat,
+        progress: &mut Progress<M::Block>,
+        carried: &mut Option<M::Item>,
     ) -> ControlFlow<ReplyKind>
         requires { (n : ℕ) × IsUnderWay M.Site n kind call site.now progress.old carried.old seat.old }
         ensures { StaysOnWay M.Site kind call site.now progress.old carried.old seat.old progress.new carried.new seat.new result };
@@ -40,16 +40,16 @@ pub struct Rest<W> {
     told_apart: PhantomData<W>,
 }
 
-impl<T, B: Copy, S, M: Site<T, B, S>, G: Gate, W> Row<T, B, S, M, G> for Rest<W> {
+impl<M: Site, G: Gate, W> Row<M, G> for Rest<W> {
     #[inline(always)]
     fn run(
-        site: &M,
+        site: &M::Shared,
         gate: &G,
         kind: Kind,
         call: CallKind,
-        seat: &mut S,
-        progress: &mut Progress<B>,
-        carried: &mut Option<T>,
+        seat: &mut M::Seat,
+        progress: &mut Progress<M::Block>,
+        carried: &mut Option<M::Item>,
     ) -> ControlFlow<ReplyKind>
         requires { (n : ℕ) × IsUnderWay M.Site n kind call site.now progress.old carried.old seat.old }
         ensures { StaysOnWay M.Site kind call site.now progress.old carried.old seat.old progress.new carried.new seat.new result }
@@ -70,17 +70,16 @@ pub struct Fast<R> {
     rest: PhantomData<R>,
 }
 
-impl<T, B: Copy, S, M: Site<T, B, S>, G: Gate, R: Row<T, B, S, M, G>> Row<T, B, S, M, G>
-    for Fast<R> {
+impl<M: Site, G: Gate, R: Row<M, G>> Row<M, G> for Fast<R> {
     #[inline(always)]
     fn run(
-        site: &M,
+        site: &M::Shared,
         gate: &G,
         kind: Kind,
         call: CallKind,
-        seat: &mut S,
-        progress: &mut Progress<B>,
-        carried: &mut Option<T>,
+        seat: &mut M::Seat,
+        progress: &mut Progress<M::Block>,
+        carried: &mut Option<M::Item>,
     ) -> ControlFlow<ReplyKind>
         requires { (n : ℕ) × IsUnderWay M.Site n kind call site.now progress.old carried.old seat.old }
         ensures { StaysOnWay M.Site kind call site.now progress.old carried.old seat.old progress.new carried.new seat.new result }
@@ -92,7 +91,7 @@ impl<T, B: Copy, S, M: Site<T, B, S>, G: Gate, R: Row<T, B, S, M, G>> Row<T, B, 
             local: progress.local,
             answer: progress.answer,
         };
-        match fast_step::<T, B, S, M, G, R>(site, gate, kind, call, seat, now, carried) {
+        match fast_step::<M, G, R>(site, gate, kind, call, seat, now, carried) {
             ControlFlow::Break(reply) => ControlFlow::Break(reply),
             ControlFlow::Continue(after) => {
                 *progress = after;
@@ -107,22 +106,16 @@ pub struct AtStage<const STAGE: u64, R> {
     rest: PhantomData<R>,
 }
 
-impl<T, B: Copy, S, M: Site<T, B, S>, G: Gate, const STAGE: u64, R: Row<T, B, S, M, G>> Row<
-    T,
-    B,
-    S,
-    M,
-    G,
-> for AtStage<STAGE, R> {
+impl<M: Site, G: Gate, const STAGE: u64, R: Row<M, G>> Row<M, G> for AtStage<STAGE, R> {
     #[inline(always)]
     fn run(
-        site: &M,
+        site: &M::Shared,
         gate: &G,
         kind: Kind,
         call: CallKind,
-        seat: &mut S,
-        progress: &mut Progress<B>,
-        carried: &mut Option<T>,
+        seat: &mut M::Seat,
+        progress: &mut Progress<M::Block>,
+        carried: &mut Option<M::Item>,
     ) -> ControlFlow<ReplyKind>
         requires { (n : ℕ) × IsUnderWay M.Site n kind call site.now progress.old carried.old seat.old }
         ensures { StaysOnWay M.Site kind call site.now progress.old carried.old seat.old progress.new carried.new seat.new result }
@@ -137,7 +130,7 @@ impl<T, B: Copy, S, M: Site<T, B, S>, G: Gate, const STAGE: u64, R: Row<T, B, S,
             local: progress.local,
             answer: progress.answer,
         };
-        match passing_step::<T, B, S, M, G, R>(site, gate, kind, call, seat, now, carried) {
+        match passing_step::<M, G, R>(site, gate, kind, call, seat, now, carried) {
             ControlFlow::Break(reply) => ControlFlow::Break(reply),
             ControlFlow::Continue(after) => {
                 *progress = after;
@@ -176,22 +169,22 @@ type Passes = AtStage<
 
 /// The steps of a call that comes to a block's end. The compiler knows in those of each arm where the call stands.
 #[inline(always)]
-pub(crate) fn pass_block_end<T, B: Copy, S, M: Site<T, B, S>, G: Gate>(
-    site: &M,
+pub(crate) fn pass_block_end<M: Site, G: Gate>(
+    site: &M::Shared,
     gate: &G,
     kind: Kind,
     call: CallKind,
-    seat: &mut S,
-    progress: &mut Progress<B>,
-    carried: &mut Option<T>,
+    seat: &mut M::Seat,
+    progress: &mut Progress<M::Block>,
+    carried: &mut Option<M::Item>,
 ) -> ControlFlow<ReplyKind>
     requires { (n : ℕ) × IsUnderWay M.Site n kind call site.now progress.old carried.old seat.old }
     ensures { StaysOnWay M.Site kind call site.now progress.old carried.old seat.old progress.new carried.new seat.new result }
 {
     if is_at(PUSH_BLOCK, &progress.local) {
-        <Lays as Row<T, B, S, M, G>>::run(site, gate, kind, call, seat, progress, carried)
+        <Lays as Row<M, G>>::run(site, gate, kind, call, seat, progress, carried)
     } else if is_at(TAKING, &progress.local) {
-        <Passes as Row<T, B, S, M, G>>::run(site, gate, kind, call, seat, progress, carried)
+        <Passes as Row<M, G>>::run(site, gate, kind, call, seat, progress, carried)
     } else {
         ControlFlow::Continue(())
     }

@@ -15,11 +15,22 @@ use call_steps::KindSteps;
 use queue_steps::model::{Call, CallKind, Reply, ReplyKind};
 use queue_steps::sizes::SOLO_STEPS;
 use queue_steps::steps::{Answer, Kind, Local, Next, Op, Touch};
+use std::marker::PhantomData;
 
-/// One owner. What the steps of its calls are done with is the cells themselves.
-pub struct Own;
+/// One owner. What the steps of its calls are done with is the cells themselves, and nothing is shared.
+pub struct Own<C> {
+    of: PhantomData<C>,
+}
 
-impl<T, B: Copy, C: OwnCells<T, B>> Site<T, B, C> for Own {
+impl<C: OwnCells> Site for Own<C> {
+    type Shared = ();
+
+    type Item = C::Item;
+
+    type Block = C::Block;
+
+    type Seat = C;
+
     type Steps = C::Steps;
 
     ghost use Rattle.call_driver.specs.Own.{EndsRightFrom, Ended};
@@ -50,20 +61,20 @@ impl<T, B: Copy, C: OwnCells<T, B>> Site<T, B, C> for Own {
     ghost more = { own_more C.can_touch C.touches C.can_perform C.performs C.can_release C.releases C.idle C.owned C.kind_of };
 
     #[inline(always)]
-    fn kind(&self, cells: &C) -> Kind {
+    fn kind(_site: &(), cells: &C) -> Kind {
         cells.kind()
     }
 
     #[inline(always)]
     fn take_step(
-        &self,
+        _site: &(),
         cells: &mut C,
         call: &CallKind,
-        local: &Local<B>,
+        local: &Local<C::Block>,
         touch: Touch,
-        op: Op<B>,
-        carried: &mut Option<T>,
-    ) -> Answer<B>
+        op: Op<C::Block>,
+        carried: &mut Option<C::Item>,
+    ) -> Answer<C::Block>
         requires { MayTake C.can_touch C.touches C.can_perform C.performs cells.old touch op carried.old }
         ensures { Took C.can_touch C.touches C.can_perform C.performs cells.old touch op carried.old result cells.new carried.new }
     {
@@ -74,12 +85,12 @@ impl<T, B: Copy, C: OwnCells<T, B>> Site<T, B, C> for Own {
     }
 
     #[inline(always)]
-    fn give_up(&self, cells: &mut C, block: B) {
+    fn give_up(_site: &(), cells: &mut C, block: C::Block) {
         cells.release(block);
     }
 }
 
-impl<T, B: Copy, C: OwnCells<T, B>> SoloSite<T, B, C> for Own {
+impl<C: OwnCells> SoloSite for Own<C> {
     ghost ends = { λ _ first c l a cells x stands. stands.1 };
 }
 
@@ -87,28 +98,28 @@ impl<T, B: Copy, C: OwnCells<T, B>> SoloSite<T, B, C> for Own {
 ///
 /// The place of the value that the call carries is lent, and then holds what it ends with: as a part of the reply it would be copied at each way out of a step.
 #[inline(always)]
-pub fn drive<T, B: Copy, C: OwnCells<T, B>, W>(
+pub fn drive<C: OwnCells, W>(
     cells: &mut C,
     call: CallKind,
-    carried: &mut Option<T>,
+    carried: &mut Option<C::Item>,
 ) -> ReplyKind
     requires idle { C.idle cells.old }
     requires whole { FitsCall call carried.old }
     ensures idle { C.idle cells.new }
     ensures sequential { SequentialApart (C.owned cells.old) call carried.old result carried.new (C.owned cells.new) }
 {
-    drive_at::<T, B, C, Own, Open, Within, Usual<W>>(&Own, &Open, Within, cells, call, carried)
+    drive_at::<Own<C>, Open, Within, Usual<W>>(&(), &Open, Within, cells, call, carried)
 }
 
 /// Runs a call to its end, in the loop alone.
-pub fn drive_in_loop<T, B: Copy, C: OwnCells<T, B>>(cells: &mut C, call: Call<T>) -> Reply<T>
+pub fn drive_in_loop<C: OwnCells>(cells: &mut C, call: Call<C::Item>) -> Reply<C::Item>
     requires { C.idle cells.old }
     ensures idle { C.idle cells.new }
     ensures sequential { Sequential (C.owned cells.old) call result (C.owned cells.new) }
 {
     let (call, mut carried) = call.split();
-    let reply = drive_in_loop_at::<T, B, C, Own, Open, Within>(
-        &Own,
+    let reply = drive_in_loop_at::<Own<C>, Open, Within>(
+        &(),
         &Open,
         Within,
         cells,
@@ -120,14 +131,14 @@ pub fn drive_in_loop<T, B: Copy, C: OwnCells<T, B>>(cells: &mut C, call: Call<T>
 
 /// Runs a call that changes nothing to its end.
 #[inline(always)]
-pub fn observe<T, B: Copy, C: OwnCells<T, B>>(cells: &C, call: CallKind) -> ReplyKind
+pub fn observe<C: OwnCells>(cells: &C, call: CallKind) -> ReplyKind
     requires idle { C.idle cells.now }
     requires look { IsLook call }
     ensures { result ≡ look_reply (C.owned cells.now).queue call }
 {
     let kind = cells.kind();
-    let mut local: Local<B> = call_steps::start(kind, call);
-    let mut answer: Answer<B> = Answer::Start;
+    let mut local: Local<C::Block> = call_steps::start(kind, call);
+    let mut answer: Answer<C::Block> = Answer::Start;
     for _ in 0..SOLO_STEPS {
         let todo = C::Steps::next(kind, local, answer);
         match todo {

@@ -15,20 +15,20 @@ use std::ops::ControlFlow;
 
 /// The steps of a call that walks over a block, until it does another. The compiler knows in this loop where the call stands.
 #[inline(always)]
-fn walk<T, B: Copy, S, M: Site<T, B, S>, G: Gate>(
-    site: &M,
+fn walk<M: Site, G: Gate>(
+    site: &M::Shared,
     gate: &G,
     kind: Kind,
     call: CallKind,
-    seat: &mut S,
-    progress: Progress<B>,
-    carried: &mut Option<T>,
-) -> ControlFlow<ReplyKind, Progress<B>>
+    seat: &mut M::Seat,
+    progress: Progress<M::Block>,
+    carried: &mut Option<M::Item>,
+) -> ControlFlow<ReplyKind, Progress<M::Block>>
     requires walk { is_walk_of kind progress.local progress.answer ≡ true }
     requires on_way { (n : ℕ) × IsUnderWay M.Site n kind call site.now progress carried.old seat.old }
     ensures { TakesStep M.Site kind call site.now progress carried.old seat.old carried.new seat.new result }
 {
-    let mut progress = match walking_step::<T, B, S, M, G, 1>(
+    let mut progress = match walking_step::<M, G, 1>(
         site, gate, kind, call, seat, progress, carried,
     ) {
         ControlFlow::Break(reply) => return ControlFlow::Break(reply),
@@ -38,7 +38,7 @@ fn walk<T, B: Copy, S, M: Site<T, B, S>, G: Gate>(
         if !M::Steps::is_walk(kind, &progress.local, &progress.answer) {
             break;
         }
-        match walking_step::<T, B, S, M, G, 2>(site, gate, kind, call, seat, progress, carried) {
+        match walking_step::<M, G, 2>(site, gate, kind, call, seat, progress, carried) {
             ControlFlow::Break(reply) => return ControlFlow::Break(reply),
             ControlFlow::Continue(after) => progress = after,
         }
@@ -48,37 +48,37 @@ fn walk<T, B: Copy, S, M: Site<T, B, S>, G: Gate>(
 
 /// One round of a loop. The walk over a block is most of what a call does there that meets no other.
 #[inline(always)]
-pub fn retry<T, B: Copy, S, M: Site<T, B, S>, G: Gate>(
-    site: &M,
+pub fn retry<M: Site, G: Gate>(
+    site: &M::Shared,
     gate: &G,
     kind: Kind,
     call: CallKind,
-    seat: &mut S,
-    progress: Progress<B>,
-    carried: &mut Option<T>,
-) -> ControlFlow<ReplyKind, Progress<B>>
+    seat: &mut M::Seat,
+    progress: Progress<M::Block>,
+    carried: &mut Option<M::Item>,
+) -> ControlFlow<ReplyKind, Progress<M::Block>>
     requires { (n : ℕ) × IsUnderWay M.Site n kind call site.now progress carried.old seat.old }
     ensures { TakesStep M.Site kind call site.now progress carried.old seat.old carried.new seat.new result }
 {
     if M::Steps::is_walk(kind, &progress.local, &progress.answer) {
-        walk(site, gate, kind, call, seat, progress, carried)
+        walk::<M, G>(site, gate, kind, call, seat, progress, carried)
     } else {
-        any_step(site, gate, kind, call, seat, progress, carried)
+        any_step::<M, G>(site, gate, kind, call, seat, progress, carried)
     }
 }
 
 /// How a call comes to its end, once no step is known to be common.
-pub trait End<T, B: Copy, S, M: Site<T, B, S>> {
+pub trait End<M: Site> {
     /// Takes steps in a loop until the reply.
     fn finish<G: Gate>(
         self,
-        site: &M,
+        site: &M::Shared,
         gate: &G,
         kind: Kind,
         call: CallKind,
-        seat: &mut S,
-        progress: Progress<B>,
-        carried: &mut Option<T>,
+        seat: &mut M::Seat,
+        progress: Progress<M::Block>,
+        carried: &mut Option<M::Item>,
     ) -> ReplyKind
         requires { CanEnd M.Site kind call site.now progress carried.old seat.old }
         ensures { EndsRightly M.Site kind call site.now progress carried.old seat.old carried.new seat.new result };
@@ -88,23 +88,23 @@ pub trait End<T, B: Copy, S, M: Site<T, B, S>> {
 #[derive(Drop)]
 pub struct Within;
 
-impl<T, B: Copy, S, M: SoloSite<T, B, S>> End<T, B, S, M> for Within {
+impl<M: SoloSite> End<M> for Within {
     fn finish<G: Gate>(
         self,
-        site: &M,
+        site: &M::Shared,
         gate: &G,
         kind: Kind,
         call: CallKind,
-        seat: &mut S,
-        progress: Progress<B>,
-        carried: &mut Option<T>,
+        seat: &mut M::Seat,
+        progress: Progress<M::Block>,
+        carried: &mut Option<M::Item>,
     ) -> ReplyKind
         requires { CanEnd M.Site kind call site.now progress carried.old seat.old }
         ensures { EndsRightly M.Site kind call site.now progress carried.old seat.old carried.new seat.new result }
     {
         let mut progress = progress;
         for _ in 0..SOLO_STEPS {
-            match retry(site, gate, kind, call, seat, progress, carried) {
+            match retry::<M, G>(site, gate, kind, call, seat, progress, carried) {
                 ControlFlow::Break(reply) => return reply,
                 ControlFlow::Continue(after) => progress = after,
             }

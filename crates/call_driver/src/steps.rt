@@ -14,12 +14,12 @@ use std::ops::ControlFlow;
 
 /// Gives up the block that a reply hands out.
 #[inline(always)]
-pub(crate) fn end<T, B: Copy, S, M: Site<T, B, S>>(site: &M, seat: &mut S, spare: Option<B>)
+pub(crate) fn end<M: Site>(site: &M::Shared, seat: &mut M::Seat, spare: Option<M::Block>)
     requires { MayGive M.spares site.now seat.old spare }
     ensures { Gave M.gives site.now seat.old spare seat.new }
 {
     if let Some(block) = spare {
-        site.give_up(seat, block);
+        M::give_up(site, seat, block);
     }
 }
 
@@ -28,12 +28,12 @@ macro_rules! take_step {
     ($site:ident, $gate:ident, $call:ident, $seat:ident, $todo:ident, $carried:ident) => {
         match $todo {
             Next::Reply(reply, spare) => {
-                end($site, $seat, spare);
+                end::<M>($site, $seat, spare);
                 ControlFlow::Break(reply)
             }
             Next::Step(after, touch, op) => {
                 $gate.pass(&op);
-                let answer = $site.take_step($seat, &$call, &after, touch, op, $carried);
+                let answer = M::take_step($site, $seat, &$call, &after, touch, op, $carried);
                 ControlFlow::Continue(Progress {
                     local: after,
                     answer,
@@ -47,15 +47,15 @@ macro_rules! take_step {
 ///
 /// The compiler puts a private function where its only call stands. `R` tells the calls of this one apart, so that each is a function of its own.
 #[inline(always)]
-pub(crate) fn fast_step<T, B: Copy, S, M: Site<T, B, S>, G: Gate, R>(
-    site: &M,
+pub(crate) fn fast_step<M: Site, G: Gate, R>(
+    site: &M::Shared,
     gate: &G,
     kind: Kind,
     call: CallKind,
-    seat: &mut S,
-    progress: Progress<B>,
-    carried: &mut Option<T>,
-) -> ControlFlow<ReplyKind, Progress<B>>
+    seat: &mut M::Seat,
+    progress: Progress<M::Block>,
+    carried: &mut Option<M::Item>,
+) -> ControlFlow<ReplyKind, Progress<M::Block>>
     requires common { is_common_of kind progress.local progress.answer ≡ true }
     requires on_way { (n : ℕ) × IsUnderWay M.Site n kind call site.now progress carried.old seat.old }
     ensures { TakesStep M.Site kind call site.now progress carried.old seat.old carried.new seat.new result }
@@ -67,15 +67,15 @@ pub(crate) fn fast_step<T, B: Copy, S, M: Site<T, B, S>, G: Gate, R>(
 
 /// A step from block to block. `R` tells the calls of this one apart.
 #[inline(always)]
-pub(crate) fn passing_step<T, B: Copy, S, M: Site<T, B, S>, G: Gate, R>(
-    site: &M,
+pub(crate) fn passing_step<M: Site, G: Gate, R>(
+    site: &M::Shared,
     gate: &G,
     kind: Kind,
     call: CallKind,
-    seat: &mut S,
-    progress: Progress<B>,
-    carried: &mut Option<T>,
-) -> ControlFlow<ReplyKind, Progress<B>>
+    seat: &mut M::Seat,
+    progress: Progress<M::Block>,
+    carried: &mut Option<M::Item>,
+) -> ControlFlow<ReplyKind, Progress<M::Block>>
     requires other { is_common_of kind progress.local progress.answer ≡ false }
     requires passing { is_passing_of kind progress.local progress.answer ≡ true }
     requires on_way { (n : ℕ) × IsUnderWay M.Site n kind call site.now progress carried.old seat.old }
@@ -88,15 +88,15 @@ pub(crate) fn passing_step<T, B: Copy, S, M: Site<T, B, S>, G: Gate, R>(
 
 /// A step of the walk over a block. `AT` tells the calls of this one apart.
 #[inline(always)]
-pub(crate) fn walking_step<T, B: Copy, S, M: Site<T, B, S>, G: Gate, const AT: u64>(
-    site: &M,
+pub(crate) fn walking_step<M: Site, G: Gate, const AT: u64>(
+    site: &M::Shared,
     gate: &G,
     kind: Kind,
     call: CallKind,
-    seat: &mut S,
-    progress: Progress<B>,
-    carried: &mut Option<T>,
-) -> ControlFlow<ReplyKind, Progress<B>>
+    seat: &mut M::Seat,
+    progress: Progress<M::Block>,
+    carried: &mut Option<M::Item>,
+) -> ControlFlow<ReplyKind, Progress<M::Block>>
     requires walk { is_walk_of kind progress.local progress.answer ≡ true }
     requires on_way { (n : ℕ) × IsUnderWay M.Site n kind call site.now progress carried.old seat.old }
     ensures { TakesStep M.Site kind call site.now progress carried.old seat.old carried.new seat.new result }
@@ -108,15 +108,15 @@ pub(crate) fn walking_step<T, B: Copy, S, M: Site<T, B, S>, G: Gate, const AT: u
 
 /// A step, whatever it is.
 #[inline(always)]
-pub(crate) fn any_step<T, B: Copy, S, M: Site<T, B, S>, G: Gate>(
-    site: &M,
+pub(crate) fn any_step<M: Site, G: Gate>(
+    site: &M::Shared,
     gate: &G,
     kind: Kind,
     call: CallKind,
-    seat: &mut S,
-    progress: Progress<B>,
-    carried: &mut Option<T>,
-) -> ControlFlow<ReplyKind, Progress<B>>
+    seat: &mut M::Seat,
+    progress: Progress<M::Block>,
+    carried: &mut Option<M::Item>,
+) -> ControlFlow<ReplyKind, Progress<M::Block>>
     requires { (n : ℕ) × IsUnderWay M.Site n kind call site.now progress carried.old seat.old }
     ensures { TakesStep M.Site kind call site.now progress carried.old seat.old carried.new seat.new result }
 {

@@ -16,7 +16,7 @@ abbrev pub IsHeldIn : {T A : Type 0} → Form T A → SeatPlace T → Type 0
 IsHeldIn f p = IsHeld p × IsPartyOf (party_view_of p) (form_id f)
 
 -- the call c that the party with the seat `first` began at this queue's table has left its fast steps, and stands there
-abbrev pub HasLeft : {T A M N K J : Type 0} → Ghosts M T ℕ (Seat (Option T) (CallState T)) K → Ghosts N T ℕ (Seat (Option T) (CallState T)) J → (M → Form T A) → (N → Form T A)
+abbrev pub HasLeft : {T A O P M N K J : Type 0} → Ghosts O M T ℕ (Seat (Option T) (CallState T)) K → Ghosts P N T ℕ (Seat (Option T) (CallState T)) J → (M → Form T A) → (N → Form T A)
     → Form T A → Seat (Option T) (CallState T) → Call T → Left T ℕ → Seat (Option T) (CallState T) → Type 0
 HasLeft {M = M} {N = N} slots rings single ring f first c l seat =
     IsHeldIn f (place.Table first) × ((s : M) → f ≡ single s → IsLeft slots s first c l seat) × ((r : N) → f ≡ ring r → IsLeft rings r first c l seat)

@@ -12,7 +12,6 @@ ghost use Rattle.concurrent_queue.specs.Shared.{IsPartyOf, Calls};
 
 pub use crate::party::Party;
 use crate::party::SeatPlace;
-use atomic_table::Seat;
 use call_driver::fast::{Short, Usual};
 use call_driver::gate::{Gate, Open};
 use call_steps::{shown_len, shows_closed};
@@ -25,7 +24,6 @@ use shared_calls::chain;
 use shared_calls::waiting::{run_either, run_fast, run_slow};
 use shared_chain::source::{Granting, Refusing, Source};
 use shared_chain::web::ChainWeb;
-use shared_parties::known::CallState;
 use shared_site::allocated_chain::AllocatedChain;
 use shared_tables::ring::{self, Rings, open_ring};
 use shared_tables::slot::{self, Slots, open_slot};
@@ -238,24 +236,17 @@ impl<T, A: Allocator> ConcurrentQueue<T, A> {
         // In place, as in `pop`: each function that may wait costs a test behind its call. And by form, so that what a ring leaves is put together for a ring.
         let reply = match (&self.form, &mut party.place) {
             (Form::Single(slot), SeatPlace::Table(seat)) => {
-                match run_fast::<
-                    T,
-                    usize,
-                    Seat<Option<T>, CallState<T>>,
-                    SharedTable<T, Slots, A>,
-                    Open,
-                    Short<Pushes>,
-                >(slot, &Open, seat, call)
-                {
+                match run_fast::<SharedTable<T, Slots, A>, Open, Short<Pushes>>(
+                    slot, &Open, seat, call,
+                ) {
                     ControlFlow::Break(reply) => reply,
-                    ControlFlow::Continue(left) => run_slow(slot, rt, &Open, seat, left),
+                    ControlFlow::Continue(left) => run_slow::<SharedTable<T, Slots, A>, Open, R>(
+                        slot, rt, &Open, seat, left,
+                    ),
                 }
             }
             (Form::Ring(ring), SeatPlace::Table(seat)) => {
                 match run_either::<
-                    T,
-                    usize,
-                    Seat<Option<T>, CallState<T>>,
                     SharedTable<T, Rings, A>,
                     Open,
                     Usual<Masked<Pushes>>,
@@ -263,7 +254,9 @@ impl<T, A: Allocator> ConcurrentQueue<T, A> {
                 >(ring.slots().is_power_of_two(), ring, &Open, seat, call)
                 {
                     ControlFlow::Break(reply) => reply,
-                    ControlFlow::Continue(left) => run_slow(ring, rt, &Open, seat, left),
+                    ControlFlow::Continue(left) => run_slow::<SharedTable<T, Rings, A>, Open, R>(
+                        ring, rt, &Open, seat, left,
+                    ),
                 }
             }
             (Form::Chain(chain), SeatPlace::Web(rested)) => {

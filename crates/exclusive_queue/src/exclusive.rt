@@ -103,7 +103,7 @@ fn give_up<T: Drop, A: Allocator>(mut blocks: LinkedBlocks<T, A>)
     requires { IsOwnChainIdle blocks }
 {
     loop {
-        match drive_in_loop::<T, Name<T>, LinkedBlocks<T, A>>(&mut blocks, Call::Pop) {
+        match drive_in_loop::<LinkedBlocks<T, A>>(&mut blocks, Call::Pop) {
             Reply::Pop(result) => match result {
                 Ok(item) => drop(item),
                 Err(_) => break,

@@ -229,7 +229,11 @@ impl<T, A: Allocator> Ring<T, A> {
     }
 }
 
-impl<T, A: Allocator> OwnCells<T, usize> for Ring<T, A> {
+impl<T, A: Allocator> OwnCells for Ring<T, A> {
+    type Item = T;
+
+    type Block = usize;
+
     type Steps = RingSteps;
 
     ghost use Rattle.own_bounded.specs.RingCells.{RingState, kind_of_ring, ring_can_touch, ring_touches, ring_can_perform, ring_performs, ring_can_release, ring_releases};

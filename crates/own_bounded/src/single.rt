@@ -26,7 +26,11 @@ impl<T> Single<T> {
     }
 }
 
-impl<T> OwnCells<T, ()> for Single<T> {
+impl<T> OwnCells for Single<T> {
+    type Item = T;
+
+    type Block = ();
+
     type Steps = SlotSteps;
 
     ghost use Rattle.own_bounded.specs.SingleCells.{kind_of_single, IsIdle, single_owned, single_can_touch, single_touches, single_can_perform, single_performs, single_can_release, single_releases};

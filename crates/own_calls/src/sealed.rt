@@ -8,7 +8,7 @@ ghost use Rattle.call_driver.specs.Apart.{FitsCall, SequentialApart};
 use call_driver::own::{drive, observe};
 use own_bounded::bounded::Ring;
 use own_bounded::single::Single;
-use own_unbounded::unbounded::{LinkedBlocks, Name};
+use own_unbounded::unbounded::LinkedBlocks;
 use queue_steps::model::{CallKind, ReplyKind};
 use std::alloc::Allocator;
 
@@ -53,12 +53,12 @@ impl<T> Sealed<T> for Single<T> {
         ensures idle { IsIdle self.new }
         ensures sequential { SequentialApart (single_owned self.old) call carried.old result carried.new (single_owned self.new) }
     {
-        drive::<T, (), Single<T>, W>(self, call, carried)
+        drive::<Single<T>, W>(self, call, carried)
     }
 
     #[inline(always)]
     fn look(&self, call: CallKind) -> ReplyKind {
-        observe::<T, (), Single<T>>(self, call)
+        observe::<Single<T>>(self, call)
     }
 
     fn show_sound(&self) {}
@@ -78,12 +78,12 @@ impl<T, A: Allocator> Sealed<T> for Ring<T, A> {
         ensures idle { IsIdle self.new }
         ensures sequential { SequentialApart (ring_owned self.old) call carried.old result carried.new (ring_owned self.new) }
     {
-        drive::<T, usize, Ring<T, A>, W>(self, call, carried)
+        drive::<Ring<T, A>, W>(self, call, carried)
     }
 
     #[inline(always)]
     fn look(&self, call: CallKind) -> ReplyKind {
-        observe::<T, usize, Ring<T, A>>(self, call)
+        observe::<Ring<T, A>>(self, call)
     }
 
     fn show_sound(&self) {}
@@ -103,12 +103,12 @@ impl<T, A: Allocator> Sealed<T> for LinkedBlocks<T, A> {
         ensures idle { IsIdle self.new }
         ensures sequential { SequentialApart (own_chain_owned self.old) call carried.old result carried.new (own_chain_owned self.new) }
     {
-        drive::<T, Name<T>, LinkedBlocks<T, A>, W>(self, call, carried)
+        drive::<LinkedBlocks<T, A>, W>(self, call, carried)
     }
 
     #[inline(always)]
     fn look(&self, call: CallKind) -> ReplyKind {
-        observe::<T, Name<T>, LinkedBlocks<T, A>>(self, call)
+        observe::<LinkedBlocks<T, A>>(self, call)
     }
 
     fn show_sound(&self) {}

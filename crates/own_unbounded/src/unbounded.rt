@@ -77,7 +77,11 @@ fn state_block<T>(op: &Op<Name<T>>) -> Option<Name<T>>
     }
 }
 
-impl<T, A: Allocator> OwnCells<T, Name<T>> for LinkedBlocks<T, A> {
+impl<T, A: Allocator> OwnCells for LinkedBlocks<T, A> {
+    type Item = T;
+
+    type Block = Name<T>;
+
     type Steps = ChainSteps;
 
     ghost use Rattle.own_unbounded.specs.OwnChainCells.{OwnChain, kind_of_own_chain, own_chain_can_touch, own_chain_touches, own_chain_can_perform, own_chain_performs, own_chain_can_release, own_chain_releases};

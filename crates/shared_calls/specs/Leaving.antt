@@ -6,5 +6,5 @@ use Rattle.call_driver.specs.declared.site.Site.{Ghosts}
 use Rattle.shared_site.specs.declared.left.Left.{Left}
 
 -- the call c, begun by the seat `first`, stands there, and ends within the steps that a call takes at most which runs alone
-abbrev pub IsLeft : {T B S M K : Type 0} → Ghosts M T B S K → M → S → Call T → Left T B → S → Type 0
+abbrev pub IsLeft : {O M T B S K : Type 0} → Ghosts O M T B S K → M → S → Call T → Left T B → S → Type 0
 IsLeft m site first c left seat = OnWay m (SOLO_STEPS - 1) left.kind left.call site first c left.progress left.carried seat

@@ -11,7 +11,7 @@ abbrev pub IsStep : {B : Type 0} → Next B → Type 0
 IsStep (Next.Step l t o) = Unit {0}
 IsStep (Next.Reply r spare) = ⊥
 
-module _ {T B S M K : Type 0} (m : Ghosts M T B S K) where
+module _ {O M T B S K : Type 0} (m : Ghosts O M T B S K) where
   -- the call c, begun by the seat `first`, has taken a step, and stands there
   abbrev pub IsStood : M → S → Call T → Left T B → S → Type 0
   IsStood site first c left seat = Stood m (SOLO_STEPS - 1) left.kind left.call site first c left.progress left.carried seat

@@ -8,7 +8,7 @@ use Rattle.call_driver.specs.declared.site.Site.{Ghosts}
 use Rattle.shared_calls.specs.Leaving.{IsLeft}
 use Rattle.shared_site.specs.declared.left.Left.{Left}
 
-module _ {T B S M K : Type 0} (m : Ghosts M T B S K) where
+module _ {O M T B S K : Type 0} (m : Ghosts O M T B S K) where
   -- some call that is one of these stands there
   abbrev pub SomeLeft : (Call T → Type 0) → M → Left T B → S → Type 0
   SomeLeft Is site left seat = (c : Call T) × Is c × (first : S) × IsLeft m site first c left seat

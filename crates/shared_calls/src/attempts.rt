@@ -41,15 +41,15 @@ pub fn end_or_quit_at<T, K: TableSteps<T>, A: Allocator>(
     seat: &mut Seat<Option<T>, CallState<T>>,
     left: Left<T, usize>,
 ) -> ControlFlow<Reply<T>, Option<T>>
-    requires left { SomeLeft ⟦<SharedTable<T, K, A> as Site<T, usize, Seat<Option<T>, CallState<T>>>>⟧ (λ c. Unit {0}) table.now left seat.old }
+    requires left { SomeLeft ⟦<SharedTable<T, K, A> as Site>⟧ (λ c. Unit {0}) table.now left seat.old }
     requires ends { (todo : SpecNext ℕ) → ¬ (MayWait (K.layout table.now.table.shared.table_id.slots).calls.kind todo) }
-    ensures { EndsOrQuits ⟦<SharedTable<T, K, A> as Site<T, usize, Seat<Option<T>, CallState<T>>>>⟧ (cap_of (K.layout table.now.table.shared.table_id.slots).calls) table.now left seat.old result seat.new }
+    ensures { EndsOrQuits ⟦<SharedTable<T, K, A> as Site>⟧ (cap_of (K.layout table.now.table.shared.table_id.slots).calls) table.now left seat.old result seat.new }
 {
-    let left = match carry_on(table, &Open, seat, left) {
+    let left = match carry_on::<SharedTable<T, K, A>, Open>(table, &Open, seat, left) {
         ControlFlow::Break(answer) => return ControlFlow::Break(answer),
         ControlFlow::Continue(left) => left,
     };
-    let left = match settle(table, &Open, seat, left) {
+    let left = match settle::<SharedTable<T, K, A>, Open>(table, &Open, seat, left) {
         ControlFlow::Break(answer) => return ControlFlow::Break(answer),
         ControlFlow::Continue(left) => left,
     };
@@ -67,15 +67,15 @@ fn end_or_quit_in<T, A: NullTestable>(
     asking: &mut Asking<T, A, Granting>,
     left: Left<T, Place<T>>,
 ) -> ControlFlow<Reply<T>, Option<T>>
-    requires { SomeLeft ⟦<AllocatedChain<T, A> as Site<T, Place<T>, Asking<T, A, Granting>>>⟧ (λ c. IsPush c) queue.now left asking.old }
-    ensures { EndsOrQuits ⟦<AllocatedChain<T, A> as Site<T, Place<T>, Asking<T, A, Granting>>>⟧ None queue.now left asking.old result asking.new }
+    requires { SomeLeft ⟦<Asking<T, A, Granting> as Site>⟧ (λ c. IsPush c) queue.now left asking.old }
+    ensures { EndsOrQuits ⟦<Asking<T, A, Granting> as Site>⟧ None queue.now left asking.old result asking.new }
 {
-    let left = match carry_on(queue, &Open, asking, left) {
+    let left = match carry_on::<Asking<T, A, Granting>, Open>(queue, &Open, asking, left) {
         ControlFlow::Break(answer) => return ControlFlow::Break(answer),
         ControlFlow::Continue(left) => left,
     };
     queue.chain.look(&mut asking.seat);
-    let left = match settle(queue, &Open, asking, left) {
+    let left = match settle::<Asking<T, A, Granting>, Open>(queue, &Open, asking, left) {
         ControlFlow::Break(answer) => return ControlFlow::Break(answer),
         ControlFlow::Continue(left) => left,
     };
@@ -108,15 +108,12 @@ pub fn attempt_in<T, A: NullTestable, W>(
     ensures { MatchControlFlow result (λ value. EndedAt party.old calls.Capacity (replies.Capacity None) party.new × (value ≡ call_value call)) (λ answer. EndedAt party.old call answer party.new) }
 {
     let mut asking: Asking<T, A, Granting> = Asking::wake(&queue.chain, party);
-    let told = match run_fast::<
-        T,
-        Place<T>,
-        Asking<T, A, Granting>,
-        AllocatedChain<T, A>,
-        Open,
-        Usual<W>,
-    >(queue, &Open, &mut asking, call)
-    {
+    let told = match run_fast::<Asking<T, A, Granting>, Open, Usual<W>>(
+        queue,
+        &Open,
+        &mut asking,
+        call,
+    ) {
         ControlFlow::Break(answer) => ControlFlow::Break(answer),
         ControlFlow::Continue(left) => retold(end_or_quit_in(queue, &mut asking, left.apart())),
     };

@@ -8,7 +8,6 @@ use crate::waiting::{run_fast, run_slow};
 use call_driver::driver::drive_wait_free;
 use call_driver::fast::Usual;
 use call_driver::gate::Gate;
-use mem_blocks::item::Place;
 use mem_blocks::web::Rested;
 use queue_steps::model::{Call, Reply};
 use shared_chain::source::{Refusing, Source};
@@ -32,14 +31,15 @@ pub fn answer<T, A: Allocator, Q: Source<T, A>, G: Gate, R: Wait, W>(
     ensures { EndedAt party.old call result party.new }
 {
     let mut asking: Asking<T, A, Q> = Asking::wake(&queue.chain, party);
-    let reply = match run_fast::<T, Place<T>, Asking<T, A, Q>, AllocatedChain<T, A>, G, Usual<W>>(
-        queue,
-        gate,
-        &mut asking,
-        call,
-    ) {
+    let reply = match run_fast::<Asking<T, A, Q>, G, Usual<W>>(queue, gate, &mut asking, call) {
         ControlFlow::Break(reply) => reply,
-        ControlFlow::Continue(left) => run_slow(queue, rt, gate, &mut asking, left),
+        ControlFlow::Continue(left) => run_slow::<Asking<T, A, Q>, G, R>(
+            queue,
+            rt,
+            gate,
+            &mut asking,
+            left,
+        ),
     };
     *party = asking.rests();
     reply
@@ -58,7 +58,7 @@ pub fn answer_wait_free<T, A: Allocator, G: Gate>(
     ensures { EndedAt party.old call result party.new }
 {
     let mut asking: Asking<T, A, Refusing> = Asking::wake(&queue.chain, party);
-    let reply = drive_wait_free(queue, gate, &mut asking, call);
+    let reply = drive_wait_free::<Asking<T, A, Refusing>, G>(queue, gate, &mut asking, call);
     *party = asking.rests();
     reply
 }

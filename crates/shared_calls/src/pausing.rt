@@ -27,31 +27,31 @@ use std::ops::ControlFlow;
 const SETTLE_STEPS: usize = 5;
 
 /// Gives up the block that a reply hands out.
-fn give_back<T, B: Copy, S, M: Site<T, B, S>>(site: &M, seat: &mut S, spare: Option<B>)
+fn give_back<M: Site>(site: &M::Shared, seat: &mut M::Seat, spare: Option<M::Block>)
     requires { MayGive M.spares site.now seat.old spare }
     ensures { Gave M.gives site.now seat.old spare seat.new }
 {
     if let Some(block) = spare {
-        site.give_up(seat, block);
+        M::give_up(site, seat, block);
     }
 }
 
 /// What is next of a call that has taken a step: its reply, or else it stands there.
-fn pause<T, B: Copy, S, M: Site<T, B, S>>(
-    site: &M,
+fn pause<M: Site>(
+    site: &M::Shared,
     kind: Kind,
     call: CallKind,
-    seat: &mut S,
-    progress: Progress<B>,
-    carried: Option<T>,
-) -> ControlFlow<Reply<T>, Left<T, B>>
-    requires { (c : SpecCall T) × (first : S) × Stood M.Site (SOLO_STEPS - 1) kind call site.now first c progress carried seat.old }
-    ensures { (c : SpecCall T) (first : S) → Stood M.Site (SOLO_STEPS - 1) kind call site.now first c progress carried seat.old → MatchControlFlow result (λ left. IsPaused M.Site site.now first c left seat.new) (λ reply. M.ended site.now first c reply seat.new) }
+    seat: &mut M::Seat,
+    progress: Progress<M::Block>,
+    carried: Option<M::Item>,
+) -> ControlFlow<Reply<M::Item>, Left<M::Item, M::Block>>
+    requires { (c : SpecCall M.Item) × (first : M.Seat) × Stood M.Site (SOLO_STEPS - 1) kind call site.now first c progress carried seat.old }
+    ensures { (c : SpecCall M.Item) (first : M.Seat) → Stood M.Site (SOLO_STEPS - 1) kind call site.now first c progress carried seat.old → MatchControlFlow result (λ left. IsPaused M.Site site.now first c left seat.new) (λ reply. M.ended site.now first c reply seat.new) }
 {
     let todo = M::Steps::next(kind, progress.local, progress.answer);
     match todo {
         Next::Reply(reply, spare) => {
-            give_back(site, seat, spare);
+            give_back::<M>(site, seat, spare);
             ControlFlow::Break(Reply::fill(reply, carried))
         }
         Next::Step(_, _, _) => ControlFlow::Continue(Left {
@@ -64,14 +64,14 @@ fn pause<T, B: Copy, S, M: Site<T, B, S>>(
 }
 
 /// Takes steps of a call until its reply, or until it has met another call half done; at most as many rounds as a call takes steps that meets no other.
-pub fn carry_on<T, B: Copy, S, M: Site<T, B, S>, G: Gate>(
-    site: &M,
+pub fn carry_on<M: Site, G: Gate>(
+    site: &M::Shared,
     gate: &G,
-    seat: &mut S,
-    left: Left<T, B>,
-) -> ControlFlow<Reply<T>, Left<T, B>>
-    requires { (c : SpecCall T) × (first : S) × IsLeft M.Site site.now first c left seat.old }
-    ensures { (c : SpecCall T) (first : S) → IsLeft M.Site site.now first c left seat.old → MatchControlFlow result (λ paused. IsPaused M.Site site.now first c paused seat.new) (λ reply. M.ended site.now first c reply seat.new) }
+    seat: &mut M::Seat,
+    left: Left<M::Item, M::Block>,
+) -> ControlFlow<Reply<M::Item>, Left<M::Item, M::Block>>
+    requires { (c : SpecCall M.Item) × (first : M.Seat) × IsLeft M.Site site.now first c left seat.old }
+    ensures { (c : SpecCall M.Item) (first : M.Seat) → IsLeft M.Site site.now first c left seat.old → MatchControlFlow result (λ paused. IsPaused M.Site site.now first c paused seat.new) (λ reply. M.ended site.now first c reply seat.new) }
 {
     let Left {
         kind,
@@ -80,7 +80,7 @@ pub fn carry_on<T, B: Copy, S, M: Site<T, B, S>, G: Gate>(
         mut carried,
     } = left;
     let mut before = progress.local;
-    let mut progress = match retry(site, gate, kind, call, seat, progress, &mut carried) {
+    let mut progress = match retry::<M, G>(site, gate, kind, call, seat, progress, &mut carried) {
         ControlFlow::Break(reply) => return ControlFlow::Break(Reply::fill(reply, carried)),
         ControlFlow::Continue(after) => after,
     };
@@ -89,23 +89,23 @@ pub fn carry_on<T, B: Copy, S, M: Site<T, B, S>, G: Gate>(
             break;
         }
         before = progress.local;
-        match retry(site, gate, kind, call, seat, progress, &mut carried) {
+        match retry::<M, G>(site, gate, kind, call, seat, progress, &mut carried) {
             ControlFlow::Break(reply) => return ControlFlow::Break(Reply::fill(reply, carried)),
             ControlFlow::Continue(after) => progress = after,
         }
     }
-    pause(site, kind, call, seat, progress, carried)
+    pause::<M>(site, kind, call, seat, progress, carried)
 }
 
 /// What a call does next, where it has had an effect; or it stands where it has had none.
-fn settle_step<T, B: Copy, S, M: Site<T, B, S>, G: Gate>(
-    site: &M,
+fn settle_step<M: Site, G: Gate>(
+    site: &M::Shared,
     gate: &G,
-    seat: &mut S,
-    left: Left<T, B>,
-) -> ControlFlow<Reply<T>, Left<T, B>>
-    requires { (c : SpecCall T) × (first : S) × IsStood M.Site site.now first c left seat.old }
-    ensures stood { (c : SpecCall T) (first : S) → IsStood M.Site site.now first c left seat.old → MatchControlFlow result (λ on. IsStood M.Site site.now first c on seat.new) (λ reply. M.ended site.now first c reply seat.new) }
+    seat: &mut M::Seat,
+    left: Left<M::Item, M::Block>,
+) -> ControlFlow<Reply<M::Item>, Left<M::Item, M::Block>>
+    requires { (c : SpecCall M.Item) × (first : M.Seat) × IsStood M.Site site.now first c left seat.old }
+    ensures stood { (c : SpecCall M.Item) (first : M.Seat) → IsStood M.Site site.now first c left seat.old → MatchControlFlow result (λ on. IsStood M.Site site.now first c on seat.new) (λ reply. M.ended site.now first c reply seat.new) }
     ensures nearer { ¬ (MayWait left.kind (next_at left)) → MatchControlFlow result (λ on. ¬ (MayWait on.kind (next_at on)) × (left_at (next_at on) ≤ 4) × (left_at (next_at on) ≤ left_at (next_at left) - 1)) (λ reply. Unit {0}) }
 {
     let Left {
@@ -117,7 +117,7 @@ fn settle_step<T, B: Copy, S, M: Site<T, B, S>, G: Gate>(
     let todo = M::Steps::next(kind, progress.local, progress.answer);
     match todo {
         Next::Reply(reply, spare) => {
-            give_back(site, seat, spare);
+            give_back::<M>(site, seat, spare);
             ControlFlow::Break(Reply::fill(reply, carried))
         }
         Next::Step(local, touch, op) => {
@@ -130,7 +130,7 @@ fn settle_step<T, B: Copy, S, M: Site<T, B, S>, G: Gate>(
                 });
             }
             gate.pass(&op);
-            let answer = site.take_step(seat, &call, &local, touch, op, &mut carried);
+            let answer = M::take_step(site, seat, &call, &local, touch, op, &mut carried);
             ControlFlow::Continue(Left {
                 kind,
                 call,
@@ -143,20 +143,20 @@ fn settle_step<T, B: Copy, S, M: Site<T, B, S>, G: Gate>(
 
 /// Takes steps of a call until its reply, or until it stands where it has had no effect: at most as many as a call takes behind its effect, but for a pop on a
 /// chain, which may have to wait.
-pub fn settle<T, B: Copy, S, M: Site<T, B, S>, G: Gate>(
-    site: &M,
+pub fn settle<M: Site, G: Gate>(
+    site: &M::Shared,
     gate: &G,
-    seat: &mut S,
-    left: Left<T, B>,
-) -> ControlFlow<Reply<T>, Left<T, B>>
-    requires { (c : SpecCall T) × (first : S) × IsStood M.Site site.now first c left seat.old }
-    ensures stood { (c : SpecCall T) (first : S) → IsStood M.Site site.now first c left seat.old → MatchControlFlow result (λ on. IsStood M.Site site.now first c on seat.new) (λ reply. M.ended site.now first c reply seat.new) }
+    seat: &mut M::Seat,
+    left: Left<M::Item, M::Block>,
+) -> ControlFlow<Reply<M::Item>, Left<M::Item, M::Block>>
+    requires { (c : SpecCall M.Item) × (first : M.Seat) × IsStood M.Site site.now first c left seat.old }
+    ensures stood { (c : SpecCall M.Item) (first : M.Seat) → IsStood M.Site site.now first c left seat.old → MatchControlFlow result (λ on. IsStood M.Site site.now first c on seat.new) (λ reply. M.ended site.now first c reply seat.new) }
     ensures early { ¬ (MayWait left.kind (next_at left)) → MatchControlFlow result (λ on. is_early_step (next_at on) ≡ true) (λ reply. Unit {0}) }
 {
     let mut left = left;
     for turn in 0..SETTLE_STEPS {
         let _ = turn;
-        match settle_step(site, gate, seat, left) {
+        match settle_step::<M, G>(site, gate, seat, left) {
             ControlFlow::Break(reply) => return ControlFlow::Break(reply),
             ControlFlow::Continue(on) => left = on,
         }

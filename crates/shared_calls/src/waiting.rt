@@ -45,16 +45,16 @@ pub struct Waiting<'a, R> {
     pub rt: &'a R,
 }
 
-impl<T, B: Copy, S, M: Site<T, B, S>, R: Wait> End<T, B, S, M> for Waiting<'_, R> {
+impl<M: Site, R: Wait> End<M> for Waiting<'_, R> {
     fn finish<G: Gate>(
         self,
-        site: &M,
+        site: &M::Shared,
         gate: &G,
         kind: Kind,
         call: CallKind,
-        seat: &mut S,
-        progress: Progress<B>,
-        carried: &mut Option<T>,
+        seat: &mut M::Seat,
+        progress: Progress<M::Block>,
+        carried: &mut Option<M::Item>,
     ) -> ReplyKind
         requires { CanEnd M.Site kind call site.now progress carried.old seat.old }
         ensures { EndsRightly M.Site kind call site.now progress carried.old seat.old carried.new seat.new result }
@@ -62,7 +62,7 @@ impl<T, B: Copy, S, M: Site<T, B, S>, R: Wait> End<T, B, S, M> for Waiting<'_, R
         let mut progress = progress;
         for _ in self.rt.forever() {
             let before = progress.local;
-            match retry(site, gate, kind, call, seat, progress, carried) {
+            match retry::<M, G>(site, gate, kind, call, seat, progress, carried) {
                 ControlFlow::Break(reply) => return reply,
                 ControlFlow::Continue(after) => {
                     if must_give_way(&before, &after.local) {
@@ -80,17 +80,17 @@ impl<T, B: Copy, S, M: Site<T, B, S>, R: Wait> End<T, B, S, M> for Waiting<'_, R
 ///
 /// It does not wait. Behind each call of what may wait there is a test whether it came back, so nothing that may has the fast steps within it.
 #[inline(always)]
-pub fn run_fast<T, B: Copy, S, M: Site<T, B, S>, G: Gate, F: Row<T, B, S, M, G>>(
-    site: &M,
+pub fn run_fast<M: Site, G: Gate, F: Row<M, G>>(
+    site: &M::Shared,
     gate: &G,
-    seat: &mut S,
-    call: Call<T>,
-) -> ControlFlow<Reply<T>, Left<T, B>>
+    seat: &mut M::Seat,
+    call: Call<M::Item>,
+) -> ControlFlow<Reply<M::Item>, Left<M::Item, M::Block>>
     requires { M.rests site.now seat.old }
     ensures { MatchControlFlow result (λ left. IsLeft M.Site site.now seat.old call left seat.new) (λ reply. M.ended site.now seat.old call reply seat.new) }
 {
     let (call, mut carried) = call.split();
-    let (kind, mut progress) = begin::<T, B, S, M>(site, seat, call);
+    let (kind, mut progress) = begin::<M>(site, seat, call);
     match F::run(site, gate, kind, call, seat, &mut progress, &mut carried) {
         ControlFlow::Break(reply) => ControlFlow::Break(Reply::fill(reply, carried)),
         // Part by part: a `Progress` that is moved whole is written by each fast step.
@@ -108,42 +108,34 @@ pub fn run_fast<T, B: Copy, S, M: Site<T, B, S>, G: Gate, F: Row<T, B, S, M, G>>
 
 /// The same by one of two rows. They are the same steps, made once for each answer of a test that each of them would make: so it is made once in a call, and the compiler knows within a row how it came out.
 #[inline(always)]
-pub fn run_either<
-    T,
-    B: Copy,
-    S,
-    M: Site<T, B, S>,
-    G: Gate,
-    E: Row<T, B, S, M, G>,
-    F: Row<T, B, S, M, G>,
->(
+pub fn run_either<M: Site, G: Gate, E: Row<M, G>, F: Row<M, G>>(
     is_first: bool,
-    site: &M,
+    site: &M::Shared,
     gate: &G,
-    seat: &mut S,
-    call: Call<T>,
-) -> ControlFlow<Reply<T>, Left<T, B>>
+    seat: &mut M::Seat,
+    call: Call<M::Item>,
+) -> ControlFlow<Reply<M::Item>, Left<M::Item, M::Block>>
     requires { M.rests site.now seat.old }
     ensures { MatchControlFlow result (λ left. IsLeft M.Site site.now seat.old call left seat.new) (λ reply. M.ended site.now seat.old call reply seat.new) }
 {
     if is_first {
-        run_fast::<T, B, S, M, G, E>(site, gate, seat, call)
+        run_fast::<M, G, E>(site, gate, seat, call)
     } else {
-        run_fast::<T, B, S, M, G, F>(site, gate, seat, call)
+        run_fast::<M, G, F>(site, gate, seat, call)
     }
 }
 
 /// Runs a call to its end that has left its fast steps.
 #[inline(always)]
-pub fn run_slow<T, B: Copy, S, M: Site<T, B, S>, G: Gate, R: Wait>(
-    site: &M,
+pub fn run_slow<M: Site, G: Gate, R: Wait>(
+    site: &M::Shared,
     rt: &R,
     gate: &G,
-    seat: &mut S,
-    left: Left<T, B>,
-) -> Reply<T>
-    requires { (call : SpecCall T) × (first : S) × IsLeft M.Site site.now first call left seat.old }
-    ensures { (call : SpecCall T) (first : S) → IsLeft M.Site site.now first call left seat.old → M.ended site.now first call result seat.new }
+    seat: &mut M::Seat,
+    left: Left<M::Item, M::Block>,
+) -> Reply<M::Item>
+    requires { (call : SpecCall M.Item) × (first : M.Seat) × IsLeft M.Site site.now first call left seat.old }
+    ensures { (call : SpecCall M.Item) (first : M.Seat) → IsLeft M.Site site.now first call left seat.old → M.ended site.now first call result seat.new }
 {
     let Left {
         kind,
@@ -151,7 +143,7 @@ pub fn run_slow<T, B: Copy, S, M: Site<T, B, S>, G: Gate, R: Wait>(
         progress,
         mut carried,
     } = left;
-    let reply = leave(
+    let reply = leave::<M, G, _>(
         site,
         gate,
         Waiting { rt },

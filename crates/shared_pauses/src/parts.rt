@@ -13,30 +13,30 @@ use shared_site::left::Left;
 use std::ops::ControlFlow;
 
 /// Takes a call up where it stands, until its reply, or until it has met another call half done.
-pub fn take_up<T, B: Copy, S, M: Site<T, B, S>, G: Gate>(
-    site: &M,
+pub fn take_up<M: Site, G: Gate>(
+    site: &M::Shared,
     gate: &G,
-    seat: &mut S,
-    left: Left<T, B>,
-) -> ControlFlow<Reply<T>, Left<T, B>>
-    requires { (c : SpecCall T) × (first : S) × IsPaused M.Site site.now first c left seat.old }
-    ensures { (c : SpecCall T) (first : S) → IsPaused M.Site site.now first c left seat.old → MatchControlFlow result (λ paused. IsPaused M.Site site.now first c paused seat.new) (λ reply. M.ended site.now first c reply seat.new) }
+    seat: &mut M::Seat,
+    left: Left<M::Item, M::Block>,
+) -> ControlFlow<Reply<M::Item>, Left<M::Item, M::Block>>
+    requires { (c : SpecCall M.Item) × (first : M.Seat) × IsPaused M.Site site.now first c left seat.old }
+    ensures { (c : SpecCall M.Item) (first : M.Seat) → IsPaused M.Site site.now first c left seat.old → MatchControlFlow result (λ paused. IsPaused M.Site site.now first c paused seat.new) (λ reply. M.ended site.now first c reply seat.new) }
 {
-    carry_on(site, gate, seat, left)
+    carry_on::<M, G>(site, gate, seat, left)
 }
 
 /// Sets out on a call, with its fast steps `F` first: until its reply, or until it has met another call half done.
-pub fn set_out<T, B: Copy, S, M: Site<T, B, S>, G: Gate, F: Row<T, B, S, M, G>>(
-    site: &M,
+pub fn set_out<M: Site, G: Gate, F: Row<M, G>>(
+    site: &M::Shared,
     gate: &G,
-    seat: &mut S,
-    call: Call<T>,
-) -> ControlFlow<Reply<T>, Left<T, B>>
+    seat: &mut M::Seat,
+    call: Call<M::Item>,
+) -> ControlFlow<Reply<M::Item>, Left<M::Item, M::Block>>
     requires { M.rests site.now seat.old }
     ensures { MatchControlFlow result (λ paused. IsPaused M.Site site.now seat.old call paused seat.new) (λ reply. M.ended site.now seat.old call reply seat.new) }
 {
-    match run_fast::<T, B, S, M, G, F>(site, gate, seat, call) {
+    match run_fast::<M, G, F>(site, gate, seat, call) {
         ControlFlow::Break(reply) => ControlFlow::Break(reply),
-        ControlFlow::Continue(left) => carry_on(site, gate, seat, left),
+        ControlFlow::Continue(left) => carry_on::<M, G>(site, gate, seat, left),
     }
 }

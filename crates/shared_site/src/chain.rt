@@ -18,13 +18,21 @@ use shared_parties::known::CallState;
 use std::alloc::Allocator;
 use std::marker::PhantomData;
 
-/// A party's seat in a call, and where the blocks come from that the call asks for.
+/// A party's seat in a call, and where the blocks come from that the call asks for. So it names a site, too.
 pub struct Asking<T, A: Allocator, Q> {
     pub seat: ChainSeat<T, A>,
     pub source: PhantomData<Q>,
 }
 
-impl<T, A: Allocator, Q: Source<T, A>> Site<T, Place<T>, Asking<T, A, Q>> for AllocatedChain<T, A> {
+impl<T, A: Allocator, Q: Source<T, A>> Site for Asking<T, A, Q> {
+    type Shared = AllocatedChain<T, A>;
+
+    type Item = T;
+
+    type Block = Place<T>;
+
+    type Seat = Asking<T, A, Q>;
+
     type Steps = ChainSteps;
 
     ghost use Rattle.std.specs.Prelude.{refl};
@@ -61,13 +69,13 @@ impl<T, A: Allocator, Q: Source<T, A>> Site<T, Place<T>, Asking<T, A, Q>> for Al
     ghost more = { λ n m first c l a s x h. h };
 
     #[inline(always)]
-    fn kind(&self, _asking: &Asking<T, A, Q>) -> Kind {
+    fn kind(_queue: &AllocatedChain<T, A>, _asking: &Asking<T, A, Q>) -> Kind {
         Kind::Unbounded
     }
 
     #[inline(always)]
     fn take_step(
-        &self,
+        queue: &AllocatedChain<T, A>,
         asking: &mut Asking<T, A, Q>,
         call: &CallKind,
         local: &Local<Place<T>>,
@@ -75,11 +83,11 @@ impl<T, A: Allocator, Q: Source<T, A>> Site<T, Place<T>, Asking<T, A, Q>> for Al
         op: Op<Place<T>>,
         carried: &mut Option<T>,
     ) -> Answer<Place<T>>
-        requires { ChainCan self.now.chain asking.old.seat call.now local.now todo op carried.old }
+        requires { ChainCan queue.now.chain asking.old.seat call.now local.now todo op carried.old }
         ensures { ChainDoes asking.old.seat call.now local.now todo op carried.old result asking.new.seat carried.new }
     {
-        self.chain.take_step::<Q>(
-            &self.alloc,
+        queue.chain.take_step::<Q>(
+            &queue.alloc,
             &mut asking.seat,
             call,
             local,
@@ -89,16 +97,15 @@ impl<T, A: Allocator, Q: Source<T, A>> Site<T, Place<T>, Asking<T, A, Q>> for Al
         )
     }
 
-    fn give_up(&self, asking: &mut Asking<T, A, Q>, block: Place<T>)
-        requires { SitsAt self.now.chain asking.old.seat × Carries (Some block) asking.old.seat.sitter }
+    fn give_up(queue: &AllocatedChain<T, A>, asking: &mut Asking<T, A, Q>, block: Place<T>)
+        requires { SitsAt queue.now.chain asking.old.seat × Carries (Some block) asking.old.seat.sitter }
         ensures { GaveUp asking.old.seat asking.new.seat }
     {
-        self.chain.give_up(&self.alloc, &mut asking.seat, block);
+        queue.chain.give_up(&queue.alloc, &mut asking.seat, block);
     }
 }
 
-impl<T, A: Allocator, Q: Source<T, A>> SharedSite<T, Place<T>, Asking<T, A, Q>>
-    for AllocatedChain<T, A> {
+impl<T, A: Allocator, Q: Source<T, A>> SharedSite for Asking<T, A, Q> {
     ghost use Rattle.shared_chain.proofs.WaitFree.{chain_wait_free};
     ghost use Rattle.mem_blocks.specs.declared.block.BlockPtr.{BlockPtr as SpecPlace};
 

@@ -154,8 +154,15 @@ impl<T, K: TableSteps<T>, A: Allocator> SharedTable<T, K, A> {
     }
 }
 
-impl<T, K: TableSteps<T>, A: Allocator> Site<T, usize, Seat<Option<T>, CallState<T>>>
-    for SharedTable<T, K, A> {
+impl<T, K: TableSteps<T>, A: Allocator> Site for SharedTable<T, K, A> {
+    type Shared = SharedTable<T, K, A>;
+
+    type Item = T;
+
+    type Block = usize;
+
+    type Seat = Seat<Option<T>, CallState<T>>;
+
     type Steps = K::Steps;
 
     ghost use Rattle.shared_tables.specs.AtTable.{IsAt};
@@ -192,13 +199,13 @@ impl<T, K: TableSteps<T>, A: Allocator> Site<T, usize, Seat<Option<T>, CallState
     ghost more = { λ n m first c l a s x h. h };
 
     #[inline(always)]
-    fn kind(&self, _seat: &Seat<Option<T>, CallState<T>>) -> Kind {
-        K::kind(self.slots)
+    fn kind(queue: &SharedTable<T, K, A>, _seat: &Seat<Option<T>, CallState<T>>) -> Kind {
+        K::kind(queue.slots)
     }
 
     #[inline(always)]
     fn take_step(
-        &self,
+        queue: &SharedTable<T, K, A>,
         seat: &mut Seat<Option<T>, CallState<T>>,
         call: &CallKind,
         local: &Local<usize>,
@@ -206,23 +213,23 @@ impl<T, K: TableSteps<T>, A: Allocator> Site<T, usize, Seat<Option<T>, CallState
         op: Op<usize>,
         carried: &mut Option<T>,
     ) -> Answer<usize>
-        requires { TableCan K.layout self.now.table.shared.table_id (seat.old.table_id, seat.old.me) call.now local.now todo op carried.old }
-        ensures { TableDoes K.layout self.now.table.shared.table_id (seat.old.table_id, seat.old.me) call.now local.now todo op carried.old result (seat.new.table_id, seat.new.me) carried.new }
+        requires { TableCan K.layout queue.now.table.shared.table_id (seat.old.table_id, seat.old.me) call.now local.now todo op carried.old }
+        ensures { TableDoes K.layout queue.now.table.shared.table_id (seat.old.table_id, seat.old.me) call.now local.now todo op carried.old result (seat.new.table_id, seat.new.me) carried.new }
     {
-        touch(&self.table.shared, seat, todo, carried);
-        self.operate::<Brand>(seat, call, local, todo, op, carried)
+        touch(&queue.table.shared, seat, todo, carried);
+        queue.operate::<Brand>(seat, call, local, todo, op, carried)
     }
 
     /// No reply has a block, so nothing is done.
-    fn give_up(&self, seat: &mut Seat<Option<T>, CallState<T>>, block: usize)
-        ensures { NoGift self.now.table.shared.table_id (seat.old.table_id, seat.old.me) block (seat.new.table_id, seat.new.me) }
+    fn give_up(queue: &SharedTable<T, K, A>, seat: &mut Seat<Option<T>, CallState<T>>, block: usize)
+        ensures { NoGift queue.now.table.shared.table_id (seat.old.table_id, seat.old.me) block (seat.new.table_id, seat.new.me) }
     {
+        let _ = queue;
         let _ = seat;
         let _ = block;
     }
 }
 
-impl<T, K: TableSteps<T>, A: Allocator> SharedSite<T, usize, Seat<Option<T>, CallState<T>>>
-    for SharedTable<T, K, A> {
+impl<T, K: TableSteps<T>, A: Allocator> SharedSite for SharedTable<T, K, A> {
     ghost wait_free = { λ m _ c h. (K.laws m.table.shared.table_id.slots m.sized.2 m.sized.3).wait_free c h };
 }

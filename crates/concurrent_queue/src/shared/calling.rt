@@ -35,21 +35,13 @@ impl<T, A: Allocator> Form<T, A> {
         call: Call<T>,
     ) -> ControlFlow<Reply<T>, Left<T, usize>>
         requires { IsHeldIn self.now (place.Table seat.old) }
-        ensures { MatchControlFlow result (λ left. HasLeft ⟦<SharedTable<T, Slots, A> as Site<T, usize, Seat<Option<T>, CallState<T>>>>⟧ ⟦<SharedTable<T, Rings, A> as Site<T, usize, Seat<Option<T>, CallState<T>>>>⟧ form.Single form.Ring self.now seat.old call left seat.new) (λ reply. IsHeld (place.Table seat.new) × Calls (party_view_of (place.Table seat.old)) call reply (party_view_of (place.Table seat.new))) }
+        ensures { MatchControlFlow result (λ left. HasLeft ⟦<SharedTable<T, Slots, A> as Site>⟧ ⟦<SharedTable<T, Rings, A> as Site>⟧ form.Single form.Ring self.now seat.old call left seat.new) (λ reply. IsHeld (place.Table seat.new) × Calls (party_view_of (place.Table seat.old)) call reply (party_view_of (place.Table seat.new))) }
     {
         match self {
-            Form::Single(slot) => run_fast::<
-                T,
-                usize,
-                Seat<Option<T>, CallState<T>>,
-                SharedTable<T, Slots, A>,
-                G,
-                Short<W>,
-            >(slot, gate, seat, call),
+            Form::Single(slot) => {
+                run_fast::<SharedTable<T, Slots, A>, G, Short<W>>(slot, gate, seat, call)
+            }
             Form::Ring(ring) => run_either::<
-                T,
-                usize,
-                Seat<Option<T>, CallState<T>>,
                 SharedTable<T, Rings, A>,
                 G,
                 Usual<Masked<W>>,
@@ -68,12 +60,16 @@ impl<T, A: Allocator> Form<T, A> {
         seat: &mut Seat<Option<T>, CallState<T>>,
         left: Left<T, usize>,
     ) -> Reply<T>
-        requires { (call : SpecCall T) × (first : SpecSeat (SpecOption T) (SpecState T)) × HasLeft ⟦<SharedTable<T, Slots, A> as Site<T, usize, Seat<Option<T>, CallState<T>>>>⟧ ⟦<SharedTable<T, Rings, A> as Site<T, usize, Seat<Option<T>, CallState<T>>>>⟧ form.Single form.Ring self.now first call left seat.old }
-        ensures { (call : SpecCall T) (first : SpecSeat (SpecOption T) (SpecState T)) → HasLeft ⟦<SharedTable<T, Slots, A> as Site<T, usize, Seat<Option<T>, CallState<T>>>>⟧ ⟦<SharedTable<T, Rings, A> as Site<T, usize, Seat<Option<T>, CallState<T>>>>⟧ form.Single form.Ring self.now first call left seat.old → IsHeld (place.Table seat.new) × Calls (party_view_of (place.Table first)) call result (party_view_of (place.Table seat.new)) }
+        requires { (call : SpecCall T) × (first : SpecSeat (SpecOption T) (SpecState T)) × HasLeft ⟦<SharedTable<T, Slots, A> as Site>⟧ ⟦<SharedTable<T, Rings, A> as Site>⟧ form.Single form.Ring self.now first call left seat.old }
+        ensures { (call : SpecCall T) (first : SpecSeat (SpecOption T) (SpecState T)) → HasLeft ⟦<SharedTable<T, Slots, A> as Site>⟧ ⟦<SharedTable<T, Rings, A> as Site>⟧ form.Single form.Ring self.now first call left seat.old → IsHeld (place.Table seat.new) × Calls (party_view_of (place.Table first)) call result (party_view_of (place.Table seat.new)) }
     {
         match self {
-            Form::Single(slot) => run_slow(slot, rt, gate, seat, left),
-            Form::Ring(ring) => run_slow(ring, rt, gate, seat, left),
+            Form::Single(slot) => run_slow::<SharedTable<T, Slots, A>, G, R>(
+                slot, rt, gate, seat, left,
+            ),
+            Form::Ring(ring) => run_slow::<SharedTable<T, Rings, A>, G, R>(
+                ring, rt, gate, seat, left,
+            ),
             Form::Chain(_) => unreachable!(),
         }
     }

@@ -18,6 +18,9 @@ use shared_parties::known::CallState;
 use shared_pauses::parts::{set_out, take_up};
 use shared_site::chain::Asking;
 use shared_site::left::Left;
+use shared_tables::ring::Rings;
+use shared_tables::slot::Slots;
+use shared_tables::table::SharedTable;
 use std::alloc::{Allocator, Global};
 use std::marker::Model;
 use std::ops::ControlFlow;
@@ -110,7 +113,9 @@ impl<T, A: NullTestable> ConcurrentQueue<T, A> {
     {
         match (&self.form, party.place) {
             (Form::Single(slot), SeatPlace::Table(mut seat)) => {
-                match set_out::<_, _, _, _, Open, Short<Begins>>(slot, &Open, &mut seat, call) {
+                match set_out::<SharedTable<T, Slots, A>, Open, Short<Begins>>(
+                    slot, &Open, &mut seat, call,
+                ) {
                     ControlFlow::Break(reply) => {
                         Outcome::Done(Party::at(SeatPlace::Table(seat)), reply)
                     }
@@ -120,7 +125,9 @@ impl<T, A: NullTestable> ConcurrentQueue<T, A> {
                 }
             }
             (Form::Ring(ring), SeatPlace::Table(mut seat)) => {
-                match set_out::<_, _, _, _, Open, Usual<Begins>>(ring, &Open, &mut seat, call) {
+                match set_out::<SharedTable<T, Rings, A>, Open, Usual<Begins>>(
+                    ring, &Open, &mut seat, call,
+                ) {
                     ControlFlow::Break(reply) => {
                         Outcome::Done(Party::at(SeatPlace::Table(seat)), reply)
                     }
@@ -131,7 +138,12 @@ impl<T, A: NullTestable> ConcurrentQueue<T, A> {
             }
             (Form::Chain(queue), SeatPlace::Web(mut rested)) => {
                 let mut asking: Asking<T, A, Granting> = Asking::wake(&queue.chain, &mut rested);
-                match set_out::<_, _, _, _, Open, Usual<Begins>>(queue, &Open, &mut asking, call) {
+                match set_out::<Asking<T, A, Granting>, Open, Usual<Begins>>(
+                    queue,
+                    &Open,
+                    &mut asking,
+                    call,
+                ) {
                     ControlFlow::Break(reply) => {
                         Outcome::Done(Party::at(SeatPlace::Web(asking.rests())), reply)
                     }
@@ -154,7 +166,9 @@ impl<T, A: NullTestable> ConcurrentQueue<T, A> {
         let place = pending.into_place();
         match place {
             CallPlace::Slot(mut seat, left) => match &self.form {
-                Form::Single(slot) => match take_up(slot, &Open, &mut seat, left) {
+                Form::Single(slot) => match take_up::<SharedTable<T, Slots, A>, Open>(
+                    slot, &Open, &mut seat, left,
+                ) {
                     ControlFlow::Break(reply) => {
                         Outcome::Done(Party::at(SeatPlace::Table(seat)), reply)
                     }
@@ -166,7 +180,9 @@ impl<T, A: NullTestable> ConcurrentQueue<T, A> {
                 Form::Chain(_) => unreachable!(),
             },
             CallPlace::Ring(mut seat, left) => match &self.form {
-                Form::Ring(ring) => match take_up(ring, &Open, &mut seat, left) {
+                Form::Ring(ring) => match take_up::<SharedTable<T, Rings, A>, Open>(
+                    ring, &Open, &mut seat, left,
+                ) {
                     ControlFlow::Break(reply) => {
                         Outcome::Done(Party::at(SeatPlace::Table(seat)), reply)
                     }
@@ -178,7 +194,12 @@ impl<T, A: NullTestable> ConcurrentQueue<T, A> {
                 Form::Chain(_) => unreachable!(),
             },
             CallPlace::Chain(mut asking, left) => match &self.form {
-                Form::Chain(queue) => match take_up(queue, &Open, &mut asking, left) {
+                Form::Chain(queue) => match take_up::<Asking<T, A, Granting>, Open>(
+                    queue,
+                    &Open,
+                    &mut asking,
+                    left,
+                ) {
                     ControlFlow::Break(reply) => {
                         Outcome::Done(Party::at(SeatPlace::Web(asking.rests())), reply)
                     }

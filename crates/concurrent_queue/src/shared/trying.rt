@@ -109,9 +109,9 @@ fn end_or_quit<T, K: TableSteps<T>, A: Allocator>(
     seat: &mut Seat<Option<T>, CallState<T>>,
     left: Left<T, usize>,
 ) -> ControlFlow<Reply<T>, Option<T>>
-    requires left { SomeLeft ⟦<SharedTable<T, K, A> as Site<T, usize, Seat<Option<T>, CallState<T>>>>⟧ (λ c. Unit {0}) table.now left seat.old }
+    requires left { SomeLeft ⟦<SharedTable<T, K, A> as Site>⟧ (λ c. Unit {0}) table.now left seat.old }
     requires ends { (todo : SpecNext ℕ) → ¬ (MayWait (K.layout table.now.table.shared.table_id.slots).calls.kind todo) }
-    ensures { EndsOrQuits ⟦<SharedTable<T, K, A> as Site<T, usize, Seat<Option<T>, CallState<T>>>>⟧ (cap_of (K.layout table.now.table.shared.table_id.slots).calls) table.now left seat.old result seat.new }
+    ensures { EndsOrQuits ⟦<SharedTable<T, K, A> as Site>⟧ (cap_of (K.layout table.now.table.shared.table_id.slots).calls) table.now left seat.old result seat.new }
 {
     retold(end_or_quit_at(table, seat, left.apart()))
 }
@@ -124,8 +124,8 @@ impl<T, A: Allocator> Form<T, A> {
         seat: &mut Seat<Option<T>, CallState<T>>,
         left: Left<T, usize>,
     ) -> ControlFlow<Reply<T>, Option<T>>
-        requires { (call : SpecCall T) × (first : SpecSeat (SpecOption T) (SpecState T)) × HasLeft ⟦<SharedTable<T, Slots, A> as Site<T, usize, Seat<Option<T>, CallState<T>>>>⟧ ⟦<SharedTable<T, Rings, A> as Site<T, usize, Seat<Option<T>, CallState<T>>>>⟧ form.Single form.Ring self.now first call left seat.old }
-        ensures { (call : SpecCall T) (first : SpecSeat (SpecOption T) (SpecState T)) → HasLeft ⟦<SharedTable<T, Slots, A> as Site<T, usize, Seat<Option<T>, CallState<T>>>>⟧ ⟦<SharedTable<T, Rings, A> as Site<T, usize, Seat<Option<T>, CallState<T>>>>⟧ form.Single form.Ring self.now first call left seat.old → IsHeld (place.Table seat.new) × Tries (party_view_of (place.Table first)) call result (party_view_of (place.Table seat.new)) }
+        requires { (call : SpecCall T) × (first : SpecSeat (SpecOption T) (SpecState T)) × HasLeft ⟦<SharedTable<T, Slots, A> as Site>⟧ ⟦<SharedTable<T, Rings, A> as Site>⟧ form.Single form.Ring self.now first call left seat.old }
+        ensures { (call : SpecCall T) (first : SpecSeat (SpecOption T) (SpecState T)) → HasLeft ⟦<SharedTable<T, Slots, A> as Site>⟧ ⟦<SharedTable<T, Rings, A> as Site>⟧ form.Single form.Ring self.now first call left seat.old → IsHeld (place.Table seat.new) × Tries (party_view_of (place.Table first)) call result (party_view_of (place.Table seat.new)) }
     {
         match self {
             Form::Single(slot) => end_or_quit(slot, seat, left),
@@ -141,9 +141,6 @@ macro_rules! attempt_here {
         match (&$queue.form, &mut $party.place) {
             (Form::Single(slot), SeatPlace::Table(seat)) => {
                 match run_fast::<
-                    T,
-                    usize,
-                    Seat<Option<T>, CallState<T>>,
                     SharedTable<T, Slots, A>,
                     Open,
                     Short<$W>,
@@ -154,9 +151,6 @@ macro_rules! attempt_here {
             }
             (Form::Ring(ring), SeatPlace::Table(seat)) => {
                 match run_either::<
-                    T,
-                    usize,
-                    Seat<Option<T>, CallState<T>>,
                     SharedTable<T, Rings, A>,
                     Open,
                     Usual<Masked<$W>>,

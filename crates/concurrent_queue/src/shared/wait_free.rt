@@ -12,6 +12,9 @@ use call_driver::driver::drive_wait_free;
 use call_driver::gate::{Gate, Open};
 use queue_steps::model::{Call, Reply};
 use shared_calls::chain;
+use shared_tables::ring::Rings;
+use shared_tables::slot::Slots;
+use shared_tables::table::SharedTable;
 use std::alloc::Allocator;
 
 impl<T, A: Allocator> ConcurrentQueue<T, A> {
@@ -23,8 +26,12 @@ impl<T, A: Allocator> ConcurrentQueue<T, A> {
         ensures { Calls party.old call result party.new }
     {
         match (&self.form, &mut party.place) {
-            (Form::Single(slot), SeatPlace::Table(seat)) => drive_wait_free(slot, gate, seat, call),
-            (Form::Ring(ring), SeatPlace::Table(seat)) => drive_wait_free(ring, gate, seat, call),
+            (Form::Single(slot), SeatPlace::Table(seat)) => {
+                drive_wait_free::<SharedTable<T, Slots, A>, G>(slot, gate, seat, call)
+            }
+            (Form::Ring(ring), SeatPlace::Table(seat)) => {
+                drive_wait_free::<SharedTable<T, Rings, A>, G>(ring, gate, seat, call)
+            }
             (Form::Chain(chain), SeatPlace::Web(rested)) => {
                 chain::answer_wait_free(chain, gate, rested, call)
             }

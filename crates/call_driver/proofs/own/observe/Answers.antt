@@ -8,7 +8,7 @@ use Rattle.call_driver.proofs.own.observe.Goals as goal
 pub loop-init : goal.loop-init
 loop-init g c =
     let m = g.C.OwnCells in
-    let a = kind-as_call {T = g.row.T.Denot} c.args.call c.requires.look in
+    let a = kind-as_call {T = g.row.C-Item.Denot} c.args.call c.requires.look in
     let first = EndsIn-first m.can_touch m.touches m.can_perform m.performs m.can_release m.releases m.idle m.owned c.kind-kind.result (m.kind_of c.args.cells.now) (as_call c.args.call) c.start-local.result (c.args.call, None) c.args.cells.now
     c.kind-kind.ensures (cc) c.start-local.ensures (g.met.C.OwnCells.answers c.args.cells.now (as_call c.args.call) c.requires.idle) in (
       first.0,

@@ -10,7 +10,7 @@ abbrev pub invariant-loop-turn : goal.invariant-loop-turn
 invariant-loop-turn g l =
     let m = g.M.Site in
     record {
-      going : (c : Call g.row.T.Denot) × (first : g.row.S.Denot) × IsStood m l.site first c l.left l.seat;
-      stood : (c : Call g.row.T.Denot) (first : g.row.S.Denot) → IsStood m l.site first c l.initial.left l.initial.seat → IsStood m l.site first c l.left l.seat;
+      going : (c : Call g.row.M-Item.Denot) × (first : g.row.M-Seat.Denot) × IsStood m l.site first c l.left l.seat;
+      stood : (c : Call g.row.M-Item.Denot) (first : g.row.M-Seat.Denot) → IsStood m l.site first c l.initial.left l.initial.seat → IsStood m l.site first c l.left l.seat;
       nearer : ¬ (MayWait l.initial.left.kind (next_at l.initial.left)) → ¬ (MayWait l.left.kind (next_at l.left)) × (0 < l.turn → left_at (next_at l.left) ≤ 5 - l.turn);
     }

@@ -9,8 +9,8 @@ abbrev pub invariant-loop : goal.invariant-loop
 invariant-loop g l =
     let m = g.M.Site in
     record {
-      going : (c : Call g.row.T.Denot) × (first : g.row.S.Denot) × Before m (SOLO_STEPS - l.counter) l.kind l.call l.site first c l.progress l.carried l.seat;
-      goes : (c : Call g.row.T.Denot) (first : g.row.S.Denot)
+      going : (c : Call g.row.M-Item.Denot) × (first : g.row.M-Seat.Denot) × Before m (SOLO_STEPS - l.counter) l.kind l.call l.site first c l.progress l.carried l.seat;
+      goes : (c : Call g.row.M-Item.Denot) (first : g.row.M-Seat.Denot)
           → Before m SOLO_STEPS l.kind l.call l.site first c l.initial.progress l.initial.carried l.initial.seat
           → Before m (SOLO_STEPS - l.counter) l.kind l.call l.site first c l.progress l.carried l.seat;
     }

@@ -9,7 +9,7 @@ invariant-loop g l =
     let m = g.M.Site in
     record {
       going : (n : ℕ) × IsUnderWay m n l.kind l.call l.site l.progress l.carried l.seat;
-      goes : (n : ℕ) (c : Call g.row.T.Denot) (first : g.row.S.Denot)
+      goes : (n : ℕ) (c : Call g.row.M-Item.Denot) (first : g.row.M-Seat.Denot)
           → OnWay m n l.kind l.call l.site first c l.initial.progress l.initial.carried l.initial.seat
           → OnWay m n l.kind l.call l.site first c l.progress l.carried l.seat;
     }

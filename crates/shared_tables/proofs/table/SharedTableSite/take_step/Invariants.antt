@@ -1,5 +1,5 @@
 use Rattle.shared_tables.specs.TableTurns.{call_at}
-use Rattle.shared_tables.proofs.table.SharedTableSiteUsizeSeatOptionCallState.take_step.Given as goal
+use Rattle.shared_tables.proofs.table.SharedTableSite.take_step.Given as goal
 
 -- the call whose step is done
 abbrev pub ghosts-operate : goal.ghosts-operate

@@ -1,4 +1,4 @@
-use Rattle.shared_site.proofs.chain.AllocatedChainSitePlaceAsking.take_step.Goals as goal
+use Rattle.shared_site.proofs.chain.AskingSite.take_step.Goals as goal
 
 pub take_step-requires-clause-can : goal.take_step-requires-clause-can
 take_step-requires-clause-can g c = c.requires

@@ -1,7 +1,7 @@
 use Rattle.std.proofs.Common.{◌∙◌}
 use Rattle.own_unbounded.proofs.Linked.{Knows-named, lives}
 use Rattle.own_unbounded.proofs.Layings.{lifted-linked, lifted-view, emptied-vacant}
-use Rattle.own_unbounded.proofs.unbounded.LinkedBlocksOwnCellsName.release.Goals as goal
+use Rattle.own_unbounded.proofs.unbounded.LinkedBlocksOwnCells.release.Goals as goal
 
 pub lift-loose-requires : goal.lift-loose-requires
 lift-loose-requires g c =

@@ -1,5 +1,5 @@
 use Rattle.std.proofs.Common.{rules}
-use Rattle.shared_site.proofs.chain.AllocatedChainSitePlaceAsking.give_up.Goals as goal
+use Rattle.shared_site.proofs.chain.AskingSite.give_up.Goals as goal
 
 pub returns : goal.returns
 returns g c = search rules
