@@ -12,7 +12,7 @@ ghost use Rattle.concurrent_queue.specs.Shared.{IsPartyOf, Calls};
 
 pub use crate::party::Party;
 use crate::party::SeatPlace;
-use call_driver::fast::{Short, Usual};
+use call_driver::fast::Short;
 use call_driver::gate::{Gate, Open};
 use call_steps::{shown_len, shows_closed};
 use exclusive_queue::text::write_queue;
@@ -30,7 +30,7 @@ use shared_tables::slot::{self, Slots, open_slot};
 use shared_tables::table::SharedTable;
 use std::alloc::{AllocError, Allocator, Global};
 use std::fmt;
-use std::marker::{Model, PhantomData};
+use std::marker::Model;
 use std::ops::ControlFlow;
 use std::sync::Wait;
 
@@ -64,11 +64,6 @@ struct Pops;
 struct Counts;
 
 struct Begins;
-
-/// The same calls on a ring whose capacity is a power of two.
-struct Masked<W> {
-    of: PhantomData<W>,
-}
 
 /// How the items are kept. The compiler tests for the first before the others.
 enum Form<T, A: Allocator> {
@@ -246,13 +241,10 @@ impl<T, A: Allocator> ConcurrentQueue<T, A> {
                 }
             }
             (Form::Ring(ring), SeatPlace::Table(seat)) => {
-                match run_either::<
-                    SharedTable<T, Rings, A>,
-                    Open,
-                    Usual<Masked<Pushes>>,
-                    Usual<Pushes>,
-                >(ring.slots().is_power_of_two(), ring, &Open, seat, call)
-                {
+                let is_masked = ring.slots().is_power_of_two();
+                match run_either::<SharedTable<T, Rings, A>, Open, Pushes>(
+                    is_masked, ring, &Open, seat, call,
+                ) {
                     ControlFlow::Break(reply) => reply,
                     ControlFlow::Continue(left) => run_slow::<SharedTable<T, Rings, A>, Open, R>(
                         ring, rt, &Open, seat, left,

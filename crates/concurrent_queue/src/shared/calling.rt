@@ -9,9 +9,9 @@ ghost use Rattle.concurrent_queue.specs.declared.shared.Form.TheVariants as form
 ghost use Rattle.concurrent_queue.specs.Shared.{Calls, IsHeld, party_view_of};
 ghost use Rattle.concurrent_queue.specs.Calling.{IsHeldIn, HasLeft};
 
-use super::{Form, Masked};
+use super::Form;
 use atomic_table::Seat;
-use call_driver::fast::{Short, Usual};
+use call_driver::fast::Short;
 use call_driver::gate::Gate;
 use call_driver::site::Site;
 use queue_steps::model::{Call, Reply};
@@ -41,12 +41,10 @@ impl<T, A: Allocator> Form<T, A> {
             Form::Single(slot) => {
                 run_fast::<SharedTable<T, Slots, A>, G, Short<W>>(slot, gate, seat, call)
             }
-            Form::Ring(ring) => run_either::<
-                SharedTable<T, Rings, A>,
-                G,
-                Usual<Masked<W>>,
-                Usual<W>,
-            >(ring.slots().is_power_of_two(), ring, gate, seat, call),
+            Form::Ring(ring) => {
+                let is_masked = ring.slots().is_power_of_two();
+                run_either::<SharedTable<T, Rings, A>, G, W>(is_masked, ring, gate, seat, call)
+            }
             Form::Chain(_) => unreachable!(),
         }
     }
