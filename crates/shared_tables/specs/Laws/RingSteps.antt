@@ -1,5 +1,5 @@
 -- The laws of a ring in a table: what each step of a call does to the words and slots, and where calls begin.
-use Rattle.std.proofs.Common.{◌≡◌, ◌≢◌, ℕ, ◌+◌, ◌-◌, ◌%◌, ◌<◌, ◌^◌, ◌==◌, ◌||◌, not, length, Bool, true, false, List, [], ◌∷◌, get_or, set, Option, Some, None, if◌then◌else◌, bit_or, refl, ap, sym, ◌∙◌, subst, inl, arith, length-set}
+use Rattle.std.proofs.Common.{◌≡◌, ◌≢◌, ℕ, ◌+◌, ◌-◌, ◌<◌, ◌==◌, ◌||◌, not, length, Bool, true, false, List, [], ◌∷◌, get_or, set, Option, Some, None, refl, ap, sym, ◌∙◌, subst, inl, arith, length-set}
 use Rattle.std.proofs.lemmas.List.{set-get_or, get_or-drop, set-append_right}
 use mathlib.Core.Option.{some, some-injective}
 use mathlib.Core.Option as maybe

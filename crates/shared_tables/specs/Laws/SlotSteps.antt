@@ -1,5 +1,5 @@
 -- The laws of one slot in a table: what each step of a call does to the word and the slot, and where calls begin.
-use Rattle.std.proofs.Common.{◌≡◌, ℕ, ◌==◌, ◌||◌, not, Bool, true, false, List, [], ◌∷◌, get_or, set, Option, Some, if◌then◌else◌, refl, ap, sym, ◌∙◌, subst, inl, arith}
+use Rattle.std.proofs.Common.{◌≡◌, ℕ, ◌==◌, ◌||◌, not, Bool, true, false, List, [], ◌∷◌, get_or, set, Option, Some, refl, ap, sym, ◌∙◌, subst, inl, arith}
 use mathlib.Core.Option.{some}
 use mathlib.Core.Option as maybe
 use Rattle.atomic_table.specs.Table.{Act, keeps, takes, gives, Valid, carried_after, homes_after}
