@@ -1,5 +1,5 @@
 -- The queue of one owner beside the abstract queue: a call whose effects stand together is a line of the table of one owner.
-use Rattle.std.proofs.Common.{ℕ, ◌+◌, ◌≤◌, ◌≡◌, ◌∙◌, inl, inr, Bool, true, false, if◌then◌else◌, None, Err, List, [], ◌∷◌, refl, sym, subst, arith}
+use Rattle.std.proofs.Common.{ℕ, ◌+◌, ◌≤◌, ◌≡◌, ◌∙◌, inl, inr, Bool, true, false, if◌then◌else◌, None, Err, List, [], refl, sym, subst, arith}
 use Rattle.queue_steps.specs.State.{State, is_single_cap, is_full}
 use Rattle.queue_steps.specs.Effect.{Runs, after_from}
 use Rattle.queue_steps.specs.Legal.{IsShown}

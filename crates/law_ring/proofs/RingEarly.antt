@@ -1,5 +1,5 @@
 -- A call on a ring that has had no effect yet has no slot, and still carries its own value: so its party may give it up.
-use Rattle.std.proofs.Common.{ℕ, ◌≡◌, Bool, Option, Some, List, [], refl, true, false}
+use Rattle.std.proofs.Common.{ℕ, ◌≡◌, Bool, Some, List, [], refl}
 use Rattle.queue_steps.specs.State.{State}
 use Rattle.queue_steps.specs.Kinds.{call_value}
 use Rattle.law_common.specs.Vocabulary.{PushKind}

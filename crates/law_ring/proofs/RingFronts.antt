@@ -1,5 +1,5 @@
 -- A front leaves a ring only by a call that has seen the queue open.
-use Rattle.std.proofs.Common.{ℕ, ◌+◌, ◌≡◌, ◌==◌, Bool, true, false, Option, Some, None, sym, subst}
+use Rattle.std.proofs.Common.{ℕ, ◌+◌, ◌≡◌, ◌==◌, Bool, true, false, Option, None, sym, subst}
 use Rattle.queue_steps.specs.Words.{position_of, is_shut}
 use Rattle.queue_steps.specs.declared.steps.bounded.BoundedLocal.TheVariants as ring
 use Rattle.law_common.specs.Vocabulary.{Effect, Answer, Local}

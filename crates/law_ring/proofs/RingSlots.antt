@@ -6,7 +6,7 @@ use Rattle.queue_steps.specs.Words.{IsWord, tail_of}
 use Rattle.law_common.specs.Puts.{put}
 use Rattle.law_common.proofs.Puts.{put_ok}
 use Rattle.law_ring.specs.RingShared.{Shared}
-use Rattle.law_ring.specs.RingCells.{Cell, Free, Written, Full, Read, Coming, Swapped, Ring, CellOk, RingOk, owner, HoldsNone}
+use Rattle.law_ring.specs.RingCells.{Cell, Free, Written, Full, Read, Coming, Ring, CellOk, RingOk, HoldsNone}
 use Rattle.law_ring.proofs.RingCells.{wraps, together}
 use Rattle.law_ring.proofs.RingTransitions.{in_ring}
 use Rattle.law_ring.specs.RingTransitions.{written}

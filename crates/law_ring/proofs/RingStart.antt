@@ -1,5 +1,5 @@
 -- Where a call on a ring begins, which slot it touches, and what is coming behind a front.
-use Rattle.std.proofs.Common.{ℕ, ◌+◌, ◌%◌, ◌≡◌, ◌∙◌, Bool, Option, Some, List, [], sym, ap}
+use Rattle.std.proofs.Common.{ℕ, ◌+◌, ◌%◌, ◌≡◌, ◌∙◌, Bool, Some, List, [], sym, ap}
 use Rattle.queue_steps.specs.State.{State}
 use Rattle.queue_steps.specs.Kinds.{call_kind}
 use Rattle.queue_steps.specs.BoundedNext.{bounded_begin}

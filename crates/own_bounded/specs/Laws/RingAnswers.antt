@@ -1,6 +1,6 @@
 -- Every call on a ring ends with its reply: it is a call of the only party, whose steps are those of the laws of parties.
 use Rattle.std.specs.Prelude.{◌==◌, if◌then◌else◌}
-use Rattle.std.proofs.Common.{◌≡◌, ◌||◌, ℕ, zero, suc, ◌<◌, ◌≤◌, not, Bool, true, false, List, [], ◌∷◌, length, get_or, Option, Some, None, Ok, Err, refl, arith, sym, ap, ◌∙◌, subst, inl, inr}
+use Rattle.std.proofs.Common.{◌≡◌, ◌||◌, ℕ, zero, suc, ◌<◌, ◌≤◌, not, Bool, true, false, List, [], ◌∷◌, length, get_or, Option, Some, None, Err, refl, arith, sym, ap, ◌∙◌, subst, inl, inr}
 use Rattle.std.proofs.lemmas.List.{get_or-map, length-map}
 use Rattle.queue_steps.specs.State.{State, is_single_cap}
 use Rattle.queue_steps.specs.Effect.{after_from}
@@ -19,7 +19,7 @@ use Rattle.law_common.proofs.Alone.{Alone, alone_first, alone_more, only_seen}
 use Rattle.law_ring.specs.RingShared.{answered, touched, handed}
 use Rattle.law_ring.specs.RingCells.{Ring, queue_of, RingOk, HoldsNone}
 use Rattle.law_ring.specs.RingWords.{Codes}
-use Rattle.law_ring.proofs.RingIdle.{NobodyHolds, AtRest, at_rest}
+use Rattle.law_ring.proofs.RingIdle.{AtRest, at_rest}
 use Rattle.law_ring.proofs.RingTransitions.{not_single}
 use Rattle.law_ring.proofs.RingRanks.{rank, rank_some}
 use Rattle.law_ring.proofs.RingSlots.{nobody}
@@ -28,7 +28,6 @@ use Rattle.law_ring.proofs.RingFronts.{may_front}
 use Rattle.law_ring.proofs.RingStart.{at_first}
 use Rattle.law_ring.proofs.RingStep.{step_good}
 use Rattle.call_driver.specs.EndsIn.{EndsIn, EndsRight, Released, Replied, Answered}
-use Rattle.call_driver.specs.Apart.{AnswersApart}
 use Rattle.own_bounded.specs.RingCells.{RingSlot, RingState, slot_in, kind_of_ring, ring_touchable, ring_touched, ring_operable, ring_performed, ring_can_touch, ring_touches, ring_can_perform, ring_performs, ring_can_release, ring_releases}
 use Rattle.own_bounded.specs.RingOwned.{IsIdle, ring_queue, ring_owned}
 use Rattle.own_bounded.specs.Laws.ComputedRuns.{EndsIn-step}
@@ -95,14 +94,20 @@ module _ {T : Type 0} where
     ends r g ms was es x v h alone none (y, fills, tells, right) =
         let rest = rests r g h none in
         let Q : State T = ring_queue first in
-        let leads : after_from Q es ≡ ring_queue r = alone.leads ∙ sym rest.1 in
-        (rest.0, (y, fills, elim (does_row Q Q.accepted (inr refl) c y es tells alone.runs (λ e. inl (only_seen Q ms (λ m. IsRightAt m c y) (alone.only e) (right e))) (λ old w e. subst (FrontOpen Q) e alone.first)) [
-          | inl d ↦
-              let shown : IsShown (sequential_state Q c) (ring_queue r) = subst (IsShown (sequential_state Q c)) leads d.1 in
-              let many : is_single_cap (sequential_state Q c).cap ≡ false = ap is_single_cap shown.cap ∙ (ap (λ n. is_single_cap (Some n)) h.same ∙ not_single cap h.ok.ring) in
-              sequential first r c y d.0 (sym (shown_same (sequential_state Q c) (ring_queue r) many shown))
-          | inr l ↦ absurd (let f : Some cap ≡ None = lacks_none Q c y l.0 in cc)
-        ]))
+        let leads : after_from Q es ≡ ring_queue r = alone.leads ∙ sym rest.1 in (
+          rest.0,
+          (
+            y,
+            fills,
+            elim (does_row Q Q.accepted (inr refl) c y es tells alone.runs (λ e. inl (only_seen Q ms (λ m. IsRightAt m c y) (alone.only e) (right e))) (λ old w e. subst (FrontOpen Q) e alone.first)) [
+              | inl d ↦
+                  let shown : IsShown (sequential_state Q c) (ring_queue r) = subst (IsShown (sequential_state Q c)) leads d.1 in
+                  let many : is_single_cap (sequential_state Q c).cap ≡ false = ap is_single_cap shown.cap ∙ (ap (λ n. is_single_cap (Some n)) h.same ∙ not_single cap h.ok.ring) in
+                  sequential first r c y d.0 (sym (shown_same (sequential_state Q c) (ring_queue r) many shown))
+              | inr l ↦ absurd (let f : Some cap ≡ None = lacks_none Q c y l.0 in cc)
+            ],
+          ),
+        )
 
     -- what a call has to end with
     abbrev Right : Reply Unit → Option ℕ → Option T → RingState T → Type 0
@@ -139,10 +144,12 @@ pub ring_answers : {T : Type 0} (r : RingState T) (c : Call T) → IsIdle r → 
 ring_answers r Call.Capacity i = (i.ring, (i, (Reply.Capacity (Some r.cap), refl, sequential r r Call.Capacity (Reply.Capacity (Some r.cap)) refl refl)))
 ring_answers {T} r c i =
     let g : Ring T = ring_of r in
-    let none = nobody_holds r in
-    (i.ring, runs r c SOLO_STEPS SOLO_STEPS r g g (bounded_begin r.cap (call_kind c)) (call_value c) [] false []
-    (record { same = refl; ok = party_ok r i; codes = party_codes r i; quiet = λ other ne. none other }) (λ other ne. none other) (alone_first (ring_queue r))
-    (at_first r.cap g 0 c (none 0), λ calm. omega arith) (omega arith) (omega arith))
+    let none = nobody_holds r in (
+      i.ring,
+      runs r c SOLO_STEPS SOLO_STEPS r g g (bounded_begin r.cap (call_kind c)) (call_value c) [] false []
+          (record { same = refl; ok = party_ok r i; codes = party_codes r i; quiet = λ other ne. none other }) (λ other ne. none other) (alone_first (ring_queue r))
+          (at_first r.cap g 0 c (none 0), λ calm. omega arith) (omega arith) (omega arith),
+    )
 
 pub ring_stays : {T : Type 0} (r : RingState T) (o : Op ℕ) (carried : Option T) → ring_touches r Touch.Nothing o carried r carried
 ring_stays r o carried = refl

@@ -1,16 +1,16 @@
 -- A ring with one owner between calls, as a ring of the laws of parties: nobody has a slot, and each is full or free by its position.
-use Rattle.std.proofs.Common.{◌≡◌, ◌⊎◌, ℕ, zero, suc, ◌+◌, ◌-◌, ◌*◌, ◌/◌, ◌%◌, ◌<◌, ◌≤◌, true, List, ◌∷◌, length, map, Option, Some, None, refl, arith, sym, ap, ◌∙◌, subst, inl, inr, slice_get}
+use Rattle.std.proofs.Common.{◌≡◌, ℕ, zero, suc, ◌+◌, ◌-◌, ◌*◌, ◌/◌, ◌%◌, ◌<◌, ◌≤◌, List, length, map, Option, Some, None, refl, arith, sym, ap, ◌∙◌, subst, inl, inr, slice_get}
 use Rattle.std.proofs.Math.Nat.{div-add-mod, add-mod_right}
 use Rattle.std.proofs.lemmas.Bool.Decides.{eqb_tells}
 use Rattle.std.proofs.lemmas.List.{get_or-map, length-map}
 use Rattle.std.proofs.lemmas.Nat.{mod-mul-add}
-use Rattle.queue_steps.specs.Words.{position_of, is_shut, tail_of, slot_at, stamp_filled}
+use Rattle.queue_steps.specs.Words.{position_of, is_shut, tail_of, slot_at}
 use Rattle.law_ring.specs.RingShared.{Shared}
 use Rattle.law_ring.specs.RingCells.{Cell, Free, Full, Ring, CellOk, RingOk, owner}
 use Rattle.law_ring.specs.RingWords.{Codes, stamp_in, item_in}
 use Rattle.law_ring.proofs.RingIdle.{NobodyHolds}
 use Rattle.own_bounded.specs.RingCells.{RingSlot, RingState, slot_in}
-use Rattle.own_bounded.specs.RingOwned.{at_position, filled_slot, free_slot, items_of, IsIdle, ring_queue}
+use Rattle.own_bounded.specs.RingOwned.{at_position, filled_slot, items_of, IsIdle, ring_queue}
 use Rattle.own_bounded.specs.Laws.Numbers.{below_or_not}
 
 -- a slot of the lap that n stands in

@@ -1,5 +1,5 @@
 -- A ring of the laws of parties of which nobody has a slot is one with one owner, between calls and in the same state.
-use Rattle.std.proofs.Common.{◌≡◌, ℕ, zero, suc, ◌+◌, ◌-◌, ◌%◌, ◌<◌, ◌≤◌, List, [], ◌∷◌, length, get_or, Option, Some, None, refl, ap, sym, ◌∙◌, subst, arith, slice_get}
+use Rattle.std.proofs.Common.{◌≡◌, ℕ, zero, suc, ◌+◌, ◌-◌, ◌%◌, ◌<◌, ◌≤◌, List, [], ◌∷◌, length, get_or, Some, None, refl, ap, sym, ◌∙◌, subst, arith, slice_get}
 use Rattle.queue_steps.specs.Words.{position_of, is_shut, stamp_free, stamp_filled}
 use Rattle.law_common.proofs.Tails.{position_tail, shut_tail}
 use Rattle.law_ring.specs.RingCells.{Ring, queue_of, RingOk}

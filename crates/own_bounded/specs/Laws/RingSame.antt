@@ -1,11 +1,11 @@
 -- A step on the words and slots of one owner is that step of the laws of parties.
-use Rattle.std.specs.Prelude.{◌==◌, slice_set, bit_or, if◌then◌else◌}
-use Rattle.std.proofs.Common.{◌≡◌, ℕ, ◌+◌, ◌^◌, ◌<◌, Bool, true, false, List, length, map, get_or, Option, None, refl, sym, ap, ◌∙◌, subst}
-use Rattle.std.proofs.lemmas.List.{get_or-map, length-map, length-set, map-set, set-get_or}
+use Rattle.std.specs.Prelude.{◌==◌, slice_set, if◌then◌else◌}
+use Rattle.std.proofs.Common.{◌≡◌, ℕ, ◌+◌, ◌^◌, ◌<◌, Bool, true, false, List, length, get_or, Option, None, refl, sym, ap, ◌∙◌, subst}
+use Rattle.std.proofs.lemmas.List.{get_or-map, length-map, map-set, set-get_or}
 use Rattle.queue_steps.specs.State.{State}
 use Rattle.law_common.specs.Vocabulary.{Word, Op, Touch, Answer}
 use Rattle.law_common.specs.Stand.{Stand}
-use Rattle.law_ring.specs.RingShared.{Shared, CanTouch, CanOperate, answered, operated, touched, handed, put_word, put_item}
+use Rattle.law_ring.specs.RingShared.{CanTouch, CanOperate, answered, operated, touched, handed, put_word, put_item}
 use Rattle.law_ring.specs.RingCells.{Ring}
 use Rattle.law_ring.specs.RingAt.{At, push_tail}
 use Rattle.own_bounded.specs.RingCells.{RingSlot, RingState, slot_in, exchanged, ring_touchable, ring_touched, ring_operable, ring_performed}
