@@ -3,33 +3,20 @@ use Rattle.std.specs.Prelude.{ℕ, Option, Some, None}
 use Rattle.queue_steps.specs.declared.model.Call.{Call}
 use Rattle.queue_steps.specs.declared.model.Reply.{Reply}
 use Rattle.queue_steps.specs.declared.steps.types.Answer.{Answer}
-use Rattle.queue_steps.specs.declared.steps.types.Kind.{Kind}
 use Rattle.queue_steps.specs.declared.steps.types.Next.{Next}
 use Rattle.queue_steps.specs.declared.steps.types.Next.TheVariants as next
 use Rattle.queue_steps.specs.declared.steps.types.Op.{Op}
 use Rattle.queue_steps.specs.declared.steps.types.Touch.{Touch}
 use Rattle.queue_steps.specs.declared.steps.types.Local.{Local}
-use Rattle.queue_steps.specs.Next.{CanNext, next_of}
 use Rattle.std.proofs.Common.{ap}
-use Rattle.call_driver.specs.Leads.{Leads, GoesOn}
+use Rattle.call_driver.specs.Leads.{Leads}
 
--- f tells what a queue shows, and g what a seat does
-module _ {T B M N R S : Type 0} (can : N → R → Call Unit → Local B → Touch → Op B → Option T → Type 0) (does : N → R → Call Unit → Local B → Touch → Op B → Option T → Answer B → R → Option T → Type 0)
+-- what leads on for what a seat and a queue show leads on for them
+pub leads-through : {T B M N R S : Type 0} (can : N → R → Call Unit → Local B → Touch → Op B → Option T → Type 0) (does : N → R → Call Unit → Local B → Touch → Op B → Option T → Answer B → R → Option T → Type 0)
     (spares : N → R → B → Type 0) (gives : N → R → B → R → Type 0)
     (stands : ℕ → N → R → Call T → Local B → Answer B → R → Option T → Type 0) (ended : N → R → Call T → Reply T → R → Type 0)
-    (f : M → N) (g : S → R) where
-  abbrev LeadsThrough : ℕ → M → S → Call T → Next B → S → Option T → Type 0
-  LeadsThrough = Leads {M = M} {S = S} (λ n r. can (f n) (g r)) (λ n r k l u o y a q. does (f n) (g r) k l u o y a (g q)) (λ n r. spares (f n) (g r)) (λ n r b q. gives (f n) (g r) b (g q)) (λ i n r k l a q. stands i (f n) (g r) k l a (g q)) (λ n r k y q. ended (f n) (g r) k y (g q))
-
-  abbrev pub GoesOnThrough : ℕ → Kind → M → S → Call T → Local B → Answer B → S → Option T → Type 0
-  GoesOnThrough n k m first c l a s x = CanNext k l a × LeadsThrough n m first c (next_of k l a) s x
-
-  -- what leads on for what they show leads on for them
-  leads_through : (n : ℕ) (m : M) (first s : S) (c : Call T) (todo : Next B) (x : Option T) → Leads can does spares gives stands ended n (f m) (g first) c todo (g s) x → LeadsThrough n m first c todo s x
-  leads_through n m first s c (next.Reply r None) x h = (tt, λ after same. h.1 (g after) (ap g same))
-  leads_through n m first s c (next.Reply r (Some block)) x h = (h.0, λ after gift. h.1 (g after) gift)
-  leads_through n m first s c (next.Step l t o) x h = (h.0, λ a after left did. h.1 a (g after) left did)
-
-  -- and what goes on for it goes on
-  pub goes_on_through : (n : ℕ) (k : Kind) (m : M) (first s : S) (c : Call T) (l : Local B) (a : Answer B) (x : Option T) → GoesOn can does spares gives stands ended n k (f m) (g first) c l a (g s) x → GoesOnThrough n k m first c l a s x
-  goes_on_through n k m first s c l a x h = (h.0, leads_through n m first s c (next_of k l a) x h.1)
+    (f : M → N) (g : S → R) (n : ℕ) (m : M) (first s : S) (c : Call T) (todo : Next B) (x : Option T) → Leads can does spares gives stands ended n (f m) (g first) c todo (g s) x
+    → Leads {M = M} {S = S} (λ n r. can (f n) (g r)) (λ n r k l u o y a q. does (f n) (g r) k l u o y a (g q)) (λ n r. spares (f n) (g r)) (λ n r b q. gives (f n) (g r) b (g q)) (λ i n r k l a q. stands i (f n) (g r) k l a (g q)) (λ n r k y q. ended (f n) (g r) k y (g q)) n m first c todo s x
+leads-through can does spares gives stands ended f g n m first s c (next.Reply r None) x h = (tt, λ after same. h.1 (g after) (ap g same))
+leads-through can does spares gives stands ended f g n m first s c (next.Reply r (Some block)) x h = (h.0, λ after gift. h.1 (g after) gift)
+leads-through can does spares gives stands ended f g n m first s c (next.Step l t o) x h = (h.0, λ a after left did. h.1 a (g after) left did)

@@ -11,7 +11,7 @@ use Rattle.shared_chain.specs.declared.web.ChainWeb.{ChainWeb}
 use Rattle.shared_chain.specs.Turning.{SitsAt, ChainCan, ChainDoes, ChainRests, ChainStands, ChainEnded, GaveUp, ChainLeads}
 use Rattle.shared_chain.proofs.Leading as steps
 use Rattle.call_driver.specs.Leads.{Leads, GoesOn}
-use Rattle.call_driver.proofs.LeadsThrough.{GoesOnThrough, goes_on_through}
+use Rattle.call_driver.proofs.LeadsThrough.{leads-through}
 use Rattle.shared_site.specs.ChainSite.{ChainSpares, ChainGives, ChainOnWay}
 
 module _ {T A : Type 0} (left : ℕ) where
@@ -35,11 +35,12 @@ module _ {T A : Type 0} (left : ℕ) where
 -- the same for what does the calls: it shows a chain, and its seat
 module _ {T A M S : Type 0} (chain : M → ChainWeb T A) (seat : S → Seat T (CallState T) A) where
   abbrev SiteGoesOn : ℕ → M → S → Call T → Local (Place T) → Answer (Place T) → S → Option T → Type 0
-  SiteGoesOn n = GoesOnThrough ChainCan (λ w s k l u o x a q y. ChainDoes s k l u o x a q y) ChainSpares ChainGives ChainOnWay ChainEnded chain seat n Kind.Unbounded
+  SiteGoesOn n = GoesOn {M = M} {S = S} (λ m s. ChainCan (chain m) (seat s)) (λ m s k l u o x a q y. ChainDoes (seat s) k l u o x a (seat q) y) (λ m s. ChainSpares (chain m) (seat s)) (λ m s b q. ChainGives (chain m) (seat s) b (seat q))
+      (λ n m s c l a q. ChainOnWay n (chain m) (seat s) c l a (seat q)) (λ m s c r q. ChainEnded (chain m) (seat s) c r (seat q)) n Kind.Unbounded
 
   through : (n : ℕ) (m : M) (first s : S) (c : Call T) (l : Local (Place T)) (a : Answer (Place T)) (x : Option T)
       → GoesOn ChainCan (λ w s k l u o x a q y. ChainDoes s k l u o x a q y) ChainSpares ChainGives ChainOnWay ChainEnded n Kind.Unbounded (chain m) (seat first) c l a (seat s) x → SiteGoesOn n m first c l a s x
-  through n = goes_on_through ChainCan (λ w s k l u o x a q y. ChainDoes s k l u o x a q y) ChainSpares ChainGives ChainOnWay ChainEnded chain seat n Kind.Unbounded
+  through n m first s c l a x g = (g.0, leads-through ChainCan (λ w s k l u o x a q y. ChainDoes s k l u o x a q y) ChainSpares ChainGives ChainOnWay ChainEnded chain seat n m first s c (next_of Kind.Unbounded l a) x g.1)
 
   pub site_goes_on : (n : ℕ) (m : M) (first : S) (c : Call T) (l : Local (Place T)) (a : Answer (Place T)) (s : S) (x : Option T) → ChainOnWay (suc n) (chain m) (seat first) c l a (seat s) x → SiteGoesOn n m first c l a s x
   site_goes_on n m first c l a s x h = through n m first s c l a x (chain_goes_on n (chain m) (seat first) c l a (seat s) x h)

@@ -25,7 +25,7 @@ use Rattle.shared_parties.proofs.Called.{whole}
 use Rattle.shared_parties.proofs.Histories.{prefix_self}
 use Rattle.shared_parties.proofs.SharedCalls.{quiet}
 use Rattle.call_driver.specs.Leads.{Leads, GoesOn}
-use Rattle.call_driver.proofs.LeadsThrough.{GoesOnThrough, goes_on_through}
+use Rattle.call_driver.proofs.LeadsThrough.{leads-through}
 
 module _ (T : Type 0) (K : ℕ → TableOf T) (t : TableId) (left : ℕ) where
   abbrev TableLeads : TableSeat T → Call T → Next ℕ → TableSeat T → Option T → Type 0
@@ -158,11 +158,12 @@ module _ (T : Type 0) (K : ℕ → TableOf T) (t : TableId) (left : ℕ) where
 -- the same for what does the calls: it shows a table, and what is at its seat
 module _ {T M S : Type 0} (K : ℕ → TableOf T) (table : M → TableId) (seat : S → TableSeat T) where
   abbrev SiteGoesOn : ℕ → M → S → Call T → Local ℕ → Answer ℕ → S → Option T → Type 0
-  SiteGoesOn n m = GoesOnThrough (TableCan K) (TableDoes K) NoBlock NoGift (TableStands K) (TableEnded K) table seat n (K (table m).slots).calls.kind m
+  SiteGoesOn n m = GoesOn {M = M} {S = S} (λ m s. TableCan K (table m) (seat s)) (λ m s k l u o x a q. TableDoes K (table m) (seat s) k l u o x a (seat q)) (λ m s. NoBlock (table m) (seat s)) (λ m s b q. NoGift (table m) (seat s) b (seat q))
+      (λ n m s c l a q. TableStands K n (table m) (seat s) c l a (seat q)) (λ m s c r q. TableEnded K (table m) (seat s) c r (seat q)) n (K (table m).slots).calls.kind m
 
   through : (n : ℕ) (m : M) (first s : S) (c : Call T) (l : Local ℕ) (a : Answer ℕ) (x : Option T)
       → GoesOn (TableCan K) (TableDoes K) NoBlock NoGift (TableStands K) (TableEnded K) n (K (table m).slots).calls.kind (table m) (seat first) c l a (seat s) x → SiteGoesOn n m first c l a s x
-  through n m = goes_on_through (TableCan K) (TableDoes K) NoBlock NoGift (TableStands K) (TableEnded K) table seat n (K (table m).slots).calls.kind m
+  through n m first s c l a x g = (g.0, leads-through (TableCan K) (TableDoes K) NoBlock NoGift (TableStands K) (TableEnded K) table seat n m first s c (next_of (K (table m).slots).calls.kind l a) x g.1)
 
   pub site_goes_on : (n : ℕ) (m : M) (first : S) (c : Call T) (l : Local ℕ) (a : Answer ℕ) (s : S) (x : Option T) → TableStands K (suc n) (table m) (seat first) c l a (seat s) x → SiteGoesOn n m first c l a s x
   site_goes_on n m first c l a s x h = through n m first s c l a x (table_goes_on T K (table m) n (seat first) c l a (seat s) x h)
