@@ -1,7 +1,6 @@
 //! A chain of blocks that parties share: how the driver takes a call's steps on it.
 ghost use Rattle.std.specs.Prelude.{◌≡◌, true, false, None, Some};
 ghost use Rattle.mem_blocks.specs.Web.{sitter};
-ghost use Rattle.queue_steps.specs.Next.{next_of};
 ghost use Rattle.queue_steps.specs.declared.steps.types.Kind.TheVariants as kinds;
 ghost use Rattle.shared_chain.specs.Turning.{Carries, GaveUp, SitsAt, ChainCan, ChainDoes, web_of};
 
@@ -29,12 +28,8 @@ impl<T, A: Allocator, Q: Source<T, A>> Site<T, Place<T>, Asking<T, A, Q>> for Al
 
     ghost use Rattle.std.specs.Prelude.{refl};
     ghost use Rattle.shared_site.specs.ChainSite.{ChainSpares, ChainGives, ChainOnWay};
-    ghost use Rattle.shared_site.specs.Laws.ChainSite.{chain_begins, chain_goes_on};
-    ghost use Rattle.call_driver.proofs.LeadsThrough.{leads-through};
+    ghost use Rattle.shared_site.specs.Laws.ChainSite.{site_begins, site_goes_on};
     ghost use Rattle.shared_chain.specs.Turning.{ChainRests, ChainEnded};
-    ghost use Rattle.queue_steps.specs.Kinds.{call_kind, call_value};
-    ghost use Rattle.queue_steps.specs.Next.{first_local};
-    ghost use Rattle.queue_steps.specs.declared.steps.types.Answer.TheVariants as answer;
 
     ghost kind_of = { λ _ _. kinds.Unbounded };
 
@@ -54,9 +49,9 @@ impl<T, A: Allocator, Q: Source<T, A>> Site<T, Place<T>, Asking<T, A, Q>> for Al
 
     ghost steps_fit = { λ _ _. refl };
 
-    ghost begins = { λ m s c h n _. let b = chain_begins n m.chain s.seat c h in (b.0, leads-through ChainCan (λ m s k l u o x a q y. ChainDoes s k l u o x a q y) ChainSpares ChainGives ChainOnWay ChainEnded (λ m. m.chain) (λ s. s.seat) n m s s c (next_of kinds.Unbounded (first_local (call_kind c)) answer.Start) (call_value c) b.1) };
+    ghost begins = { site_begins (λ m. m.chain) (λ s. s.seat) };
 
-    ghost goes_on = { λ n m first c l a s x h. let g = chain_goes_on n m.chain first.seat c l a s.seat x h in (g.0, leads-through ChainCan (λ m s k l u o x a q y. ChainDoes s k l u o x a q y) ChainSpares ChainGives ChainOnWay ChainEnded (λ m. m.chain) (λ s. s.seat) n m first s c (next_of kinds.Unbounded l a) x g.1) };
+    ghost goes_on = { site_goes_on (λ m. m.chain) (λ s. s.seat) };
 
     ghost more = { λ n m first c l a s x h. h };
 

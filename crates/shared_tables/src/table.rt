@@ -161,11 +161,7 @@ impl<T, K: TableSteps<T>, A: Allocator> Site<T, usize, Seat<Option<T>, CallState
     ghost use Rattle.shared_tables.specs.AtTable.{IsAt};
     ghost use Rattle.shared_parties.specs.Calling.{cap_of};
     ghost use Rattle.shared_tables.specs.TableTurns.{TableCan, TableDoes, NoBlock, NoGift, TableStands, TableEnded};
-    ghost use Rattle.shared_tables.specs.Laws.TableLeads.{table_begins, table_goes_on};
-    ghost use Rattle.call_driver.proofs.LeadsThrough.{leads-through};
-    ghost use Rattle.queue_steps.specs.Kinds.{call_kind, call_value};
-    ghost use Rattle.queue_steps.specs.Next.{next_of, first_local};
-    ghost use Rattle.queue_steps.specs.declared.steps.types.Answer.TheVariants as answer;
+    ghost use Rattle.shared_tables.specs.Laws.TableLeads.{site_begins, site_goes_on};
 
     ghost kind_of = { λ m _. (K.layout m.table.shared.table_id.slots).calls.kind };
 
@@ -185,9 +181,9 @@ impl<T, K: TableSteps<T>, A: Allocator> Site<T, usize, Seat<Option<T>, CallState
 
     ghost steps_fit = { λ m _. K.steps_fit m.table.shared.table_id.slots };
 
-    ghost begins = { λ m s c h n _. let b = table_begins T K.layout m.table.shared.table_id n (K.words m.table.shared.table_id.slots) (K.laws m.table.shared.table_id.slots m.sized.2 m.sized.3) (s.table_id, s.me) c h in (b.0, leads-through (TableCan K.layout) (TableDoes K.layout) NoBlock NoGift (TableStands K.layout) (TableEnded K.layout) (λ m. m.table.shared.table_id) (λ s. (s.table_id, s.me)) n m s s c (next_of (K.layout m.table.shared.table_id.slots).calls.kind (first_local (call_kind c)) answer.Start) (call_value c) b.1) };
+    ghost begins = { site_begins K.layout (λ m. m.table.shared.table_id) (λ s. (s.table_id, s.me)) (λ m. K.words m.table.shared.table_id.slots) (λ m. K.laws m.table.shared.table_id.slots m.sized.2 m.sized.3) };
 
-    ghost goes_on = { λ n m first c l a s x h. let g = table_goes_on T K.layout m.table.shared.table_id n (first.table_id, first.me) c l a (s.table_id, s.me) x h in (g.0, leads-through (TableCan K.layout) (TableDoes K.layout) NoBlock NoGift (TableStands K.layout) (TableEnded K.layout) (λ m. m.table.shared.table_id) (λ s. (s.table_id, s.me)) n m first s c (next_of (K.layout m.table.shared.table_id.slots).calls.kind l a) x g.1) };
+    ghost goes_on = { site_goes_on K.layout (λ m. m.table.shared.table_id) (λ s. (s.table_id, s.me)) };
 
     ghost more = { λ n m first c l a s x h. h };
 

@@ -1,7 +1,7 @@
 -- The laws of `Site` for a queue in a table: where a call stands after a step is what the step told.
-use Rattle.std.proofs.Common.{◌≡◌, ℕ, [], Option, Some, None, refl, ap, sym, ◌∙◌, subst, inl, inr}
+use Rattle.std.proofs.Common.{◌≡◌, ℕ, suc, [], Option, Some, None, refl, ap, sym, ◌∙◌, subst, inl, inr}
 use Rattle.atomic_table.specs.Seated.{TableId}
-use Rattle.law_common.specs.Vocabulary.{Call, Op, Touch, Answer, Local, Next}
+use Rattle.law_common.specs.Vocabulary.{Call, Op, Touch, Answer, Local, Next, SOLO_STEPS}
 use Rattle.queue_steps.specs.Effect.{after}
 use Rattle.queue_steps.specs.Kinds.{call_kind, call_value, with_value}
 use Rattle.queue_steps.specs.Next.{CanNext, next_of, first_local}
@@ -25,6 +25,7 @@ use Rattle.shared_parties.proofs.Called.{whole}
 use Rattle.shared_parties.proofs.Histories.{prefix_self}
 use Rattle.shared_parties.proofs.SharedCalls.{quiet}
 use Rattle.call_driver.specs.Leads.{Leads, GoesOn}
+use Rattle.call_driver.proofs.LeadsThrough.{leads-through}
 
 module _ (T : Type 0) (K : ℕ → TableOf T) (t : TableId) (left : ℕ) where
   abbrev TableLeads : TableSeat T → Call T → Next ℕ → TableSeat T → Option T → Type 0
@@ -81,7 +82,7 @@ module _ (T : Type 0) (K : ℕ → TableOf T) (t : TableId) (left : ℕ) where
     ),
   )
 
-  pub table_goes_on : (p : TableSeat T) (c : Call T) (l : Local ℕ) (a : Answer ℕ) (q : TableSeat T) (y : Option T) → TableStands K left t p c l a q y
+  table_goes_on : (p : TableSeat T) (c : Call T) (l : Local ℕ) (a : Answer ℕ) (q : TableSeat T) (y : Option T) → TableStands K left t p c l a q y
       → GoesOn (TableCan K) (TableDoes K) NoBlock NoGift (TableStands K) (TableEnded K) left (K t.slots).calls.kind t p c l a q y
   table_goes_on p c l a q y st = (st.1.3, told_leads p c q y st.1.0 (next_of (K t.slots).calls.kind l a) st.0 st.1.1 st.1.2 st.1.4)
 
@@ -150,6 +151,23 @@ module _ (T : Type 0) (K : ℕ → TableOf T) (t : TableId) (left : ℕ) where
       let cap : Option ℕ = cap_of (K t.slots).calls in let h = p.1.0.known.seen in
       (tt, λ last still. (y, fill, subst (TableEnded K t p c y) (sym still) (at, quiet cap (view_at p.1) (view_at p.1) h c y (prefix_self h) (prefix_self h) at.3 refl refl tells (right (after cap h) (cap_after cap h)))))
 
-  pub table_begins : (words : ℕ) → TableLaws (K t.slots) words → (p : TableSeat T) (c : Call T) → IsAt (cap_of (K t.slots).calls) t p
+  table_begins : (words : ℕ) → TableLaws (K t.slots) words → (p : TableSeat T) (c : Call T) → IsAt (cap_of (K t.slots).calls) t p
       → GoesOn (TableCan K) (TableDoes K) NoBlock NoGift (TableStands K) (TableEnded K) left (K t.slots).calls.kind t p c (first_local (call_kind c)) Answer.Start p (call_value c)
   table_begins words laws p c at = let o = laws.opens c in (o.0, opens_leads p c (first_of (K t.slots).calls.kind c) at refl o.1)
+
+-- the same for what does the calls: it shows a table, and what is at its seat
+module _ {T M S : Type 0} (K : ℕ → TableOf T) (table : M → TableId) (seat : S → TableSeat T) where
+  abbrev SiteGoesOn : ℕ → M → S → Call T → Local ℕ → Answer ℕ → S → Option T → Type 0
+  SiteGoesOn n m = GoesOn {M = M} {S = S} (λ m s. TableCan K (table m) (seat s)) (λ m s k l u o x a q. TableDoes K (table m) (seat s) k l u o x a (seat q)) (λ m s. NoBlock (table m) (seat s)) (λ m s b q. NoGift (table m) (seat s) b (seat q))
+      (λ n m s c l a q. TableStands K n (table m) (seat s) c l a (seat q)) (λ m s c r q. TableEnded K (table m) (seat s) c r (seat q)) n (K (table m).slots).calls.kind m
+
+  through : (n : ℕ) (m : M) (first s : S) (c : Call T) (l : Local ℕ) (a : Answer ℕ) (x : Option T)
+      → GoesOn (TableCan K) (TableDoes K) NoBlock NoGift (TableStands K) (TableEnded K) n (K (table m).slots).calls.kind (table m) (seat first) c l a (seat s) x → SiteGoesOn n m first c l a s x
+  through n m first s c l a x g = (g.0, leads-through (TableCan K) (TableDoes K) NoBlock NoGift (TableStands K) (TableEnded K) table seat n m first s c (next_of (K (table m).slots).calls.kind l a) x g.1)
+
+  pub site_goes_on : (n : ℕ) (m : M) (first : S) (c : Call T) (l : Local ℕ) (a : Answer ℕ) (s : S) (x : Option T) → TableStands K (suc n) (table m) (seat first) c l a (seat s) x → SiteGoesOn n m first c l a s x
+  site_goes_on n m first c l a s x h = through n m first s c l a x (table_goes_on T K (table m) n (seat first) c l a (seat s) x h)
+
+  pub site_begins : (words : M → ℕ) → ((m : M) → TableLaws (K (table m).slots) (words m)) → (m : M) (s : S) (c : Call T) → IsAt (cap_of (K (table m).slots).calls) (table m) (seat s)
+      → (n : ℕ) → suc n ≡ SOLO_STEPS → SiteGoesOn n m s c (first_local (call_kind c)) Answer.Start s (call_value c)
+  site_begins words laws m s c rests n all = through n m s s c (first_local (call_kind c)) Answer.Start (call_value c) (table_begins T K (table m) n (words m) (laws m) (seat s) c rests)
