@@ -49,12 +49,10 @@ pub told_here : {T : Type 0} (a : SeatPlace T) (s : Seat (Option T) (CallState T
     → IsHeld b × Tries v c x (party_view_of b)
 told_here a s cap t v sits is is_v of q b c x sat h = told_table a s cap t sits is q b v c x x sat refl is_v (ap (λ (z : QueueId). z.cap) of) (sym (here a s cap t v sits is is_v of)) h
 
--- the same of a call that a seat's own function has tried
-pub told_where : {T : Type 0} (a s b q : SeatPlace T) (v : PartyView T) (c : Call T) (x : ControlFlow (Reply T) (Option T)) → a ≡ s → party_view_of a ≡ v → b ≡ q → IsHeld q × Tries (party_view_of s) c x (party_view_of q) → IsHeld b × Tries v c x (party_view_of b)
-told_where a s b q v c x sits is_v sat h = (
-  subst IsHeld (sym sat) h.0,
-  subst (λ p. Tries v c x (party_view_of p)) (sym sat) (subst (λ p. Tries p c x (party_view_of q)) (ap party_view_of (sym sits) ∙ is_v) h.1),
-)
+-- and what its caller is told
+pub tells : {T X Y : Type 0} (asks : X → Call T) (Tells : PartyView T → X → Y → PartyView T → Type 0) (v : PartyView T) (b : SeatPlace T) (given : X) (c : Call T) (told : ControlFlow (Reply T) (Option T)) (y z : Y)
+    → IsHeld b × Tries v c told (party_view_of b) → c ≡ asks given → ((v w : PartyView T) (x : X) → Tries v (asks x) told w → Tells v x y w) → z ≡ y → IsHeld b × Tells v given z (party_view_of b)
+tells asks Tells v b given c told y z h asked tell same = (h.0, subst (λ r. Tells v given r (party_view_of b)) (sym same) (tell v (party_view_of b) given (subst (λ k. Tries v k told (party_view_of b)) asked h.1)))
 
 -- what follows of each way that a call was told
 pub told_map : {R V : Type 0} {P Q : V → Type 0} {E F : R → Type 0} → ((v : V) → P v → Q v) → ((r : R) → E r → F r) → (x : ControlFlow R V) → MatchControlFlow x P E → MatchControlFlow x Q F
