@@ -12,8 +12,7 @@ ghost use Rattle.concurrent_queue.specs.Shared.{IsPartyOf, Calls};
 
 pub use crate::party::Party;
 use crate::party::SeatPlace;
-use atomic_table::Seat;
-use call_driver::fast::{Short, Usual};
+use call_driver::fast::Short;
 use call_driver::gate::{Gate, Open};
 use call_steps::{shown_len, shows_closed};
 use exclusive_queue::text::write_queue;
@@ -25,14 +24,13 @@ use shared_calls::chain;
 use shared_calls::waiting::{run_either, run_fast, run_slow};
 use shared_chain::source::{Granting, Refusing, Source};
 use shared_chain::web::ChainWeb;
-use shared_parties::known::CallState;
 use shared_site::allocated_chain::AllocatedChain;
 use shared_tables::ring::{self, Rings, open_ring};
 use shared_tables::slot::{self, Slots, open_slot};
 use shared_tables::table::SharedTable;
 use std::alloc::{AllocError, Allocator, Global};
 use std::fmt;
-use std::marker::{Model, PhantomData};
+use std::marker::Model;
 use std::ops::ControlFlow;
 use std::sync::Wait;
 
@@ -66,11 +64,6 @@ struct Pops;
 struct Counts;
 
 struct Begins;
-
-/// The same calls on a ring whose capacity is a power of two.
-struct Masked<W> {
-    of: PhantomData<W>,
-}
 
 /// How the items are kept. The compiler tests for the first before the others.
 enum Form<T, A: Allocator> {
@@ -238,30 +231,14 @@ impl<T, A: Allocator> ConcurrentQueue<T, A> {
         // In place, as in `pop`: each function that may wait costs a test behind its call. And by form, so that what a ring leaves is put together for a ring.
         let reply = match (&self.form, &mut party.place) {
             (Form::Single(slot), SeatPlace::Table(seat)) => {
-                match run_fast::<
-                    T,
-                    usize,
-                    Seat<Option<T>, CallState<T>>,
-                    SharedTable<T, Slots, A>,
-                    Open,
-                    Short<Pushes>,
-                >(slot, &Open, seat, call)
-                {
+                match run_fast::<_, _, _, _, _, Short<Pushes>>(slot, &Open, seat, call) {
                     ControlFlow::Break(reply) => reply,
                     ControlFlow::Continue(left) => run_slow(slot, rt, &Open, seat, left),
                 }
             }
             (Form::Ring(ring), SeatPlace::Table(seat)) => {
-                match run_either::<
-                    T,
-                    usize,
-                    Seat<Option<T>, CallState<T>>,
-                    SharedTable<T, Rings, A>,
-                    Open,
-                    Usual<Masked<Pushes>>,
-                    Usual<Pushes>,
-                >(ring.slots().is_power_of_two(), ring, &Open, seat, call)
-                {
+                let is_masked = ring.slots().is_power_of_two();
+                match run_either::<_, _, _, _, _, Pushes>(is_masked, ring, &Open, seat, call) {
                     ControlFlow::Break(reply) => reply,
                     ControlFlow::Continue(left) => run_slow(ring, rt, &Open, seat, left),
                 }

@@ -5,7 +5,7 @@ ghost use Rattle.call_driver.specs.OnWay.{CanEnd, EndsRightly};
 ghost use Rattle.shared_calls.specs.Leaving.{IsLeft};
 
 use call_driver::driver::{begin, leave};
-use call_driver::fast::Row;
+use call_driver::fast::{Row, Usual};
 use call_driver::gate::Gate;
 use call_driver::progress::Progress;
 use call_driver::retry::{End, retry};
@@ -13,6 +13,7 @@ use call_driver::site::Site;
 use queue_steps::model::{Call, CallKind, Reply, ReplyKind};
 use queue_steps::steps::{BoundedLocal, Kind, Local, UnboundedLocal};
 use shared_site::left::Left;
+use std::marker::PhantomData;
 use std::ops::ControlFlow;
 use std::sync::Wait;
 use std::thread::yield_now;
@@ -106,18 +107,15 @@ pub fn run_fast<T, B: Copy, S, M: Site<T, B, S>, G: Gate, F: Row<T, B, S, M, G>>
     }
 }
 
-/// The same by one of two rows. They are the same steps, made once for each answer of a test that each of them would make: so it is made once in a call, and the compiler knows within a row how it came out.
+/// The calls of `W` once more. It does nothing but tell one copy of a row from the other.
+struct Again<W> {
+    of: PhantomData<W>,
+}
+
+/// The same by one of two copies of the usual row, made for the two answers of a test that each step would make: so it is made once in a call, and the compiler knows in each copy how it came out.
 #[inline(always)]
-pub fn run_either<
-    T,
-    B: Copy,
-    S,
-    M: Site<T, B, S>,
-    G: Gate,
-    E: Row<T, B, S, M, G>,
-    F: Row<T, B, S, M, G>,
->(
-    is_first: bool,
+pub fn run_either<T, B: Copy, S, M: Site<T, B, S>, G: Gate, W>(
+    is_so: bool,
     site: &M,
     gate: &G,
     seat: &mut S,
@@ -126,10 +124,10 @@ pub fn run_either<
     requires { M.rests site.now seat.old }
     ensures { MatchControlFlow result (λ left. IsLeft M.Site site.now seat.old call left seat.new) (λ reply. M.ended site.now seat.old call reply seat.new) }
 {
-    if is_first {
-        run_fast::<T, B, S, M, G, E>(site, gate, seat, call)
+    if is_so {
+        run_fast::<T, B, S, M, G, Usual<Again<W>>>(site, gate, seat, call)
     } else {
-        run_fast::<T, B, S, M, G, F>(site, gate, seat, call)
+        run_fast::<T, B, S, M, G, Usual<W>>(site, gate, seat, call)
     }
 }
 

@@ -9,9 +9,9 @@ ghost use Rattle.concurrent_queue.specs.declared.shared.Form.TheVariants as form
 ghost use Rattle.concurrent_queue.specs.Shared.{Calls, IsHeld, party_view_of};
 ghost use Rattle.concurrent_queue.specs.Calling.{IsHeldIn, HasLeft};
 
-use super::{Form, Masked};
+use super::Form;
 use atomic_table::Seat;
-use call_driver::fast::{Short, Usual};
+use call_driver::fast::Short;
 use call_driver::gate::Gate;
 use call_driver::site::Site;
 use queue_steps::model::{Call, Reply};
@@ -38,23 +38,11 @@ impl<T, A: Allocator> Form<T, A> {
         ensures { MatchControlFlow result (λ left. HasLeft ⟦<SharedTable<T, Slots, A> as Site<T, usize, Seat<Option<T>, CallState<T>>>>⟧ ⟦<SharedTable<T, Rings, A> as Site<T, usize, Seat<Option<T>, CallState<T>>>>⟧ form.Single form.Ring self.now seat.old call left seat.new) (λ reply. IsHeld (place.Table seat.new) × Calls (party_view_of (place.Table seat.old)) call reply (party_view_of (place.Table seat.new))) }
     {
         match self {
-            Form::Single(slot) => run_fast::<
-                T,
-                usize,
-                Seat<Option<T>, CallState<T>>,
-                SharedTable<T, Slots, A>,
-                G,
-                Short<W>,
-            >(slot, gate, seat, call),
-            Form::Ring(ring) => run_either::<
-                T,
-                usize,
-                Seat<Option<T>, CallState<T>>,
-                SharedTable<T, Rings, A>,
-                G,
-                Usual<Masked<W>>,
-                Usual<W>,
-            >(ring.slots().is_power_of_two(), ring, gate, seat, call),
+            Form::Single(slot) => run_fast::<_, _, _, _, _, Short<W>>(slot, gate, seat, call),
+            Form::Ring(ring) => {
+                let is_masked = ring.slots().is_power_of_two();
+                run_either::<_, _, _, _, _, W>(is_masked, ring, gate, seat, call)
+            }
             Form::Chain(_) => unreachable!(),
         }
     }

@@ -10,12 +10,12 @@ ghost use Rattle.shared_calls.specs.Trying.{SomeLeft, EndsOrQuits};
 ghost use Rattle.concurrent_queue.specs.Shared.{IsPartyOf, PartyView};
 ghost use Rattle.concurrent_queue.specs.Tries.{Tries, TriesPush, TriesForcePush, TriesPop};
 
-use super::{Form, Masked};
+use super::Form;
 use crate::party::{Party, SeatPlace};
 use crate::shared::ConcurrentQueue;
 use crate::try_errors::{TryForcePushError, TryPopError, TryPushError};
 use atomic_table::Seat;
-use call_driver::fast::{Short, Usual};
+use call_driver::fast::Short;
 use call_driver::gate::Open;
 use call_driver::site::Site;
 use mem_blocks::null_testable::NullTestable;
@@ -180,13 +180,8 @@ impl<T, A: NullTestable> ConcurrentQueue<T, A> {
                 }
             }
             (Form::Ring(ring), SeatPlace::Table(seat)) => {
-                match run_either::<_, _, _, _, _, Usual<Masked<W>>, Usual<W>>(
-                    ring.slots().is_power_of_two(),
-                    ring,
-                    &Open,
-                    seat,
-                    call,
-                ) {
+                let is_masked = ring.slots().is_power_of_two();
+                match run_either::<_, _, _, _, _, W>(is_masked, ring, &Open, seat, call) {
                     ControlFlow::Break(reply) => W::tell(ControlFlow::Break(reply)),
                     ControlFlow::Continue(left) => W::tell(end_or_quit(ring, seat, left)),
                 }
