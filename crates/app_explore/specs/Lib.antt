@@ -1,4 +1,5 @@
 pub mod Lists
+pub mod Asked
 pub mod Requests
 pub mod Programs
 pub mod Faults
