@@ -116,7 +116,7 @@ pub(super) fn is_common<B: Copy>(local: &UnboundedLocal<B>, answer: &Answer<B>) 
             *tail,
         ),
         (UnboundedLocal::PushBlock(_, tail, spare), Answer::Linked(Some(_))) => {
-            spare.is_some() || !is_last(*tail)
+            pushing::needs_no_request(*tail, spare)
         }
         (UnboundedLocal::Claiming(_, tail, _, _), Answer::Found(found)) => {
             *found == *tail && !is_last(*tail)

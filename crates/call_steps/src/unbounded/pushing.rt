@@ -1,5 +1,5 @@
 //! The steps of a push into a chain of blocks.
-ghost use Rattle.std.specs.Prelude.{◌≡◌, ◌==◌, ◌&&◌, not, Some, None, true, false};
+ghost use Rattle.std.specs.Prelude.{◌≡◌, ◌==◌, ◌&&◌, ◌||◌, not, is_some, Some, None, true, false};
 ghost use Rattle.queue_steps.specs.Words.{IsWord};
 ghost use Rattle.queue_steps.specs.CommonNext.{is_chain_common, is_chain_passing, is_roomy_tail};
 ghost use Rattle.queue_steps.specs.CallAt.{is_chain_push};
@@ -7,7 +7,7 @@ ghost use Rattle.queue_steps.specs.declared.steps.types.Answer.TheVariants.{Foun
 ghost use Rattle.queue_steps.specs.UnboundedNext.{at, asks, lays, chain_tail_found, granted, claims, installed, writes, gives_up, is_last_slot, unbounded_next, FitsChain};
 
 use crate::bounded::closed;
-use crate::unbounded::{items, load, offset, step};
+use crate::unbounded::{is_last, items, load, offset, step};
 use queue_steps::errors::{ForcePushError, PushError};
 use queue_steps::model::{Reply, ReplyKind};
 use queue_steps::sizes::{BLOCK_SLOTS, LIMIT};
@@ -34,6 +34,14 @@ pub(super) fn is_open_below_limit(tail: u64) -> bool
     ensures { result ≡ is_roomy_tail tail }
 {
     !is_marked(tail) && items(position_of(tail)) != LIMIT && offset(tail) != BLOCK_SLOTS
+}
+
+/// Whether a push that found this tail may claim without asking for a block: it has a spare one, or the slot is not the last of its block.
+#[inline(always)]
+pub(super) fn needs_no_request<B: Copy>(tail: u64, spare: &Option<B>) -> bool
+    ensures { result ≡ (is_some spare.now || not (is_last_slot tail)) }
+{
+    spare.is_some() || !is_last(tail)
 }
 
 /// Reads the pushers' block (U2).
