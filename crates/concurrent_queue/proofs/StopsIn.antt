@@ -23,7 +23,7 @@ use Rattle.shared_chain.specs.Names.{link_of, next_map}
 use Rattle.shared_chain.specs.Steps as chain
 use Rattle.shared_chain.specs.Turning.{SitsAt, ChainStands, ChainEnded}
 use Rattle.shared_chain.specs.declared.web.ChainWeb.{ChainWeb}
-use Rattle.shared_chain.proofs.Renamed.{next_of_map}
+use Rattle.shared_chain.proofs.Frames.Renamed.{next_of_map}
 use Rattle.shared_site.specs.declared.chain.Asking.{Asking}
 use Rattle.shared_site.specs.declared.left.Left.{Left}
 use Rattle.concurrent_queue.specs.declared.party.SeatPlace.{SeatPlace}

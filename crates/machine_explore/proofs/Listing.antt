@@ -15,7 +15,7 @@ use Rattle.machine_memory.specs.declared.types.Told.{Told}
 use Rattle.machine_memory.specs.declared.types.Told.TheVariants.{Skipped, Ran}
 use Rattle.machine_replay.specs.Conforms.{entries_from, party_of, reply_entry}
 use Rattle.machine_replay.specs.Played.{told_of, world_after}
-use Rattle.machine_replay.proofs.Serving.{served_is_exact}
+use Rattle.machine_replay.proofs.Replays.Serving.{served_is_exact}
 use Rattle.machine_explore.specs.Explored.{outcome_of_run, replies_by}
 use Rattle.machine_explore.specs.Listed.{ReplaysAreListed, outcome_from, replies_from}
 use Rattle.machine_explore.specs.Moves.{reply_in}

@@ -18,11 +18,11 @@ use Rattle.machine_replay.specs.Conforms.{party_of}
 use Rattle.machine_replay.specs.Played.{told_of, world_after}
 use Rattle.machine_replay.specs.Progress.{Standing as CallStanding, Between, Undone, HalfDone, standing, stands_by, stands_then}
 use Rattle.machine_replay.specs.Replays.{CanReplay, is_too_large}
-use Rattle.machine_replay.proofs.ChainStretch.{chain_rules}
-use Rattle.machine_replay.proofs.RingStretch.{ring_rules}
-use Rattle.machine_replay.proofs.SingleStretch.{single_rules}
-use Rattle.machine_replay.proofs.Standings.{Agrees}
-use Rattle.machine_replay.proofs.Stretch.{Rules, call-there, first, reach}
+use Rattle.machine_replay.proofs.Chain.Stretch.{chain_rules}
+use Rattle.machine_replay.proofs.Ring.Stretch.{ring_rules}
+use Rattle.machine_replay.proofs.Single.Stretch.{single_rules}
+use Rattle.machine_replay.proofs.Progress.Standings.{Agrees}
+use Rattle.machine_replay.proofs.Progress.Stretch.{Rules, call-there, first, reach}
 use Rattle.machine_explore.specs.Explored.{IsPreparing}
 use Rattle.machine_explore.specs.Positions.{Standing}
 use Rattle.machine_explore.specs.Starts.{IsStart}

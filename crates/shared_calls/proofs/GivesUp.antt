@@ -31,7 +31,7 @@ use Rattle.shared_chain.specs.Names.{link_of, local_map, answer_map, next_map}
 use Rattle.shared_chain.specs.Quitting.{HasQuit as HasQuitIn, ShowsPlace}
 use Rattle.shared_chain.specs.Steps as chain
 use Rattle.shared_chain.specs.Turning.{IsFree, ChainStands, ChainEnded}
-use Rattle.shared_chain.proofs.Renamed.{next_of_map}
+use Rattle.shared_chain.proofs.Frames.Renamed.{next_of_map}
 use Rattle.shared_site.specs.declared.chain.Asking.{Asking}
 use Rattle.shared_site.specs.declared.left.Left.{Left}
 use Rattle.shared_site.specs.Halts.{Halts, HaltsIn, next_at, is_early_step}

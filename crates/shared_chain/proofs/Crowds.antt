@@ -15,7 +15,7 @@ use Rattle.shared_parties.proofs.Sharings.{sharing, regrouped}
 use Rattle.shared_chain.specs.ChainCalls.{OutChain, chain_calls}
 use Rattle.shared_chain.specs.Rule.{IsThere, Codes, Rule}
 use Rattle.shared_chain.specs.Parties.{OfView}
-use Rattle.shared_chain.proofs.Blocks.{word_here, word_else, word_same}
+use Rattle.shared_chain.proofs.Frames.Blocks.{word_here, word_else, word_same}
 
 module _ {T : Type 0} (te he : Ptr) where
   -- the count of parties is none of the words that stand for the chain

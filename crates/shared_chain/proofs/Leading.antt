@@ -27,8 +27,8 @@ use Rattle.shared_chain.specs.declared.web.ChainWeb.{ChainWeb}
 use Rattle.shared_chain.specs.Names.{link_of, name_map, local_map, op_map, next_map}
 use Rattle.shared_chain.specs.Steps.{HoldsBy, HoldsFor, MayDo, MayStep, After, carried_by}
 use Rattle.shared_chain.specs.Turning.{unnamed, call_at, CanDo, Operated, Carries, IsFree, ChainStands, ChainRests, ChainEnded, GaveUp, ChainLeads}
-use Rattle.shared_chain.proofs.Turns.{sits_still}
-use Rattle.shared_chain.proofs.Renamed.{can_next_map, next_of_map}
+use Rattle.shared_chain.proofs.Steps.Turns.{sits_still}
+use Rattle.shared_chain.proofs.Frames.Renamed.{can_next_map, next_of_map}
 
 module _ {T A : Type 0} (w : ChainWeb T A) where
   -- a block that a reply gives up is carried by its place too

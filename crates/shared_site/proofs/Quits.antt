@@ -18,7 +18,7 @@ use Rattle.shared_tables.specs.TableTurns.{After}
 use Rattle.shared_chain.specs.Names.{link_of, name_map, chain_map, local_map, op_map, next_map}
 use Rattle.shared_chain.specs.Quitting.{MayQuit as MayQuitIn}
 use Rattle.shared_chain.specs.Steps.{HoldsBy, After as AfterIn}
-use Rattle.shared_chain.proofs.Renamed.{next_of_map}
+use Rattle.shared_chain.proofs.Frames.Renamed.{next_of_map}
 use Rattle.shared_site.specs.declared.chain.Asking.{Asking}
 use Rattle.shared_site.specs.declared.left.Left.{Left}
 use Rattle.shared_site.specs.Early.{is_early, spare_of, spare_at}

@@ -1,4 +1,4 @@
-use Rattle.machine_replay.proofs.BookRuns.{events_have_books}
+use Rattle.machine_replay.proofs.Replays.BookRuns.{events_have_books}
 use Rattle.machine_replay.proofs.books.events_have_books.Goals as goal
 
 pub returns : goal.returns

@@ -1,7 +1,7 @@
 use Rattle.std.proofs.Common.{◌∙◌, ◌-◌, ◌+◌, ◌<◌, ◌≤◌, arith, length}
 use Rattle.machine_memory.specs.Blocks.{without}
 use Rattle.machine_steps.specs.ChainLeft.{unread_at, behind_at, chained}
-use Rattle.machine_replay.proofs.ChainGathering.{first-fits, first-taken, chained-next, chained-end}
+use Rattle.machine_replay.proofs.Chain.Gathering.{first-fits, first-taken, chained-next, chained-end}
 use Rattle.machine_replay.proofs.chain_left.gather_blocks.Goals as goal
 
 pub gather_block-at-requires : goal.gather_block-at-requires

@@ -1,6 +1,6 @@
 use Rattle.std.proofs.Common.{◌≡◌, ◌∙◌, ◌++◌, ◌∷◌, arith, ap, sym, length-append}
 use Rattle.machine_steps.specs.ChainLeft.{unread, unread_in}
-use Rattle.machine_replay.proofs.ChainGathering.{first-fits}
+use Rattle.machine_replay.proofs.Chain.Gathering.{first-fits}
 use Rattle.machine_replay.proofs.chain_left.gather_places.Goals as goal
 
 pub gather_place-requires : goal.gather_place-requires

@@ -1,4 +1,4 @@
-use Rattle.machine_replay.proofs.Unhindered.{appends_reply}
+use Rattle.machine_replay.proofs.Progress.Unhindered.{appends_reply}
 use Rattle.machine_replay.proofs.laws.appends_reply.Goals as goal
 
 pub returns : goal.returns

@@ -1,4 +1,4 @@
-use Rattle.machine_replay.proofs.Unhindered.{half_done_calls}
+use Rattle.machine_replay.proofs.Progress.Unhindered.{half_done_calls}
 use Rattle.machine_replay.proofs.laws.half_done_never_waits.Goals as goal
 
 pub returns : goal.returns

@@ -1,4 +1,4 @@
-use Rattle.machine_replay.proofs.TraceRun.{has_history}
+use Rattle.machine_replay.proofs.Traces.TraceRun.{has_history}
 use Rattle.machine_replay.proofs.laws.has_history.Goals as goal
 
 pub returns : goal.returns

@@ -1,4 +1,4 @@
-use Rattle.machine_replay.proofs.LenWaits.{len_waits}
+use Rattle.machine_replay.proofs.Progress.LenWaits.{len_waits}
 use Rattle.machine_replay.proofs.laws.len_waits_for_nobody.Goals as goal
 
 pub returns : goal.returns

@@ -1,4 +1,4 @@
-use Rattle.machine_replay.proofs.PeakTold.{peak_told}
+use Rattle.machine_replay.proofs.Replays.PeakTold.{peak_told}
 use Rattle.machine_replay.proofs.laws.peak_is_of_the_run.Goals as goal
 
 pub returns : goal.returns

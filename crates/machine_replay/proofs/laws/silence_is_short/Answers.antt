@@ -1,4 +1,4 @@
-use Rattle.machine_replay.proofs.Unhindered.{silence_is_short}
+use Rattle.machine_replay.proofs.Progress.Unhindered.{silence_is_short}
 use Rattle.machine_replay.proofs.laws.silence_is_short.Goals as goal
 
 pub returns : goal.returns

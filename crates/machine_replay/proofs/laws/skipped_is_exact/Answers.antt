@@ -1,4 +1,4 @@
-use Rattle.machine_replay.proofs.SkipsAll.{skipped_is_exact}
+use Rattle.machine_replay.proofs.Replays.SkipsAll.{skipped_is_exact}
 use Rattle.machine_replay.proofs.laws.skipped_is_exact.Goals as goal
 
 pub returns : goal.returns

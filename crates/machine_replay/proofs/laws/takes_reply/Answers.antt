@@ -1,4 +1,4 @@
-use Rattle.machine_replay.proofs.Unhindered.{takes_reply}
+use Rattle.machine_replay.proofs.Progress.Unhindered.{takes_reply}
 use Rattle.machine_replay.proofs.laws.takes_reply.Goals as goal
 
 pub returns : goal.returns

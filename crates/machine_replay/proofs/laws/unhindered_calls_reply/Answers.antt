@@ -1,4 +1,4 @@
-use Rattle.machine_replay.proofs.Unhindered.{unhindered_calls}
+use Rattle.machine_replay.proofs.Progress.Unhindered.{unhindered_calls}
 use Rattle.machine_replay.proofs.laws.unhindered_calls_reply.Goals as goal
 
 pub returns : goal.returns

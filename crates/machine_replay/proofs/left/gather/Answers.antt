@@ -1,6 +1,6 @@
 use Rattle.std.proofs.Common.{arith, ◌-◌}
 use Rattle.machine_steps.specs.Left.{gathered}
-use Rattle.machine_replay.proofs.Gathering.{gathered-next, gathered-room}
+use Rattle.machine_replay.proofs.Engine.Gathering.{gathered-next, gathered-room}
 use Rattle.machine_replay.proofs.left.gather.Goals as goal
 
 pub gather_one-requires : goal.gather_one-requires

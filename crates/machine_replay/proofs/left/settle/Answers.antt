@@ -1,4 +1,4 @@
-use Rattle.machine_replay.proofs.Gathering.{all_written-append}
+use Rattle.machine_replay.proofs.Engine.Gathering.{all_written-append}
 use Rattle.machine_replay.proofs.left.settle.Goals as goal
 
 pub loop-call-preserved-in-Some-call : goal.loop-call-preserved-in-Some-call

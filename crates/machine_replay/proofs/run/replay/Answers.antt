@@ -5,8 +5,8 @@ use Rattle.std.proofs.lemmas.Iterator.Consumers.{YieldsList-end}
 use Rattle.machine_replay.specs.Vocabulary.{Replay}
 use Rattle.machine_replay.specs.Conforms.{Conforms, capacity_of}
 use Rattle.machine_memory.specs.Room.{HasRoom}
-use Rattle.machine_replay.proofs.Noting.{notes-first, notes-on, notes-next, notes-end, notes-played}
-use Rattle.machine_replay.proofs.OneOwnerRun.{one_owner}
+use Rattle.machine_replay.proofs.Replays.Noting.{notes-first, notes-on, notes-next, notes-end, notes-played}
+use Rattle.machine_replay.proofs.Replays.OneOwnerRun.{one_owner}
 use Rattle.machine_replay.proofs.run.replay.Goals as goal
 
 pub handle-told-requires-clause-comes : goal.handle-told-requires-clause-comes

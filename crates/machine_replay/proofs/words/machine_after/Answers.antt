@@ -4,7 +4,7 @@ use Rattle.std.proofs.lemmas.Iterator.Adapters.{YieldsList-from_vec}
 use Rattle.std.proofs.lemmas.Iterator.Consumers.{YieldsList-end}
 use Rattle.machine_steps.specs.Left.{opening_world}
 use Rattle.machine_steps.specs.Machine.{world_of, PassesAll}
-use Rattle.machine_replay.proofs.AllKinds.{in_order-first, in_order-can, in_order-next, has_machine}
+use Rattle.machine_replay.proofs.Engine.AllKinds.{in_order-first, in_order-can, in_order-next, has_machine}
 use Rattle.machine_replay.proofs.words.machine_after.Goals as goal
 
 pub pass-requires-clause-room : goal.pass-requires-clause-room

@@ -1,7 +1,7 @@
 use Rattle.std.proofs.Common.{◌≡◌, length}
 use Rattle.machine_memory.specs.Room.{HasRoomFor, HasCount}
 use Rattle.machine_steps.specs.Machine.{world_of}
-use Rattle.machine_replay.proofs.AllKinds.{InOrder}
+use Rattle.machine_replay.proofs.Engine.AllKinds.{InOrder}
 use Rattle.machine_replay.proofs.words.machine_after.Given as goal
 
 abbrev pub invariant-loop-event : goal.invariant-loop-event

@@ -1,6 +1,6 @@
 use Rattle.std.proofs.Common.{◌+◌, ◌&&◌, ◌∙◌, ap, sym, rules, arith}
 use Rattle.mem_blocks.specs.Web.{block}
-use Rattle.shared_chain.proofs.Leftovers.{slot_stays, none_held, told_on}
+use Rattle.shared_chain.proofs.Finishing.Leftovers.{slot_stays, none_held, told_on}
 use Rattle.shared_chain.proofs.ending.empty_block.Goals as goal
 use Rattle.shared_chain.proofs.ending.empty_block.Goals.{then-empty, else-empty}
 

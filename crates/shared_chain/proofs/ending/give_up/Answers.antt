@@ -4,7 +4,7 @@ use Rattle.queue_steps.specs.Words.{position_of}
 use Rattle.queue_steps.specs.ChainWords.{offset_of, items_before}
 use Rattle.own_unbounded.specs.ChainMemory.{block_of}
 use Rattle.shared_chain.specs.Leftover.{BlocksLeft}
-use Rattle.shared_chain.proofs.Abandoned.{blocks_left}
+use Rattle.shared_chain.proofs.Finishing.Abandoned.{blocks_left}
 use Rattle.shared_chain.proofs.ending.give_up.Goals as goal
 
 pub give_up_blocks-requires-clause-left : goal.give_up_blocks-requires-clause-left

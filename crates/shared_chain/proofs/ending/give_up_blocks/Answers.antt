@@ -2,7 +2,7 @@ use Rattle.std.proofs.Common.{rules, ◌≡◌, ◌⊎◌, inl, inr, List, ◌+�
 use Rattle.mem_blocks.specs.Web.{Block, block, without}
 use Rattle.mem_blocks.specs.declared.sizes.TheConstants.{SLOTS}
 use Rattle.shared_chain.specs.Leftover.{Emptied, BlocksLeft, IsHere}
-use Rattle.shared_chain.proofs.Leftovers.{here_within, emptied_vacant, same_behind, left_behind, here_behind}
+use Rattle.shared_chain.proofs.Finishing.Leftovers.{here_within, emptied_vacant, same_behind, left_behind, here_behind}
 use Rattle.shared_chain.proofs.ending.give_up_blocks.Goals as goal
 use Rattle.shared_chain.proofs.ending.give_up_blocks.Goals.{then-vacated, else-vacated}
 

@@ -1,6 +1,6 @@
 use Rattle.std.proofs.Common.{sym, ◌∙◌}
 use Rattle.machine_steps.specs.Machine.{world_of}
-use Rattle.machine_replay.proofs.Played.{event-plain}
+use Rattle.machine_replay.proofs.Replays.Played.{event-plain}
 use Rattle.machine_replay.proofs.machine_run.MachineRun.asks.Goals as goal
 
 pub returns : goal.returns

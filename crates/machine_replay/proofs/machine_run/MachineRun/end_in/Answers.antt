@@ -1,5 +1,5 @@
 use Rattle.std.proofs.Common.{refl}
-use Rattle.machine_replay.proofs.MachineRuns.{machine_run-ends}
+use Rattle.machine_replay.proofs.Engine.MachineRuns.{machine_run-ends}
 use Rattle.machine_replay.proofs.machine_run.MachineRun.end_in.Goals as goal
 
 pub returns-clause-leaves : goal.returns-clause-leaves

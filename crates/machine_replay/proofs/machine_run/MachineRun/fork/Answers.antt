@@ -1,5 +1,5 @@
 use Rattle.std.proofs.Common.{refl}
-use Rattle.machine_replay.proofs.MachineRuns.{machine_run-same}
+use Rattle.machine_replay.proofs.Engine.MachineRuns.{machine_run-same}
 use Rattle.machine_replay.proofs.machine_run.MachineRun.fork.Goals as goal
 
 pub returns-clause-same : goal.returns-clause-same

@@ -1,5 +1,5 @@
 use Rattle.std.proofs.Common.{◌+◌, refl}
-use Rattle.machine_replay.proofs.MachineRuns.{machine_run-can, machine_run-next}
+use Rattle.machine_replay.proofs.Engine.MachineRuns.{machine_run-can, machine_run-next}
 use Rattle.machine_replay.proofs.machine_run.MachineRun.handle_met.Goals as goal
 
 pub handle_met-handled-requires-clause-can : goal.handle_met-handled-requires-clause-can

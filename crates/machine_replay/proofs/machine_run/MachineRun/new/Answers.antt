@@ -1,5 +1,5 @@
 use Rattle.std.proofs.Common.{◌∙◌, sym}
-use Rattle.machine_replay.proofs.MachineRuns.{machine_run-first}
+use Rattle.machine_replay.proofs.Engine.MachineRuns.{machine_run-first}
 use Rattle.machine_replay.proofs.machine_run.MachineRun.new.Goals as goal
 
 pub returns-clause-opens : goal.returns-clause-opens

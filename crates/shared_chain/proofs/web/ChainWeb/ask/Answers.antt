@@ -1,8 +1,8 @@
 use Rattle.std.proofs.Common.{sym, subst, lit<, rules, tests}
 use Rattle.mem_blocks.specs.Web.{alive_at}
 use denote.RawPtr.{InBlock}
-use Rattle.shared_chain.proofs.Operating.{may_grant, may_refuse}
-use Rattle.shared_chain.proofs.Turns.{sits_still}
+use Rattle.shared_chain.proofs.Steps.Operating.{may_grant, may_refuse}
+use Rattle.shared_chain.proofs.Steps.Turns.{sits_still}
 use Rattle.shared_chain.proofs.web.ChainWeb.ask.Goals as goal
 
 pub load-requires : goal.load-requires

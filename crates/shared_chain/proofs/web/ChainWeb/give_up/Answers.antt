@@ -1,5 +1,5 @@
 use Rattle.std.proofs.Common.{Some, ap, ◌∙◌}
-use Rattle.shared_chain.proofs.Turns.{carried_block}
+use Rattle.shared_chain.proofs.Steps.Turns.{carried_block}
 use Rattle.shared_chain.proofs.web.ChainWeb.give_up.Goals as goal
 
 pub release-requires : goal.release-requires

@@ -1,6 +1,6 @@
 use Rattle.std.proofs.Common.{lit<, sym, subst}
 use denote.RawPtr.{InBlock}
-use Rattle.shared_chain.proofs.Quits.{looks_on}
+use Rattle.shared_chain.proofs.Steps.Quits.{looks_on}
 use Rattle.shared_chain.proofs.web.ChainWeb.look.Goals as goal
 
 pub load-requires : goal.load-requires

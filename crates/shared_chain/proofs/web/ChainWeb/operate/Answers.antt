@@ -4,7 +4,7 @@ use denote.RawPtr.{InBlock}
 use Rattle.mem_blocks.specs.Web.{AllowsLink, if_unset}
 use Rattle.shared_chain.specs.Rule.{Rule}
 use Rattle.shared_chain.specs.Steps.{FollowsLink}
-use Rattle.shared_chain.proofs.Operating.{named, may_as, may_do, may_store, may_read, may_lead}
+use Rattle.shared_chain.proofs.Steps.Operating.{named, may_as, may_do, may_store, may_read, may_lead}
 use Rattle.shared_chain.proofs.web.ChainWeb.operate.Goals as goal
 
 pub load-requires : goal.load-requires

@@ -1,6 +1,6 @@
 use Rattle.std.proofs.Common.{lit<, sym, subst}
 use denote.RawPtr.{InBlock}
-use Rattle.shared_chain.proofs.Quits.{gives_up}
+use Rattle.shared_chain.proofs.Steps.Quits.{gives_up}
 use Rattle.shared_chain.proofs.web.ChainWeb.quit.Goals as goal
 
 pub load-requires : goal.load-requires

@@ -1,6 +1,6 @@
 use Rattle.std.proofs.Common.{sym, refl, ◌∙◌, arith}
 use Rattle.law_common.specs.Vocabulary.{Op}
-use Rattle.shared_chain.proofs.Operating.{named, may_as, may_do, may_add}
+use Rattle.shared_chain.proofs.Steps.Operating.{named, may_as, may_do, may_add}
 use Rattle.shared_chain.proofs.web.ChainWeb.set_bits.Goals as goal
 
 pub fetch_add-requires : goal.fetch_add-requires

@@ -1,0 +1,28 @@
+-- What is owed of the shared memory at each step of a call on a chain.
+use Rattle.std.proofs.Common.{ℕ, ◌≡◌, Bool, List}
+use Rattle.queue_steps.specs.State.{State}
+use Rattle.queue_steps.specs.UnboundedNext.{unbounded_next}
+use Rattle.machine_replay.specs.Vocabulary.{Kind}
+use Rattle.law_common.specs.Stand.{Stand}
+use Rattle.machine_replay.proofs.Engine.StandOf.{running_of}
+use Rattle.law_chain.specs.ChainCells.{Chain, ChainOk}
+use Rattle.law_chain.specs.ChainAt.{At}
+use Rattle.law_chain.specs.ChainAnswers.{Answers}
+use Rattle.law_chain.specs.ChainAfter.{chain_of, carried_of, after_of, left_by}
+use Rattle.law_chain.proofs.ChainRight.{Gives}
+use Rattle.machine_memory.specs.SharedMemory.{Shared, CanTouch, CanOperate, slots_there, block_touched}
+use Rattle.machine_steps.specs.Steps.{after_touch, carried_then, answer_to, shared_then}
+use Rattle.machine_replay.proofs.Chain.Names.{Codes}
+
+-- the words, the links and the blocks of the machine are those of the chain
+abbrev pub CodesShared : {A : Type 0} → Shared A → Chain A → Type 0
+CodesShared s c = Codes c s.head s.tail s.head_block s.tail_block s.blocks
+
+-- the next step of the call can be taken, it is answered by what the chain says, and it leaves the machine standing for the chain after it
+pub record Coded {A : Type 0} (c : Chain A) (who : ℕ) (ms : List (State A)) {k : Stand A} (granted : Bool) (s : Shared A) (at : At c who ms k) : Type 0 where
+  pub touches : CanTouch k.touch (slots_there s (block_touched k.op))
+  pub operates : CanOperate (after_touch s (running_of k)) k.op
+  pub answers : Answers c k.op (answer_to granted s (running_of k))
+  pub carried : carried_then s (running_of k) ≡ carried_of at
+  pub codes : ChainOk (after_of at (answer_to granted s (running_of k))) → Gives (after_of at (answer_to granted s (running_of k))) who (unbounded_next (chain_of k.local) (answer_to granted s (running_of k)))
+      → CodesShared (shared_then Kind.Unbounded granted s (running_of k)) (left_by (after_of at (answer_to granted s (running_of k))) (unbounded_next (chain_of k.local) (answer_to granted s (running_of k))))

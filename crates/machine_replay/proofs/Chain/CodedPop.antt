@@ -1,0 +1,262 @@
+-- The shared memory at each step of a pop on a chain up to the wait for its item, and at the steps that only look.
+use Rattle.std.proofs.Common.{ℕ, ◌+◌, ◌*◌, ◌/◌, ◌<◌, ◌≤◌, ◌≡◌, ◌≢◌, ◌==◌, ◌∙◌, ◌⊎◌, inl, inr, Bool, true, false, if◌then◌else◌, Option, IsSome, List, refl, sym, ap, subst, arith}
+use Rattle.std.proofs.lemmas.Bool.Decides.{eqb_tells}
+use Rattle.machine_replay.specs.Vocabulary.{Answer, BLOCK_SLOTS, TAIL_STEP}
+use Rattle.queue_steps.specs.State.{State}
+use Rattle.queue_steps.specs.Words.{IsWord, position_of}
+use Rattle.queue_steps.specs.ChainWords.{offset_of, items_before}
+use Rattle.queue_steps.specs.UnboundedNext.{unbounded_next}
+use Rattle.queue_steps.specs.declared.steps.unbounded.UnboundedLocal.TheVariants as chain
+use Rattle.law_common.specs.Moments.{HeadWas, SeenIn}
+use Rattle.law_chain.specs.ChainFacts.{place, head_of, HeadIs, IsNamed, HeadBlockIs, HeadBlockRead, IsMore, Got, SawEmpty}
+use Rattle.law_chain.specs.ChainCells.{Writer, Writing, Wrote, Reader, Reading, Done, Stands as Rested, Passing, Entering, GivenUp, Chain, FrontOk, ChainOk, Read, Head, HoldsOnly, Nothing, item_at, Free, ItemOk}
+use Rattle.law_chain.specs.ChainAnswers.{head_word, linked_of}
+use prog.Atomic.{either}
+use Rattle.machine_memory.specs.Blocks.{block_of, behind, behind_in, state_of}
+use Rattle.machine_memory.specs.SharedMemory.{Shared}
+use Rattle.machine_replay.proofs.Chain.Names.{Codes}
+use Rattle.machine_replay.proofs.Chain.Blocks.{state_is}
+use Rattle.machine_replay.proofs.Chain.Gives.{codes_left, block_at, has_place, state_answers, one_block}
+use Rattle.machine_replay.proofs.Chain.Coded.{CodesShared, Coded}
+use Rattle.law_chain.proofs.ChainReads.{front_is}
+use Rattle.law_chain.specs.ChainTransitions.{taken}
+use Rattle.law_chain.specs.ChainAfter.{taken_if, if_taken}
+use Rattle.law_chain.proofs.ChainAnswers.{same_head, head_offset}
+use Rattle.law_chain.specs.ChainAt.{Only, Either, IsBehind, IsFurther, pop_head, pop_block, pop_tail, taking, following, peeking, passing, entering, awaiting, len_tail, len_head, len_again, empty_head, empty_tail, closing, closed_tail}
+use Rattle.law_chain.proofs.ChainReads.{not_given_up}
+use Rattle.machine_replay.proofs.Chain.CodesPush.{codes_marked}
+use Rattle.machine_replay.proofs.Chain.CodesPop.{codes_taken, codes_passed, codes_entered}
+
+module _ {A : Type 0} (c : Chain A) (who : ℕ) (ms : List (State A)) (ok : Bool) (s : Shared A) where
+  -- V1: the head is read
+  pub coded_pop_head : (none : HoldsOnly c who Nothing) → ChainOk c → CodesShared s c → Coded c who ms ok s (pop_head none)
+  coded_pop_head none right codes = record {
+    touches = tt;
+    operates = tt;
+    answers = ap (λ w. Answer.Found w) codes.head_is;
+    carried = refl;
+    codes = λ fine gives. codes_left who (unbounded_next chain.PopHead (Answer.Found s.head)) fine gives codes;
+  }
+
+  -- V2: the poppers' block is read
+  pub coded_pop_block : (n : ℕ) (more : Bool) (none : HoldsOnly c who Nothing) (is : HeadIs c n) (room : IsMore c n more)
+      → ChainOk c → CodesShared s c → Coded c who ms ok s (pop_block n more none is room)
+  coded_pop_block n more none is room right codes = record {
+    touches = tt;
+    operates = tt;
+    answers = ap (λ w. Answer.Linked w) codes.front_is;
+    carried = refl;
+    codes = λ fine gives. codes_left who (unbounded_next (chain.PopBlock (head_of n more)) (Answer.Linked s.head_block)) fine gives codes;
+  }
+
+  -- V3: the tail is read after that head
+  pub coded_pop_tail : (n : ℕ) (block : Option ℕ) (none : HoldsOnly c who Nothing) (is : HeadIs c n) (front : HeadBlockRead c n block)
+      → ChainOk c → CodesShared s c → Coded c who ms ok s (pop_tail n block none is front)
+  coded_pop_tail n block none is front right codes = record {
+    touches = tt;
+    operates = tt;
+    answers = ap (λ w. Answer.Found w) codes.tail_is;
+    carried = refl;
+    codes = λ fine gives. codes_left who (unbounded_next (chain.PopTail (head_of n false) block) (Answer.Found s.tail)) fine gives codes;
+  }
+
+  -- V4: the head is exchanged, by which the front is taken
+  pub coded_taking : (n name next : ℕ) (more new : Bool) (none : HoldsOnly c who Nothing) (front : HeadIs c n) (there : HeadBlockIs c n name) (word_is : n < c.tail) (room : next ≡ place n * 2 + TAIL_STEP + (if new then 1 else 0)) (least : IsMore c n new)
+      → ChainOk c → CodesShared s c → Coded c who ms ok s (taking n name next more new none front there word_is room least)
+  coded_taking n name after more new none is front lt word_is room right codes = record {
+    touches = tt;
+    operates = tt;
+    answers = ap (λ w. Answer.Found w) codes.head_is;
+    carried = refl;
+    codes = λ fine gives. codes_left who (unbounded_next (chain.Taking (head_of n more) name) (Answer.Found s.head)) fine gives
+        (subst (λ w. CodesShared (moved (w == head_of n more)) (if_taken c who n more new)) (sym codes.head_is) (go (eqb_tells (head_word c) (head_of n more))));
+  }
+    where
+      moved : Bool → Shared A
+      moved b = record s { head = either b after s.head }
+
+      won : head_word c ≡ head_of n more → (((offset_of (head_of n more) + 1 == BLOCK_SLOTS) ≡ true) × (offset_of (head_of n more) + 1 ≡ BLOCK_SLOTS)) ⊎ (((offset_of (head_of n more) + 1 == BLOCK_SLOTS) ≡ false) × (offset_of (head_of n more) + 1 ≢ BLOCK_SLOTS))
+          → CodesShared (record s { head = after }) (taken_if c who new true (offset_of (head_of n more) + 1 == BLOCK_SLOTS))
+      won e (inl t) =
+          let same = same_head c n more right is e in
+          let at_n = same.1 in
+          let slot = head_offset n more in
+          let last = t.1 in
+          subst (λ b. CodesShared (record s { head = after }) (taken_if c who new true b)) (sym t.0)
+          (subst (λ m. Codes (taken c who (Passing who) new) m s.tail s.head_block s.tail_block s.blocks) (ap (λ m. place m * 2 + TAIL_STEP + (if new then 1 else 0)) at_n ∙ sym word_is)
+          (codes_taken who (Passing who) new (front_is c right (omega arith)).0 (inr (who, refl, omega arith)) codes))
+      won e (inr t) =
+          let same = same_head c n more right is e in
+          let at_n = same.1 in
+          let slot = head_offset n more in
+          subst (λ b. CodesShared (record s { head = after }) (taken_if c who new true b)) (sym t.0)
+          (subst (λ m. Codes (taken c who Rested new) m s.tail s.head_block s.tail_block s.blocks) (ap (λ m. place m * 2 + TAIL_STEP + (if new then 1 else 0)) at_n ∙ sym word_is)
+          (codes_taken who Rested new (front_is c right (omega arith)).0 (inl (refl, λ z. t.1 (omega arith))) codes))
+
+      go : (((head_word c == head_of n more) ≡ true) × (head_word c ≡ head_of n more)) ⊎ (((head_word c == head_of n more) ≡ false) × (head_word c ≢ head_of n more)) → CodesShared (moved (head_word c == head_of n more)) (if_taken c who n more new)
+      go (inl e) = subst (λ b. CodesShared (moved b) (taken_if c who new b (offset_of (head_of n more) + 1 == BLOCK_SLOTS))) (sym e.0) (won e.1 (eqb_tells (offset_of (head_of n more) + 1) BLOCK_SLOTS))
+      go (inr e) = subst (λ b. CodesShared (moved b) (taken_if c who new b (offset_of (head_of n more) + 1 == BLOCK_SLOTS))) (sym e.0) codes
+
+-- an item that is being read is not read
+unread_got : {A : Type 0} (c : Chain A) (n who : ℕ) → c.readers n ≡ Reading who → c.readers n ≢ Done
+unread_got c n who is e = let z : Reading who ≡ Done = sym is ∙ e in cc
+
+-- what the link of a block answers
+link_answers : {A : Type 0} {c : Chain A} (s : Shared A) (b name : ℕ) → ChainOk c → IsNamed c b name → c.walks b ≢ GivenUp → CodesShared s c
+    → IsSome (block_of s.blocks name) × ((i : ℕ) → IsNamed c i name → Answer.Linked (behind s.blocks name) ≡ Answer.Linked (linked_of (c.links i) (c.names (i + 1))))
+link_answers {c = c} s b name right named on codes =
+    let x = block_at b name right named on codes in (
+      subst (λ y. IsSome y) (sym x.1) refl,
+      λ i other. ap (λ y. Answer.Linked (behind_in y)) x.1 ∙ ap (λ y. Answer.Linked y) (x.2.linked ∙ ap (λ j. linked_of (c.links j) (c.names (j + 1))) (sym (one_block c b i name right named other))),
+    )
+
+module _ {A : Type 0} (c : Chain A) (who : ℕ) (ms : List (State A)) (ok : Bool) (s : Shared A) where
+  -- V5: the link to the next block is read, which may be unset yet
+  pub coded_following : (x : A) (n name : ℕ) (more : Bool) (holds : HoldsOnly c who (Either (Read n) Head)) (got : Got c who n x name) (pass : (c.passer ≡ Passing who) × (c.head ≡ n + 1))
+      → ChainOk c → CodesShared s c → Coded c who ms ok s (following x n name more holds got pass)
+  coded_following x n name more holds got pass right codes =
+      let links = link_answers s (n / BLOCK_SLOTS) name right got.named (not_given_up c n right (unread_got c n who got.mine)) codes in
+      record {
+        touches = tt;
+        operates = links.0;
+        answers = links.1;
+        carried = refl;
+        codes = λ fine gives. codes_left who (unbounded_next (chain.Following (head_of n more) name) (Answer.Linked (behind s.blocks name))) fine gives codes;
+      }
+
+-- the items behind the head are not read
+unread_ahead : {A : Type 0} (c : Chain A) (n : ℕ) → ChainOk c → c.head ≤ n → c.readers n ≢ Done
+unread_ahead {A} c n right low = go (c.writers n) (c.readers n) (right.item n)
+  where
+    go : (w : Writer A) (r : Reader) → ItemOk c.head c.tail c.items n w r → r ≢ Done
+    go Free Done h e = absurd h
+    go (Writing p v) Done h e = absurd h
+    go (Wrote v) Done h e = absurd (omega arith)
+    go w r h e = cc
+
+module _ {A : Type 0} (c : Chain A) (who : ℕ) (ms : List (State A)) (ok : Bool) (s : Shared A) where
+  -- V6: the link behind the next block is read
+  pub coded_peeking : (x : A) (n name after : ℕ) (more : Bool) (holds : HoldsOnly c who (Either (Read n) Head)) (got : Got c who n x name) (pass : (c.passer ≡ Passing who) × (c.head ≡ n + 1)) (behind_it : IsBehind c n after)
+      → ChainOk c → CodesShared s c → Coded c who ms ok s (peeking x n name after more holds got pass behind_it)
+  coded_peeking x n name after more holds got pass behind_it right codes =
+      let front : FrontOk c.head c.front (Passing who) = subst (λ p. FrontOk c.head c.front p) pass.0 right.fronted in
+      let at_n = pass.1 in
+      let next_block : c.head / BLOCK_SLOTS ≡ n / BLOCK_SLOTS + 1 = omega arith in
+      let on = subst (λ b. c.walks b ≢ GivenUp) next_block (not_given_up c c.head right (unread_ahead c c.head right (omega arith))) in
+      let links = link_answers s (n / BLOCK_SLOTS + 1) after right behind_it.1 on codes in
+      record {
+        touches = tt;
+        operates = links.0;
+        answers = links.1;
+        carried = refl;
+        codes = λ fine gives. codes_left who (unbounded_next (chain.Peeking (head_of n more) name after) (Answer.Linked (behind s.blocks after))) fine gives codes;
+      }
+
+  -- V7: the next block is shown to the poppers
+  pub coded_passing : (x : A) (n name after : ℕ) (more further : Bool) (holds : HoldsOnly c who (Either (Read n) Head)) (got : Got c who n x name) (pass : (c.passer ≡ Passing who) × (c.head ≡ n + 1)) (behind_it : IsBehind c n after) (room : IsFurther c n further)
+      → ChainOk c → CodesShared s c → Coded c who ms ok s (passing x n name after more further holds got pass behind_it room)
+  coded_passing x n name after more further holds got pass behind_it room right codes =
+      let front : FrontOk c.head c.front (Passing who) = subst (λ p. FrontOk c.head c.front p) pass.0 right.fronted in
+      let at_n = pass.1 in
+      let front_is : n / BLOCK_SLOTS + 1 ≡ c.front + 1 = omega arith in
+      record {
+        touches = tt;
+        operates = tt;
+        answers = refl;
+        carried = refl;
+        codes = λ fine gives. codes_left who (unbounded_next (chain.Passing (head_of n more) name further) Answer.Done) fine gives (codes_passed who after right pass.0 (subst (λ b. IsNamed c b after) front_is behind_it.1) codes);
+      }
+
+  -- V8: the head moves on to the next block
+  pub coded_entering : (x : A) (n name : ℕ) (more further : Bool) (holds : HoldsOnly c who (Either (Read n) Head)) (got : Got c who n x name) (enters : (c.passer ≡ Entering who) × (c.head ≡ n + 1)) (room : IsFurther c n further)
+      → ChainOk c → CodesShared s c → Coded c who ms ok s (entering x n name more further holds got enters room)
+  coded_entering x n name more further holds got enters room right codes = record {
+    touches = tt;
+    operates = tt;
+    answers = refl;
+    carried = refl;
+    codes = λ fine gives. codes_left who (unbounded_next (chain.Entering (head_of n more) name) Answer.Done) fine gives (codes_entered who n more further right enters.0 enters.1 codes);
+  }
+
+  -- V9: the slot's state is read, until its item is written
+  pub coded_awaiting : (x : A) (n name : ℕ) (more : Bool) (holds : HoldsOnly c who (Only (Read n))) (got : Got c who n x name)
+      → ChainOk c → CodesShared s c → Coded c who ms ok s (awaiting x n name more holds got)
+  coded_awaiting x n name more holds got right codes =
+      let unread = unread_got c n who got.mine in
+      let block = block_at (n / BLOCK_SLOTS) name right got.named (not_given_up c n right unread) codes in
+      let i = offset_of (head_of n more) in
+      let slot = head_offset n more in
+      let low : i < BLOCK_SLOTS = omega arith in
+      let at : item_at (n / BLOCK_SLOTS) i ≡ n = omega arith in
+      record {
+        touches = tt;
+        operates = has_place s.blocks (n / BLOCK_SLOTS) name i block.0 block.1 block.2 low;
+        answers = state_answers s.blocks (n / BLOCK_SLOTS) name i (state_of s.blocks name i) block.0 right got.named block.2 low (λ last e. unread (ap c.readers (sym at) ∙ e)) (state_is s.blocks name i block.0 block.1);
+        carried = refl;
+        codes = λ fine gives. codes_left who (unbounded_next (chain.Awaiting (head_of n more) name) (Answer.Found (state_of s.blocks name i))) fine gives codes;
+      }
+
+  -- the steps of a length
+  pub coded_len_tail : (none : HoldsOnly c who Nothing) → ChainOk c → CodesShared s c → Coded c who ms ok s (len_tail none)
+  coded_len_tail none right codes = record {
+    touches = tt;
+    operates = tt;
+    answers = ap (λ w. Answer.Found w) codes.tail_is;
+    carried = refl;
+    codes = λ fine gives. codes_left who (unbounded_next chain.LenTail (Answer.Found s.tail)) fine gives codes;
+  }
+
+  pub coded_len_head : (t : ℕ) (none : HoldsOnly c who Nothing) (small : IsWord t) (low : items_before (position_of t) ≤ c.tail) → ChainOk c → CodesShared s c → Coded c who ms ok s (len_head t none small low)
+  coded_len_head t none small low right codes = record {
+    touches = tt;
+    operates = tt;
+    answers = ap (λ w. Answer.Found w) codes.head_is;
+    carried = refl;
+    codes = λ fine gives. codes_left who (unbounded_next (chain.LenHead t) (Answer.Found s.head)) fine gives codes;
+  }
+
+  pub coded_len_again : (t h : ℕ) (none : HoldsOnly c who Nothing) (small : IsWord t × IsWord h) (seen : SeenIn ms (HeadWas (items_before (position_of h)) (items_before (position_of t)) c.tail)) → ChainOk c → CodesShared s c → Coded c who ms ok s (len_again t h none small seen)
+  coded_len_again t h none small seen right codes = record {
+    touches = tt;
+    operates = tt;
+    answers = ap (λ w. Answer.Found w) codes.tail_is;
+    carried = refl;
+    codes = λ fine gives. codes_left who (unbounded_next (chain.LenAgain t h) (Answer.Found s.tail)) fine gives codes;
+  }
+
+  -- the steps of is_empty, close and is_closed
+  pub coded_empty_head : (none : HoldsOnly c who Nothing) → ChainOk c → CodesShared s c → Coded c who ms ok s (empty_head none)
+  coded_empty_head none right codes = record {
+    touches = tt;
+    operates = tt;
+    answers = ap (λ w. Answer.Found w) codes.head_is;
+    carried = refl;
+    codes = λ fine gives. codes_left who (unbounded_next chain.EmptyHead (Answer.Found s.head)) fine gives codes;
+  }
+
+  pub coded_empty_tail : (h : ℕ) (none : HoldsOnly c who Nothing) (small : IsWord h) (saw : SawEmpty (items_before (position_of h)) c ms) → ChainOk c → CodesShared s c → Coded c who ms ok s (empty_tail h none small saw)
+  coded_empty_tail h none small saw right codes = record {
+    touches = tt;
+    operates = tt;
+    answers = ap (λ w. Answer.Found w) codes.tail_is;
+    carried = refl;
+    codes = λ fine gives. codes_left who (unbounded_next (chain.EmptyTail h) (Answer.Found s.tail)) fine gives codes;
+  }
+
+  pub coded_closing : (none : HoldsOnly c who Nothing) → ChainOk c → CodesShared s c → Coded c who ms ok s (closing none)
+  coded_closing none right codes = record {
+    touches = tt;
+    operates = tt;
+    answers = ap (λ w. Answer.Found w) codes.tail_is;
+    carried = refl;
+    codes = λ fine gives. codes_left who (unbounded_next chain.Closing (Answer.Found s.tail)) fine gives (codes_marked codes);
+  }
+
+  pub coded_closed_tail : (none : HoldsOnly c who Nothing) → ChainOk c → CodesShared s c → Coded c who ms ok s (closed_tail none)
+  coded_closed_tail none right codes = record {
+    touches = tt;
+    operates = tt;
+    answers = ap (λ w. Answer.Found w) codes.tail_is;
+    carried = refl;
+    codes = λ fine gives. codes_left who (unbounded_next chain.ClosedTail (Answer.Found s.tail)) fine gives codes;
+  }

@@ -1,0 +1,72 @@
+-- A block that is there, and one that is given up with a reply.
+use Rattle.std.proofs.Common.{ℕ, ◌<◌, ◌≡◌, ◌≢◌, ◌∙◌, inl, inr, Option, Some, None, List, length, refl, sym, ap, subst, arith, get_or, set, get_or-set_same, get_or-set_other}
+use Rattle.std.proofs.lemmas.List.{get_or_past, length-set}
+use Rattle.std.proofs.lemmas.Bool.Decides.{eqb_tells}
+use Rattle.std.proofs.lemmas.Bool.{cases_lt}
+use Rattle.machine_replay.specs.Vocabulary.{Answer, Next, BLOCK_SLOTS}
+use Rattle.law_chain.specs.ChainCells.{Done, GivenUp, Chained, Chain, ChainOk, item_at, LAST}
+use Rattle.law_chain.specs.ChainFacts.{IsNamed}
+use Rattle.law_chain.specs.ChainAnswers.{IsState, StateAnswers}
+use Rattle.law_chain.proofs.ChainRight.{Gives}
+use Rattle.law_chain.specs.ChainAfter.{left_by}
+use Rattle.machine_memory.specs.Blocks.{Block, fresh_block, without, places_in, place_count}
+use Rattle.machine_steps.specs.Steps.{spare_in}
+use Rattle.machine_replay.proofs.Chain.Codes.{BlockIs}
+use Rattle.machine_replay.proofs.Chain.Names.{NameIs, HeldIs, Codes, alive_of, name_of}
+use Rattle.machine_replay.proofs.Chain.CodesWalk.{codes_given_spare, codes_given_block}
+use Rattle.machine_replay.proofs.Chain.Blocks.{there, changed_set, place_in}
+
+-- what stands under the name of the chain's block b
+held_of : {A : Type 0} {c : Chain A} {head tail : ℕ} {front last : Option ℕ} {blocks : List (Option (Block A))} (b f : ℕ) → ChainOk c → IsNamed c b f → Codes c head tail front last blocks → HeldIs c b (get_or blocks f None)
+held_of {c = c} {blocks = blocks} b f ok named codes = (name_of c b f (get_or blocks f None) (ap c.uses named.1 ∙ ok.name b named.0) (codes.name f)).1
+
+-- a block that is not given up is there
+pub block_at : {A : Type 0} {c : Chain A} {head tail : ℕ} {front last : Option ℕ} {blocks : List (Option (Block A))} (b f : ℕ) → ChainOk c → IsNamed c b f → c.walks b ≢ GivenUp → Codes c head tail front last blocks
+    → (x : Block A) × (get_or blocks f None ≡ Some x) × BlockIs c b x.places x.next
+block_at {c = c} {blocks = blocks} b f ok named on codes = alive_of c b (get_or blocks f None) on (held_of b f ok named codes)
+
+-- a number that has no block has none once it is given up again
+codes_reset : {A : Type 0} {c : Chain A} {head tail : ℕ} {front last : Option ℕ} {blocks : List (Option (Block A))} (f : ℕ) → get_or blocks f None ≡ None → Codes c head tail front last blocks → Codes c head tail front last (set blocks f None)
+codes_reset {A} {c = c} {blocks = blocks} f none codes = record {
+  head_is = codes.head_is;
+  tail_is = codes.tail_is;
+  front_is = codes.front_is;
+  last_is = codes.last_is;
+  unused = λ g le. codes.unused g (let n = length-set blocks f None in omega arith);
+  name = λ g. subst (λ y. NameIs c g (c.uses g) y) (sym (same g)) (codes.name g);
+}
+  where
+    same : (g : ℕ) → get_or (set blocks f None) g None ≡ get_or blocks g None
+    same g = elim (eqb_tells g f) [
+      | inl t ↦ subst (λ h. get_or (set blocks f None) h None ≡ get_or blocks h None) (sym t.1) (elim (cases_lt f (length blocks)) [
+        | inl lt ↦ get_or-set_same blocks f None None lt ∙ sym none
+        | inr ge ↦ get_or_past (set blocks f None) f None (let n = length-set blocks f None in omega arith) ∙ sym none
+      ])
+      | inr t ↦ get_or-set_other blocks f g None None t.1
+    ]
+
+-- the block that a call gives up where it replies
+pub codes_left : {A : Type 0} {c : Chain A} {head tail : ℕ} {front last : Option ℕ} {blocks : List (Option (Block A))} (who : ℕ) (n : Next ℕ) → ChainOk c → Gives c who n → Codes c head tail front last blocks
+    → Codes (left_by c n) head tail front last (without (spare_in n) blocks)
+codes_left who (Next.Step l t o) ok gives codes = codes
+codes_left who (Next.Reply x None) ok gives codes = codes
+codes_left {c = c} {blocks = blocks} who (Next.Reply x (Some f)) ok (inl spare) codes =
+    let fresh : get_or blocks f None ≡ Some fresh_block = subst (λ u. NameIs c f u (get_or blocks f None)) spare (codes.name f) in
+    codes_given_spare who f spare (changed_set blocks f None (there blocks f fresh_block fresh)) codes
+codes_left {c = c} {blocks = blocks} who (Next.Reply x (Some f)) ok (inr (b, named, over)) codes =
+    let none : get_or blocks f None ≡ None = elim (held_of b f ok named codes) [ inl h ↦ h.1 | inr h ↦ absurd (h.0 over) ] in
+    codes_reset f none (codes_given_block b f (ap c.uses named.1 ∙ ok.name b named.0) codes)
+
+-- a name is that of one block
+pub one_block : {A : Type 0} (c : Chain A) (b i f : ℕ) → ChainOk c → IsNamed c b f → IsNamed c i f → i ≡ b
+one_block c b i f ok x y = let z : Chained i ≡ Chained b = sym (ap c.uses y.1 ∙ ok.name i y.0) ∙ (ap c.uses x.1 ∙ ok.name b x.0) in cc
+
+-- a block that is there has all its places
+pub has_place : {A : Type 0} {c : Chain A} (bs : List (Option (Block A))) (b f i : ℕ) (x : Block A) → get_or bs f None ≡ Some x → BlockIs c b x.places x.next → i < BLOCK_SLOTS → i < place_count bs f
+has_place bs b f i x is block low = subst (λ y. i < length (places_in y)) (sym is) (subst (λ n. i < n) (sym block.wide) low)
+
+-- what the state of a slot answers
+pub state_answers : {A : Type 0} {c : Chain A} (bs : List (Option (Block A))) (b f i n : ℕ) (x : Block A) → ChainOk c → IsNamed c b f → BlockIs c b x.places x.next → i < BLOCK_SLOTS → (i ≡ LAST → c.readers (item_at b i) ≢ Done)
+    → n ≡ (place_in x i).state → StateAnswers c f i (Answer.Found n)
+state_answers {c = c} bs b f i n x ok named block low unread is j other =
+    (n, refl, subst (λ k. IsState c k i n) (sym (one_block c b j f ok named other)) (subst (λ m. IsState c b i m) (sym is) (block.state i low unread)))

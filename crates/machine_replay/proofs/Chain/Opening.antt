@@ -1,0 +1,26 @@
+-- The opening of a chain: the words stand for it, and every party is idle.
+use Rattle.std.proofs.Common.{ℕ, None, [], refl, arith}
+use Rattle.std.proofs.lemmas.List.{get_or_past}
+use Rattle.queue_steps.specs.State.{start}
+use Rattle.machine_replay.specs.Vocabulary.{Kind}
+use Rattle.law_chain.proofs.ChainFirst.{first, first_ok, first_idle, first_spares}
+use Rattle.machine_memory.specs.Opening.{opening_shared}
+use Rattle.machine_replay.proofs.Chain.Fits.{ChainIdle}
+use Rattle.machine_replay.proofs.Chain.Holding.{ChainHolds}
+
+pub chain_opens : (A : Type 0) → ChainHolds {A = A} (opening_shared Kind.Unbounded) (start None 0) first
+chain_opens A = record {
+  ok = first_ok;
+  codes = record {
+    head_is = refl;
+    tail_is = refl;
+    front_is = refl;
+    last_is = refl;
+    unused = λ f low. refl;
+    name = λ f. get_or_past [] f None (omega arith);
+  };
+  queue_is = refl;
+}
+
+pub chain_all_idle : (A : Type 0) (p : ℕ) → ChainIdle (first {A = A}) p
+chain_all_idle A p = (first_idle A p, first_spares A p)

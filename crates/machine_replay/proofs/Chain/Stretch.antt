@@ -1,0 +1,121 @@
+-- A chain: once the first block is shown, each step of a call that nobody hinders brings it nearer to its reply.
+use Rattle.std.proofs.Common.{ℕ, if◌then◌else◌, ◌-◌, ◌<◌, ◌≡◌, ◌∙◌, Bool, true, false, Option, Some, None, IsSome, List, [], ◌∷◌, bit_or, refl, sym, ap, subst, arith}
+use Rattle.queue_steps.specs.State.{State}
+use Rattle.queue_steps.specs.Next.{next_of}
+use Rattle.queue_steps.specs.Words.{is_shut, tail_of}
+use Rattle.machine_replay.specs.Vocabulary.{Kind, Word, Link, Op, Touch, Next, MARK, EffectKind, Running}
+use Rattle.law_common.specs.Effects.{with_effect}
+use Rattle.law_common.proofs.Tails.{mark_tail, shut_tail}
+use Rattle.law_common.specs.Stand.{Stand}
+use Rattle.machine_replay.proofs.Engine.StandOf.{running_of}
+use Rattle.law_chain.specs.ChainCells.{Chain, queue_of}
+use Rattle.law_chain.specs.ChainAfter.{after_of, left_by}
+use Rattle.law_chain.specs.ChainAnswers.{tail_place, tail_word}
+use Rattle.law_chain.specs.ChainAt.{At, asking, claiming, spending, taking, closing}
+use Rattle.law_chain.proofs.ChainFirst.{first}
+use Rattle.law_chain.proofs.ChainRanks.{rank, rank_some, Falls, IsQuiet}
+use Rattle.law_chain.proofs.ChainRanksStep.{step_falls}
+use Rattle.law_chain.proofs.ChainRight.{NextOkSpares, step_right}
+use Rattle.law_chain.proofs.ChainStep.{is_chain}
+use prog.Atomic.{either}
+use Rattle.law_common.specs.Operations.{op_word, op_makes}
+use Rattle.machine_replay.specs.Book.{Open}
+use Rattle.machine_memory.specs.SharedMemory.{Shared, word_at, put_word, put_at, touched, operated, granted_if, block_touched}
+use Rattle.machine_steps.specs.Steps.{answer_to, step_of, running_after, next_after, carried_then, after_touch}
+use Rattle.machine_replay.proofs.Chain.Far.{far_at, far_of, one_of_pop, by_call, goes_as, bounded}
+use Rattle.machine_replay.proofs.Chain.Fits.{ChainIdle, ChainFits}
+use Rattle.machine_replay.proofs.Chain.Holding.{ChainHolds}
+use Rattle.machine_replay.proofs.Chain.Laws.{chain_steps, chain_then, next_on}
+use Rattle.machine_replay.proofs.Chain.Opening.{chain_opens, chain_all_idle}
+use Rattle.machine_replay.proofs.Chain.Stands.{steps_stand}
+use Rattle.machine_replay.proofs.Progress.Stretch.{Rules}
+
+-- a call that goes on has fewer steps before it
+goes_on : {A : Type 0} (c : Chain A) (n : Next ℕ) (v : Option A) (m : ℕ) (x : Running A) → running_after n v ≡ Some x → Falls c n m → rank (left_by c n) x.local < m
+goes_on c (Next.Step l t o) v m x e falls = let same : record { local = l; touch = t; op = o; carried = v } ≡ x = cc in subst (λ y. rank c y.local < m) same falls
+goes_on c (Next.Reply y spare) v m x e falls = cc
+
+-- the words that a step leaves
+abbrev SameWords : {A : Type 0} → Shared A → Shared A → Type 0
+SameWords s t = (t.head ≡ s.head) × (t.tail ≡ s.tail)
+
+granted_words : {A : Type 0} (ok : Bool) (s : Shared A) → SameWords s (granted_if ok s)
+granted_words true s = (refl, refl)
+granted_words false s = (refl, refl)
+
+lost_tail : {A : Type 0} (b : Bool) (s : Shared A) (x : ℕ) (e : EffectKind) → (if b then Some e else None) ≡ None → SameWords s (put_word s Word.Tail (either b x s.tail))
+lost_tail true s x e none = cc
+lost_tail false s x e none = (refl, refl)
+
+lost_head : {A : Type 0} (b : Bool) (s : Shared A) (x : ℕ) (e : EffectKind) → (if b then Some e else None) ≡ None → SameWords s (put_word s Word.Head (either b x s.head))
+lost_head true s x e none = cc
+lost_head false s x e none = (refl, refl)
+
+marked_before : (w q : ℕ) (c : Bool) (e : EffectKind) → w ≡ tail_of q c → (if is_shut w then None else Some e) ≡ None → bit_or w MARK ≡ w
+marked_before w q true e is none = ap (λ z. bit_or z MARK) is ∙ (mark_tail q true ∙ sym is)
+marked_before w q false e is none = let opened : is_shut w ≡ false = ap is_shut is ∙ shut_tail q false in let no : Some e ≡ None = rw opened at none in cc
+
+-- a step without effect of a call that has had none leaves the words
+pub words_stay : {A : Type 0} {c : Chain A} {who : ℕ} {ms : List (State A)} {k : Stand A} (ok : Bool) (s : Shared A) → At c who ms k → k.effects ≡ [] → s.tail ≡ tail_word c
+    → (step_of Kind.Unbounded ok s (running_of k)).effect ≡ None → SameWords s (step_of Kind.Unbounded ok s (running_of k)).shared
+words_stay ok s (asking d v q block none saw asked) e is quiet = granted_words ok s
+words_stay ok s (claiming d v q name spare none spare_is saw block enough) e is quiet = lost_tail _ s _ _ quiet
+words_stay {c = c} ok s (spending d v spare none spare_is spent) e is quiet = (refl, marked_before s.tail (tail_place c.tail c.mover) c.closed _ is quiet)
+words_stay ok s (taking n name next more new none at front there word_is room) e is quiet = lost_head _ s _ _ quiet
+words_stay {c = c} ok s (closing none) e is quiet = (refl, marked_before s.tail (tail_place c.tail c.mover) c.closed _ is quiet)
+words_stay ok s x e is quiet = first_of (cc, assumption)
+
+-- the poppers go on seeing a block
+put_at_front : {A : Type 0} (s : Shared A) (b : Option ℕ) (i : ℕ) (v : Option A) → (put_at s b i v).head_block ≡ s.head_block
+put_at_front s None i v = refl
+put_at_front s (Some b) i v = refl
+
+touched_front : {A : Type 0} (t : Touch) (b : Option ℕ) (s : Shared A) (v : Option A) → (touched t b s v).head_block ≡ s.head_block
+touched_front Touch.Nothing b s v = refl
+touched_front (Touch.Put i) b s v = put_at_front s b i v
+touched_front (Touch.Swap i) b s v = put_at_front s b i v
+touched_front (Touch.Take i) b s v = put_at_front s b i v
+
+put_word_front : {A : Type 0} (s : Shared A) (w : Word ℕ) (x : ℕ) → (put_word s w x).head_block ≡ s.head_block
+put_word_front s Word.Lock x = refl
+put_word_front s w x = refl
+
+granted_front : {A : Type 0} (ok : Bool) (s : Shared A) → IsSome s.head_block → IsSome (granted_if ok s).head_block
+granted_front true s h = h
+granted_front false s h = h
+
+operated_front : {A : Type 0} (ok : Bool) (s : Shared A) (o : Op ℕ) → IsSome s.head_block → IsSome (operated ok s o).head_block
+operated_front ok s (Op.Load w) h = h
+operated_front ok s (Op.LoadLink l) h = h
+operated_front ok s (Op.StoreLink Link.HeadBlock f) h = refl
+operated_front ok s (Op.StoreLink l f) h = h
+operated_front ok s (Op.Install f) h = h
+operated_front ok s Op.Ask h = granted_front ok s h
+operated_front ok s o h = subst (λ b. IsSome b) (sym (put_word_front s (op_word o) (op_makes o (word_at s (op_word o))))) h
+
+module _ (A : Type 0) where
+  pub ready_on : (ok : Bool) (s : Shared A) (r : Running A) → IsSome s.head_block → IsSome (step_of Kind.Unbounded ok s r).shared.head_block
+  ready_on ok s r h = operated_front ok (after_touch s r) r.op (subst (λ b. IsSome b) (sym (touched_front r.touch (block_touched r.op) s r.carried)) h)
+
+  -- the step of a call, while no other party holds a part
+  pub own_falls : (busy : ℕ) (ok : Bool) (s : Shared A) (Q : State A) (g : Chain A) (p : ℕ) (x x' : Running A) (o : Open A) → IsSome s.head_block → ChainHolds s Q g → ChainFits busy s Q g p x o → IsQuiet g p
+      → (step_of Kind.Unbounded ok s x).call ≡ Some x'
+      → far_at (step_of Kind.Unbounded ok s x).shared.tail (step_of Kind.Unbounded ok s x).shared.head x'.local - one_of_pop x'.local < far_at s.tail s.head x.local - one_of_pop x.local
+  own_falls busy ok s Q g p x x' o ready holds f quiet goes =
+      let a = answer_to ok s x in
+      let step = steps_stand A ok s Q g p o.moments x o.call o.effects holds f.here f.spares in
+      let right = step_right f.here a holds.ok step.found f.spares in
+      let after = chain_then ok s g p o.moments x o.call o.effects f.here in
+      let falls = step_falls f.here a holds.ok step.found quiet in
+      let went : next_after Kind.Unbounded ok s x ≡ next_on ok s x = ap (λ l. next_of Kind.Unbounded l a) (is_chain f.here) in
+      let on = subst (λ n. running_after n (carried_then s x) ≡ Some x') went goes in
+      let less = goes_on (after_of f.here a) (next_on ok s x) (carried_then s x) (rank g x.local) x' on falls in
+      let same = goes_as after p (queue_of after ∷ o.moments) (next_on ok s x) (carried_then s x) o.call (with_effect o.effects right.e) x' on (subst (λ v. NextOkSpares after p (queue_of after ∷ o.moments) (next_on ok s x) v o.call (with_effect o.effects right.e)) (sym step.carried) right.ends) ∙ sym (by_call f.here) in
+      let some = rank_some after x'.local in
+      let more = (bounded s.tail s.head f.here holds.ok).0 in
+      let there = far_of (step_of Kind.Unbounded ok s x).shared after x'.local (ready_on ok s x ready) right.ok step.codes in
+      let here = far_of s g x.local ready holds.ok holds.codes in
+      omega (arith, less, there, here, same, some, more)
+
+  abbrev pub chain_rules : Rules A Kind.Unbounded
+  chain_rules = record { G = Chain A; Holds = ChainHolds; Idle = ChainIdle; Fits = ChainFits; laws = chain_steps (steps_stand A); first = first; opens = chain_opens A; all_idle = chain_all_idle A }

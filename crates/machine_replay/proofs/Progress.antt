@@ -1,0 +1,12 @@
+pub mod FewSteps
+pub mod Solo
+pub mod SoloRun
+pub mod Standings
+pub mod Stretch
+pub mod Had
+pub mod Appended
+pub mod Taken
+pub mod Beside
+pub mod LenWaits
+pub mod Unhindered
+pub mod SoloCalls

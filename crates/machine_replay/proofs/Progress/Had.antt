@@ -1,0 +1,112 @@
+-- A party in a call that has had an effect of some kind, from that step on. Nothing here knows a kind of queue.
+use Rattle.std.proofs.Common.{◌≡◌, ◌∙◌, ℕ, ◌+◌, ◌<◌, ◌≤◌, ◌&&◌, nat_lt, Bool, true, false, cond, Option, Some, None, is_none, List, [], ◌∷◌, ◌++◌, length, get_or-set_same, refl, sym, ap, subst, arith, inl, inr}
+use Rattle.std.proofs.lemmas.Bool.{ltb-true}
+use Rattle.std.proofs.lemmas.Bool.Decides.{eqb_tells}
+use Rattle.law_common.proofs.Tests.{is_none_true}
+use Rattle.queue_steps.specs.State.{State}
+use Rattle.machine_replay.specs.Vocabulary.{Reply, Effect, Kind, Local, Event, Told, EffectKind, Begin, Step, Skipped, Ran, Running}
+use Rattle.machine_replay.specs.Book.{Book, Open, Happens, Steps, Moves, kind_of, at_open, put, joined, watched, begun, after_own}
+use Rattle.machine_replay.specs.Conforms.{capacity_of, party_of}
+use Rattle.machine_replay.specs.Progress.{reply_told}
+use Rattle.machine_replay.specs.Within.{is_step_of}
+use Rattle.machine_steps.specs.Machine.{event_of}
+use Rattle.machine_memory.specs.SharedMemory.{Shared}
+use Rattle.machine_steps.specs.Steps.{CanStep, step_of, start_of}
+use Rattle.machine_steps.specs.World.{World, call_at}
+use Rattle.machine_replay.proofs.Engine.Events as engine
+use Rattle.machine_replay.proofs.Progress.Solo.{and-right, put-same, put-other}
+use Rattle.machine_replay.proofs.Progress.Stretch.{Rules, other-stays, begin-stays, own-step}
+
+-- one of the effects is of such a kind
+abbrev pub ThisOr : Bool → Type 0 → Type 0
+ThisOr true X = Unit {0}
+ThisOr false X = X
+
+abbrev pub Had : {T : Type 0} → (EffectKind → Bool) → List (Effect T) → Type 0
+Had such [] = ⊥
+Had such (e ∷ es) = ThisOr (such (kind_of e)) (Had such es)
+
+more : {T : Type 0} (such : EffectKind → Bool) (es : List (Effect T)) (e : Effect T) → Had such es → Had such (es ++ e ∷ [])
+more such [] e a = absurd a
+more such (x ∷ es) e a = elim (such (kind_of x)) as (λ b. ThisOr b (Had such es) → ThisOr b (Had such (es ++ e ∷ []))) [ true ↦ λ a. tt | false ↦ λ a. more such es e a ] a
+
+now : {T : Type 0} (such : EffectKind → Bool) (es : List (Effect T)) (e : Effect T) → such (kind_of e) ≡ true → Had such (es ++ e ∷ [])
+now such [] e is = subst (λ b. ThisOr b ⊥) (sym is) tt
+now such (x ∷ es) e is = elim (such (kind_of x)) as (λ b. ThisOr b (Had such (es ++ e ∷ []))) [ true ↦ tt | false ↦ now such es e is ]
+
+pub less : {T : Type 0} (such : EffectKind → Bool) (es : List (Effect T)) (e : Effect T) → such (kind_of e) ≡ false → Had such (es ++ e ∷ []) → Had such es
+less such [] e not a = subst (λ b. ThisOr b ⊥) not a
+less such (x ∷ es) e not a = elim (such (kind_of x)) as (λ b. ThisOr b (Had such (es ++ e ∷ [])) → ThisOr b (Had such es)) [ true ↦ λ a. tt | false ↦ λ a. less such es e not a ] a
+
+-- the party is in a call that has had one
+abbrev pub In : {T : Type 0} → (EffectKind → Bool) → Option (Open T) → Type 0
+In {T} such y = (o : Open T) × (y ≡ Some o) × Had such o.effects
+
+in-on : {T : Type 0} (such : EffectKind → Bool) (f : Open T → Open T) → ((o : Open T) → (f o).effects ≡ o.effects) → (y : Option (Open T)) → In such y → In such (at_open f y)
+in-on such f same y a = (f a.0, ap (at_open f) a.1, subst (λ es. Had such es) (sym (same a.0)) a.2)
+
+moved : {T : Type 0} (such : EffectKind → Bool) (Q R : State T) (o : Open T) (k : Option EffectKind) (es : List (Effect T)) → Moves Q o k R es → Had such o.effects → Had such es
+moved such Q R o None es m a = subst (λ es. Had such es) (sym m.1) a
+moved such Q R o (Some k) es m a = subst (λ es. Had such es) (sym m.5) (more such o.effects m.0 a)
+
+same-open : {T : Type 0} (y : Option (Open T)) (o u : Open T) → y ≡ Some o → y ≡ Some u → o ≡ u
+same-open y o u e f = let g : Some o ≡ Some u = sym e ∙ f in cc
+
+-- it is so after any event that is not its reply
+pub in-next : {T : Type 0} (such : EffectKind → Bool) (cap : Option ℕ) (parties : ℕ) (b c : Book T) (e : Event T) (t : Told T) (q : ℕ) → Happens cap parties b e t c → (party_of e ≡ q → reply_told t ≡ None) → In such (b.open_call q) → In such (c.open_call q)
+in-next such cap parties b c e Skipped q h none a = rw h.1 a
+in-next such cap parties b c (Begin p k) (Ran None None) q h none a = rw h.2 (elim (eqb_tells p q) [
+  | inl same ↦
+      let free : b.open_call q ≡ None = ap b.open_call (sym same.1) ∙ is_none_true (b.open_call p) (and-right (nat_lt p parties) (is_none (b.open_call p)) h.0) in
+      let there = a.1 in cc
+  | inr ne ↦ rw (put-other (λ j. at_open joined (b.open_call j)) p q (Some (begun k)) (λ s. ne.1 (sym s))) (in-on such joined (λ o. refl) (b.open_call q) a)
+])
+in-next such cap parties b c (Begin p k) (Ran None (Some r)) q h none a = rw h.3 a
+in-next such cap parties b c (Begin p k) (Ran (Some z) r) q h none a = absurd h
+in-next {T} such cap parties b c (Step p granted) (Ran k r) q h none a = by_reply r none h.1
+  where
+    by_reply : (r : Option (Reply T)) → (p ≡ q → r ≡ None) → Steps b p k r c → In such (c.open_call q)
+    by_reply r none s = rw (ap (λ z. z q) s.calls) (elim (eqb_tells p q) [
+      | inl same ↦
+          let was : b.open_call q ≡ Some s.o = ap b.open_call (sym same.1) ∙ s.in_call in
+          let had : Had such s.o.effects = subst (λ z. Had such z.effects) (same-open (b.open_call q) a.0 s.o a.1 was) a.2 in
+          let mine = after_own b.busy s.o c.queue s.effects in
+          let here : put (λ j. at_open (watched c.queue) (b.open_call j)) p (Some mine) q ≡ Some mine = ap (put (λ j. at_open (watched c.queue) (b.open_call j)) p (Some mine)) (sym same.1) ∙ put-same (λ j. at_open (watched c.queue) (b.open_call j)) p (Some mine) in
+          rw (none same.1) (mine, here, moved such b.queue c.queue s.o k s.effects s.moves had)
+      | inr ne ↦ rw (put-other (λ j. at_open (watched c.queue) (b.open_call j)) p q _ (λ z. ne.1 (sym z))) (in-on such (watched c.queue) (λ o. refl) (b.open_call q) a)
+    ])
+
+-- where it has one
+pub in-here : {T : Type 0} (such : EffectKind → Bool) (cap : Option ℕ) (parties : ℕ) (b c : Book T) (p : ℕ) (granted : Bool) (x : EffectKind) → such x ≡ true → (t : Told T) → t ≡ Ran (Some x) None → Happens cap parties b (Step p granted) t c → In such (c.open_call p)
+in-here such cap parties b c p granted x is (Ran (Some k) None) told h =
+    let s = h.1 in
+    let mine = after_own b.busy s.o c.queue s.effects in
+    let what : k ≡ x = cc in
+    (mine, ap (λ z. z p) s.calls ∙ put-same (λ j. at_open (watched c.queue) (b.open_call j)) p (Some mine), subst (λ es. Had such es) (sym s.moves.5) (now such s.o.effects s.moves.0 (ap such (s.moves.1 ∙ what) ∙ is)))
+in-here such cap parties b c p granted x is t told h = cc
+
+-- an event brings a call nearer to its reply where it is its own step, and else leaves it as far
+module _ (T : Type 0) (k : Kind) (laws : Rules T k) (parties : ℕ) (before : Local ℕ → ℕ) where
+  pub nearer : (w : World (Shared T) (Running T)) (p : ℕ) (r r' : Running T) (e : Event T) → call_at w p ≡ Some r → call_at (event_of k true w e).0 p ≡ Some r'
+      → ((ok : Bool) → (step_of k ok w.shared r).call ≡ Some r' → before r'.local < before r.local) → cond (is_step_of p e) 1 0 + before r'.local ≤ before r.local
+  nearer w p r r' (Begin q c) is is' falls =
+      let stays : call_at (event_of k true w (Begin q c)).0 p ≡ call_at w p = elim (eqb_tells q p) [
+        | inl t ↦ subst (λ i. call_at (event_of k true w (Begin i c)).0 p ≡ call_at w p) (sym t.1) (begin-stays T k laws parties w p c r is)
+        | inr t ↦ other-stays T k laws parties w p (Begin q c) t.1
+      ] in
+      let same : r' ≡ r = (let x : Some r' ≡ Some r = sym is' ∙ (stays ∙ is) in cc) in
+      let eq : before r'.local ≡ before r.local = ap (λ x. before x.local) same in
+      omega arith
+  nearer w p r r' (Step q g) is is' falls = elim (eqb_tells q p) [
+    | inl t ↦
+        let there' : call_at (event_of k true w (Step p g)).0 p ≡ Some r' = subst (λ i. call_at (event_of k true w (Step i g)).0 p ≡ Some r') t.1 is' in
+        let lt : p < length w.calls = ltb-true p (length w.calls) (engine.within T (Shared T) (Running T) laws.G (capacity_of k) (step_of k) (start_of k) (CanStep k) laws.Holds laws.Idle laws.Fits w p r is) in
+        let made = step_of k (g && true) w.shared r in
+        let there : made.call ≡ Some r' = sym (get_or-set_same w.calls p made.call None lt) ∙ (sym (ap (λ z. call_at z p) (own-step T k laws parties w p g r is)) ∙ there') in
+        let less = falls (g && true) there in
+        rw t.0 (omega arith)
+    | inr t ↦
+        let same : r' ≡ r = (let x : Some r' ≡ Some r = sym is' ∙ (other-stays T k laws parties w p (Step q g) t.1 ∙ is) in cc) in
+        let eq : before r'.local ≡ before r.local = ap (λ x. before x.local) same in
+        rw t.0 (omega arith)
+  ]

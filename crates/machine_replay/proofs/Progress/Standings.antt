@@ -1,0 +1,116 @@
+-- Where a party stands, as the book of a run has it.
+use Rattle.std.proofs.Common.{◌≡◌, ◌≢◌, ◌∙◌, ℕ, ◌==◌, nat_lt, true, false, if◌then◌else◌, Option, Some, None, is_none, List, [], ◌∷◌, ◌++◌, refl, sym, ap, inl, inr}
+use Rattle.std.proofs.lemmas.Bool.Decides.{eqb_tells}
+use Rattle.law_common.proofs.Tests.{is_none_true}
+use Rattle.queue_steps.specs.State.{State}
+use Rattle.machine_replay.specs.Vocabulary.{Reply, Effect, Event, Told, EffectKind, Begin, Step, Skipped, Ran}
+use Rattle.machine_replay.specs.Book.{Book, Open, Happens, Steps, Moves, at_open, put, joined, watched, begun, after_own}
+use Rattle.machine_replay.specs.Conforms.{party_of}
+use Rattle.machine_replay.proofs.Progress.Solo.{and-right, put-same, put-other}
+use Rattle.machine_replay.specs.Progress.{Standing, Between, Undone, HalfDone, stands_after, stands_then, effect_told, reply_told}
+
+-- the party's open call is as it stands
+abbrev pub Agrees : {T : Type 0} → Standing → Option (Open T) → Type 0
+Agrees Between y = y ≡ None
+Agrees {T} Undone y = (o : Open T) × (y ≡ Some o) × (o.effects ≡ [])
+Agrees {T} HalfDone y = (o : Open T) × (y ≡ Some o) × (o.effects ≢ [])
+
+agrees-none : {T : Type 0} (x : Standing) (y : Option (Open T)) → Agrees x y → y ≡ None → x ≡ Between
+agrees-none Between y a e = refl
+agrees-none x y a e = let is = a.1 in cc
+
+-- another party's event leaves the call's effects
+agrees-on : {T : Type 0} (f : Open T → Open T) → ((o : Open T) → (f o).effects ≡ o.effects) → (x : Standing) (y : Option (Open T)) → Agrees x y → Agrees x (at_open f y)
+agrees-on f same Between y a = rw a refl
+agrees-on f same Undone y a = (f a.0, ap (at_open f) a.1, same a.0 ∙ a.2)
+agrees-on f same HalfDone y a = (f a.0, ap (at_open f) a.1, λ e. a.2 (sym (same a.0) ∙ e))
+
+some-effect : {T : Type 0} (es : List (Effect T)) (e : Effect T) (mine : List (Effect T)) → mine ≡ es ++ e ∷ [] → mine ≢ []
+some-effect [] e mine is none = cc
+some-effect (x ∷ es) e mine is none = cc
+
+-- the call after its own step
+stepped : {T : Type 0} (x : Standing) (y : Option (Open T)) (o mine : Open T) (Q R : State T) (k : Option EffectKind) → Agrees x y → y ≡ Some o → Moves Q o k R mine.effects → Agrees (stands_after {T = T} x (Ran k None)) (Some mine)
+stepped {T} x y o mine Q R (Some k) a is m = half x
+  where
+    half : (x : Standing) → Agrees (stands_after {T = T} x (Ran (Some k) None)) (Some mine)
+    half Between = (mine, refl, some-effect o.effects m.0 mine.effects m.5)
+    half x = (mine, refl, some-effect o.effects m.0 mine.effects m.5)
+stepped Between y o mine Q R None a is m = cc
+stepped Undone y o mine Q R None a is m = let same : a.0 ≡ o = (let i = a.1 in let e : Some a.0 ≡ Some o = sym i ∙ is in cc) in (mine, refl, m.1 ∙ (ap (λ z. z.effects) (sym same) ∙ a.2))
+stepped HalfDone y o mine Q R None a is m = let same : a.0 ≡ o = (let i = a.1 in let e : Some a.0 ≡ Some o = sym i ∙ is in cc) in (mine, refl, λ none. a.2 (ap (λ z. z.effects) same ∙ (sym m.1 ∙ none)))
+
+own : {T : Type 0} (q : ℕ) (x : Standing) (e : Event T) (t : Told T) (y : Option (Open T)) → party_of e ≡ q → Agrees (stands_after x t) y → Agrees (stands_then q x e t) y
+own q x e t y same a = elim (eqb_tells (party_of e) q) [ inl b ↦ rw b.0 a | inr b ↦ absurd (b.1 same) ]
+
+others : {T : Type 0} (q : ℕ) (x : Standing) (e : Event T) (t : Told T) (y : Option (Open T)) → party_of e ≢ q → Agrees x y → Agrees (stands_then q x e t) y
+others q x e t y ne a = elim (eqb_tells (party_of e) q) [ inl b ↦ absurd (ne b.1) | inr b ↦ rw b.0 a ]
+
+skips : {T : Type 0} (q : ℕ) (x : Standing) (e : Event T) → stands_then {T = T} q x e Skipped ≡ x
+skips q x e = elim (party_of e == q) as (λ b. (if b then x else x) ≡ x) [ true ↦ refl | false ↦ refl ]
+
+-- each party's call is as it stands after an event, if it was so before
+pub agrees-next : {T : Type 0} (cap : Option ℕ) (parties : ℕ) (b c : Book T) (e : Event T) (t : Told T) (q : ℕ) (x : Standing)
+    → Happens cap parties b e t c → Agrees x (b.open_call q) → Agrees (stands_then q x e t) (c.open_call q)
+agrees-next cap parties b c e Skipped q x h a = rw (skips q x e, h.1) a
+agrees-next cap parties b c (Begin p k) (Ran None None) q x h a = rw h.2 (elim (eqb_tells p q) [
+  | inl same ↦
+      let free : b.open_call q ≡ None = ap b.open_call (sym same.1) ∙ is_none_true (b.open_call p) (and-right (nat_lt p parties) (is_none (b.open_call p)) h.0) in
+      let was = agrees-none x (b.open_call q) a free in
+      let here : put (λ j. at_open joined (b.open_call j)) p (Some (begun k)) q ≡ Some (begun k) = ap (put (λ j. at_open joined (b.open_call j)) p (Some (begun k))) (sym same.1) ∙ put-same (λ j. at_open joined (b.open_call j)) p (Some (begun k)) in
+      own q x (Begin p k) (Ran None None) _ same.1 (rw was (begun k, here, refl))
+  | inr ne ↦
+      others q x (Begin p k) (Ran None None) _ ne.1 (rw (put-other (λ j. at_open joined (b.open_call j)) p q (Some (begun k)) (λ s. ne.1 (sym s))) (agrees-on joined (λ o. refl) x (b.open_call q) a))
+])
+agrees-next cap parties b c (Begin p k) (Ran None (Some r)) q x h a = rw h.3 (elim (eqb_tells p q) [
+  | inl same ↦
+      let free : b.open_call q ≡ None = ap b.open_call (sym same.1) ∙ is_none_true (b.open_call p) (and-right (nat_lt p parties) (is_none (b.open_call p)) h.0) in
+      own q x (Begin p k) (Ran None (Some r)) (b.open_call q) same.1 free
+  | inr ne ↦ others q x (Begin p k) (Ran None (Some r)) (b.open_call q) ne.1 a
+])
+agrees-next cap parties b c (Begin p k) (Ran (Some z) r) q x h a = absurd h
+agrees-next {T} cap parties b c (Step p granted) (Ran k r) q x h a = by_reply r h.1
+  where
+    by_reply : (r : Option (Reply T)) → Steps b p k r c → Agrees (stands_then q x (Step p granted) (Ran k r)) (c.open_call q)
+    by_reply (Some y) s = rw (ap (λ z. z q) s.calls) (elim (eqb_tells p q) [
+      | inl same ↦
+          own q x (Step p granted) (Ran k (Some y)) _ same.1 (ap (put (λ j. at_open (watched c.queue) (b.open_call j)) p None) (sym same.1) ∙ put-same (λ j. at_open (watched c.queue) (b.open_call j)) p None)
+      | inr ne ↦
+          others q x (Step p granted) (Ran k (Some y)) _ ne.1 (rw (put-other (λ j. at_open (watched c.queue) (b.open_call j)) p q None (λ z. ne.1 (sym z))) (agrees-on (watched c.queue) (λ o. refl) x (b.open_call q) a))
+    ])
+    by_reply None s =
+        let mine = after_own b.busy s.o c.queue s.effects in
+        rw (ap (λ z. z q) s.calls) (elim (eqb_tells p q) [
+          | inl same ↦
+              let was : b.open_call q ≡ Some s.o = ap b.open_call (sym same.1) ∙ s.in_call in
+              own q x (Step p granted) (Ran k None) _ same.1
+              (rw (ap (put (λ j. at_open (watched c.queue) (b.open_call j)) p (Some mine)) (sym same.1) ∙ put-same (λ j. at_open (watched c.queue) (b.open_call j)) p (Some mine))
+              (stepped x (b.open_call q) s.o mine b.queue c.queue k a was s.moves))
+          | inr ne ↦
+              others q x (Step p granted) (Ran k None) _ ne.1 (rw (put-other (λ j. at_open (watched c.queue) (b.open_call j)) p q (Some mine) (λ z. ne.1 (sym z))) (agrees-on (watched c.queue) (λ o. refl) x (b.open_call q) a))
+        ])
+
+-- a party that is in a call, and gets no reply, is in it still
+pub in_call-next : {T : Type 0} (p : ℕ) (x : Standing) (e : Event T) (t : Told T) → x ≢ Between → (party_of e ≡ p → reply_told t ≡ None) → stands_then p x e t ≢ Between
+in_call-next {T} p x e t is none = elim (eqb_tells (party_of e) p) [ inl b ↦ rw b.0 (go x t is (none b.1)) | inr b ↦ rw b.0 is ]
+  where
+    go : (x : Standing) (t : Told T) → x ≢ Between → reply_told t ≡ None → stands_after x t ≢ Between
+    go Between t is none = absurd (is refl)
+    go Undone (Ran (Some k) None) is none = λ e. cc
+    go HalfDone (Ran (Some k) None) is none = λ e. cc
+    go Undone (Ran k (Some r)) is none = absurd (cc)
+    go HalfDone (Ran k (Some r)) is none = absurd (cc)
+    go x t is none = is
+
+-- a party that is not half done, and has no effect, is not half done still
+pub not_half-next : {T : Type 0} (q : ℕ) (x : Standing) (e : Event T) (t : Told T) → x ≢ HalfDone → (party_of e ≡ q → effect_told t ≡ None) → stands_then q x e t ≢ HalfDone
+not_half-next {T} q x e t is none = elim (eqb_tells (party_of e) q) [ inl b ↦ rw b.0 (go x t is (none b.1)) | inr b ↦ rw b.0 is ]
+  where
+    go : (x : Standing) (t : Told T) → x ≢ HalfDone → effect_told t ≡ None → stands_after x t ≢ HalfDone
+    go HalfDone t is none = absurd (is refl)
+    go Between (Ran None None) is none = λ e. cc
+    go Between (Ran k (Some r)) is none = λ e. cc
+    go Undone (Ran k (Some r)) is none = λ e. cc
+    go Between (Ran (Some k) None) is none = absurd (cc)
+    go Undone (Ran (Some k) None) is none = absurd (cc)
+    go x t is none = is

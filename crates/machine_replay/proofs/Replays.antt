@@ -1,0 +1,16 @@
+pub mod Growing
+pub mod Counting
+pub mod Peaking
+pub mod Played
+pub mod BookRuns
+pub mod Noting
+pub mod Serving
+pub mod OneOwner
+pub mod OneOwnerRun
+pub mod Skips
+pub mod SkipsRun
+pub mod SkipsAll
+pub mod CallsTold
+pub mod Rising
+pub mod OwnersReplay
+pub mod PeakTold

@@ -1,0 +1,75 @@
+-- What is noted of a run, one event after another.
+use Rattle.std.proofs.Common.{◌≡◌, ◌∙◌, ℕ, List, [], ◌∷◌, ◌++◌, length, ap}
+use Rattle.machine_replay.specs.Vocabulary.{Kind, Event, Told, Replay}
+use Rattle.machine_replay.specs.declared.machine_run.MachineRun.{MachineRun}
+use Rattle.machine_replay.specs.declared.machine_run.RunEnd.{RunEnd}
+use Rattle.machine_replay.specs.declared.run.Lists.{Lists}
+use Rattle.machine_replay.specs.Conforms.{Conforms, capacity_of, party_of, entries_from, reply_entry, effect_entry, skipped_entry}
+use Rattle.machine_replay.specs.Played.{IsPlayed}
+use Rattle.machine_steps.specs.Left.{left_of}
+use Rattle.machine_replay.specs.MachineRuns.{Continues, IsMachineRun, IsSomeMachineRun, Leaves}
+use Rattle.machine_steps.specs.Machine.{world_of}
+use Rattle.machine_replay.proofs.Engine.AllKinds.{known-length}
+use Rattle.machine_replay.proofs.Engine.MachineRuns.{machine_run-known}
+use Rattle.machine_replay.proofs.Replays.Played.{run-made}
+use Rattle.machine_replay.proofs.Engine.SoFar.{noted}
+
+-- the lists have what is told of the events of the run
+pub record Notes {T A B : Type 0} (k : Kind) (parties : ℕ) (past : List (Event T)) (l : Lists T A) (c : MachineRun T B) : Type 0 where
+  pub told : List (Told T)
+  pub on : IsMachineRun k parties past told c
+  pub replies : l.replies.items ≡ entries_from reply_entry 0 past told
+  pub effects : l.effects.items ≡ entries_from effect_entry 0 past told
+  pub skipped : l.skipped.items ≡ entries_from skipped_entry 0 past told
+
+pub notes-first : {T A B : Type 0} (k : Kind) (parties : ℕ) (l : Lists T A) (c : MachineRun T B) → IsMachineRun k parties [] [] c → l.replies.items ≡ [] → l.effects.items ≡ [] → l.skipped.items ≡ [] → Notes k parties [] l c
+notes-first k parties l c on replies effects skipped = record { told = []; on = on; replies = replies; effects = effects; skipped = skipped }
+
+pub notes-on : {T A B : Type 0} (k : Kind) (parties : ℕ) (past : List (Event T)) (l : Lists T A) (c : MachineRun T B) → Notes k parties past l c → IsSomeMachineRun c
+notes-on k parties past l c n = (k, parties, past, n.told, n.on)
+
+-- one event more is noted
+pub notes-next : {T A B : Type 0} (k : Kind) (parties : ℕ) (past : List (Event T)) (l m : Lists T A) (c d : MachineRun T B) (e : Event T) (t : Told T) (n p : ℕ) → Notes k parties past l c → n ≡ length past → p ≡ party_of e → Continues c e t d
+    → m.replies.items ≡ l.replies.items ++ reply_entry n p t → m.effects.items ≡ l.effects.items ++ effect_entry n p t → m.skipped.items ≡ l.skipped.items ++ skipped_entry n p t
+    → Notes k parties (past ++ e ∷ []) m d
+notes-next k parties past l m c d e t n p notes number party goes_on replies effects skipped =
+    let same = known-length k parties past notes.told (world_of c.machine) c.peak (machine_run-known k parties past notes.told c notes.on) in
+    record {
+      told = notes.told ++ t ∷ [];
+      on = goes_on k parties past notes.told notes.on;
+      replies = noted reply_entry n p past notes.told e t l.replies.items m.replies.items same number party notes.replies replies;
+      effects = noted effect_entry n p past notes.told e t l.effects.items m.effects.items same number party notes.effects effects;
+      skipped = noted skipped_entry n p past notes.told e t l.skipped.items m.skipped.items same number party notes.skipped skipped;
+    }
+
+-- the whole run conforms
+pub notes-end : {T A : Type 0} (k : Kind) (parties : ℕ) (events : List (Event T)) (l : Lists T A) (c : MachineRun T A) (r : RunEnd T A) → Notes k parties events l c → Leaves c r
+    → Conforms (capacity_of k) parties events (record { replies = l.replies; effects = l.effects; skipped = l.skipped; left = r.left; peak = r.peak })
+notes-end k parties events l c r notes leaves =
+    let ends = leaves k parties events notes.told notes.on in
+    record {
+      told = notes.told;
+      last = ends.last;
+      run = ends.run;
+      replies = notes.replies;
+      effects = notes.effects;
+      skipped = notes.skipped;
+      left = ends.left;
+      peak = ends.peak;
+    }
+
+-- and its lists are what the events make
+pub notes-played : {T A B : Type 0} (k : Kind) (parties : ℕ) (events : List (Event T)) (l : Lists T A) (c : MachineRun T B) (r : Replay T A) → Notes k parties events l c
+    → r.replies.items ≡ l.replies.items → r.effects.items ≡ l.effects.items → r.skipped.items ≡ l.skipped.items → r.left.items ≡ left_of c.machine.kind (world_of c.machine)
+    → IsPlayed k parties events r
+notes-played k parties events l c r notes replies effects skipped left =
+    let all = run-made k parties events notes.told c notes.on in
+    let here : r.left.items ≡ left_of k (world_of c.machine) = rw notes.on.kind_is at left in
+    record {
+      told = notes.told;
+      made = all.told;
+      replies = replies ∙ notes.replies;
+      effects = effects ∙ notes.effects;
+      skipped = skipped ∙ notes.skipped;
+      left = here ∙ ap (λ w. left_of k w) all.world;
+    }

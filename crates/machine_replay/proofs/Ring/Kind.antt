@@ -1,0 +1,26 @@
+-- All that a ring owes the machine.
+use Rattle.std.proofs.Common.{ℕ, ap}
+use Rattle.queue_steps.specs.Words.{IsRing}
+use Rattle.machine_replay.specs.Vocabulary.{Kind}
+use Rattle.machine_replay.proofs.Engine.KindLaws.{KindLaws}
+use Rattle.machine_replay.proofs.Engine.Counted.{counted-none}
+use Rattle.law_ring.specs.RingCells.{Ring}
+use Rattle.machine_replay.proofs.Ring.Laws.{RingHolds, RingIdle, RingFits, ring_steps}
+use Rattle.law_ring.specs.RingOpening.{opening_ring}
+use Rattle.machine_replay.proofs.Ring.Opening.{ring_opens, ring_all_idle}
+use Rattle.machine_replay.proofs.Ring.Left.{ring_leaves}
+
+-- a ring of n slots keeps the laws of the machine
+pub ring_laws : (T : Type 0) (n : ℕ) → IsRing n → KindLaws T (Kind.Bounded n)
+ring_laws T n ring = record {
+  G = Ring T;
+  Holds = RingHolds n;
+  Idle = RingIdle;
+  Fits = RingFits n;
+  laws = ring_steps n;
+  first = opening_ring T;
+  opens = ring_opens T n ring;
+  all_idle = ring_all_idle T;
+  leaves = λ parties w b sim. ring_leaves n parties w b sim;
+  counts = λ parties w b sim. counted-none w b n sim.holds.no_blocks (ap (λ q. q.cap) sim.holds.queue_is);
+}

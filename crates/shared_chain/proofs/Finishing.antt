@@ -1,0 +1,5 @@
+pub mod Ended
+pub mod Finish
+pub mod Finished
+pub mod Leftovers
+pub mod Abandoned

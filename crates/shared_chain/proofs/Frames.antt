@@ -1,0 +1,11 @@
+pub mod Blocks
+pub mod Slots
+pub mod Homes
+pub mod States
+pub mod Links
+pub mod Resting
+pub mod Tested
+pub mod Written
+pub mod Unset
+pub mod Renamed
+pub mod Spots

@@ -1,0 +1,225 @@
+-- Blocks of a web under a chain that changed: the block of a slot that went or came back, the ends, and the slots of a party that holds nothing.
+use Rattle.std.proofs.Common.{ℕ, ◌+◌, ◌<◌, ◌≡◌, ◌≢◌, ◌∙◌, not, inl, inr, Bool, true, false, Option, Some, None, List, [], length, replicate, zero, suc, refl, sym, ap, subst, arith, set, length-set, get_or-set_same}
+use Rattle.std.proofs.lemmas.Bool.Decides.{eqb_tells}
+use mathlib.Core.Option.{some}
+use lib.ListN.{get_elem?}
+use denote.RawPtr.{Ptr}
+use Rattle.atomic_table.proofs.Lists.{set_here, set_else}
+use Rattle.law_common.specs.Vocabulary.{Op, Local, Next, BLOCK_SLOTS, WRITE, READ}
+use Rattle.queue_steps.specs.State.{State}
+use Rattle.queue_steps.specs.UnboundedNext.{unbounded_next}
+use Rattle.law_common.specs.Stand.{Stand}
+use Rattle.law_chain.specs.ChainCells.{Writer, Free, Wrote, Reader, Unread, Reading, Done, Chain, Write, Read, reader_of, HoldsOnly, Nothing, item_at}
+use Rattle.law_chain.specs.ChainAt.{At}
+use Rattle.law_chain.specs.ChainAfter.{chain_of, after_of, left_by}
+use Rattle.law_chain.specs.ChainAnswers.{Answers, linked_of, last_of, shown_of, tail_word, head_word, is_wrote, is_done, waits_at}
+use Rattle.law_chain.proofs.ChainAnswers.{done_is}
+use Rattle.law_chain.specs.ChainPasses.{spare_in}
+use Rattle.law_chain.proofs.ChainGiven.{holds_given}
+use Rattle.mem_blocks.specs.Web.{Block, Home, Sitter, Act, Mays, blocks_after, sitter_after, Lives, block, worded, homed, with_word, vacant, AllVacant}
+use Rattle.mem_blocks.specs.declared.hub.TheConstants.{TAIL, HEAD}
+use Rattle.shared_parties.specs.declared.known.CallState.{CallState}
+use Rattle.law_common.specs.Operations.{op_word}
+use Rattle.shared_chain.specs.Spots.{spot}
+use Rattle.shared_chain.specs.ChainCalls.{OutChain, HasOut, ChainLent}
+use Rattle.shared_chain.specs.Rule.{home_of, plain_state, lead_of, IsThere, Codes}
+use Rattle.shared_chain.specs.Steps.{fresh_at, carried_by, slot_block, hand_by, HoldsBy, HoldsFor, op_place, word_index, blocks_made, answered, LeadsThere, SlotsFor, BlockStep}
+use Rattle.shared_chain.proofs.Frames.Blocks.{word_here, word_else, codes_left}
+
+-- a state that no walk waited for, by whether the slot is written and read
+abbrev plain_by : Bool → Bool → ℕ
+plain_by true true = WRITE + READ
+plain_by true false = WRITE
+plain_by false d = 0
+
+plain_tells : {A : Type 0} (w : Writer A) (r : Reader) → plain_state w r ≡ plain_by (is_wrote w) (is_done r)
+plain_tells Free r = refl
+plain_tells (Wrote v) Unread = refl
+plain_tells w r = refl
+
+-- the spare that a call goes on with, or gives up
+abbrev pub spare_on : Next ℕ → Option ℕ
+spare_on (Next.Step l t o) = spare_in l
+spare_on (Next.Reply x spare) = spare
+
+pub all_vacant : (A : Type 0) (n : ℕ) → AllVacant (replicate n (vacant {S = A}))
+all_vacant A zero = tt
+all_vacant A (suc n) = (refl, all_vacant A n)
+
+module _ {A : Type 0} where
+  -- the home of the slot i of the block b
+  abbrev pub home_in : OutChain A → ℕ → ℕ → Home A
+  home_in g b i = home_of (g.chain.writers (item_at b i)) (g.chain.readers (item_at b i)) (g.out (item_at b i))
+
+  -- what of a chain the block b depends on but for the homes of its slots: its name, its link, its walk, and which slots are written and read
+  pub record LikeBlock (g r : OutChain A) (b : ℕ) : Type 0 where
+    pub name : r.chain.names b ≡ g.chain.names b
+    pub link : lead_of (linked_of (r.chain.links b) (r.chain.names (b + 1))) ≡ lead_of (linked_of (g.chain.links b) (g.chain.names (b + 1)))
+    pub walk : r.chain.walks b ≡ g.chain.walks b
+    pub wrote : (i : ℕ) → i < BLOCK_SLOTS → is_wrote (r.chain.writers (item_at b i)) ≡ is_wrote (g.chain.writers (item_at b i))
+    pub done : (i : ℕ) → i < BLOCK_SLOTS → is_done (r.chain.readers (item_at b i)) ≡ is_done (g.chain.readers (item_at b i))
+
+  -- where none of that changed, and these are the homes now, the block stands for the chain with them
+  pub there_with : (g r : OutChain A) (b : ℕ) (x : Block A) (hs : List (Home A)) → LikeBlock g r b → length hs ≡ length x.homes
+      → ((i : ℕ) → i < BLOCK_SLOTS → length x.homes ≡ BLOCK_SLOTS → get_elem? x.homes i ≡ some (home_in g b i) → get_elem? hs i ≡ some (home_in r b i)) → IsThere g b x
+      → IsThere r b (record { at = x.at; alive = x.alive; next = x.next; words = x.words; homes = hs })
+  there_with g r b x hs s long home (lies, inl gone) = (lies ∙ ap spot (sym s.name), inl (s.walk ∙ gone.0, gone.1))
+  there_with g r b x hs s long home (lies, inr on) = (
+    lies ∙ ap spot (sym s.name),
+    inr (
+      (λ e. on.0 (sym s.walk ∙ e)),
+      on.1,
+      record {
+        words = on.2.words;
+        homes = long ∙ on.2.homes;
+        state = λ i low ne. let z = on.2.state i low (λ last e. ne last (still i low e)) in record {
+          written = z.written ∙ ap not (sym (s.wrote i low));
+          read = z.read ∙ ap not (sym (s.done i low));
+          destroyed = λ u. z.destroyed (λ e. u (still i low e)) ∙ ap (λ w. not (waits_at w i)) (sym s.walk);
+        };
+        plain = λ before i low. on.2.plain (sym s.walk ∙ before) i low ∙ plain_tells (g.chain.writers (item_at b i)) (g.chain.readers (item_at b i))
+            ∙ (λ j. plain_by (sym (s.wrote i low) j) (sym (s.done i low) j)) ∙ sym (plain_tells (r.chain.writers (item_at b i)) (r.chain.readers (item_at b i)));
+        slot = λ i low. home i low on.2.homes (on.2.slot i low);
+        linked = on.2.linked ∙ sym s.link;
+      },
+    ),
+  )
+    where
+      still : (i : ℕ) → i < BLOCK_SLOTS → g.chain.readers (item_at b i) ≡ Done → r.chain.readers (item_at b i) ≡ Done
+      still i low e = done_is (r.chain.readers (item_at b i)) (s.done i low ∙ ap is_done e)
+
+  -- all homes are the same
+  pub there_like : (g r : OutChain A) (b : ℕ) (x : Block A) → LikeBlock g r b → ((i : ℕ) → i < BLOCK_SLOTS → home_in r b i ≡ home_in g b i) → IsThere g b x → IsThere r b x
+  there_like g r b x s same there = there_with g r b x x.homes s refl (λ i low long at. at ∙ ap (λ h. some h) (sym (same i low))) there
+
+  -- the home of the slot k is this now, and all others are the same
+  pub there_homed : (g r : OutChain A) (b k : ℕ) (x : Block A) (h : Home A) → LikeBlock g r b → h ≡ home_in r b k → ((i : ℕ) → i < BLOCK_SLOTS → i ≢ k → home_in r b i ≡ home_in g b i) → IsThere g b x
+      → IsThere r b (homed x k h)
+  there_homed g r b k x h s here same there = there_with g r b x (set x.homes k h) s (length-set x.homes k h) home there
+    where
+      home : (i : ℕ) → i < BLOCK_SLOTS → length x.homes ≡ BLOCK_SLOTS → get_elem? x.homes i ≡ some (home_in g b i) → get_elem? (set x.homes k h) i ≡ some (home_in r b i)
+      home i low long at = elim (eqb_tells i k) [
+        | inl t ↦ rw (t.1) (set_here x.homes k h (omega (arith, t.1, long)) ∙ ap (λ y. some y) here)
+        | inr t ↦ set_else x.homes k i h t.1 ∙ (at ∙ ap (λ y. some y) (sym (same i low t.1)))
+      ]
+
+  -- what of a chain the ends depend on but for their words, and how many blocks there are
+  pub record LikeEnds (g r : OutChain A) : Type 0 where
+    pub blocks : r.chain.blocks ≡ g.chain.blocks
+    pub last : last_of r.chain.names r.chain.blocks ≡ last_of g.chain.names g.chain.blocks
+    pub front : shown_of r.chain.shown (r.chain.names r.chain.front) ≡ shown_of g.chain.shown (g.chain.names g.chain.front)
+    pub uses : (f : ℕ) → r.chain.uses f ≡ g.chain.uses f
+
+  -- where none of that changed, and these are the blocks now, with another word of the tail, they stand for the chain
+  pub codes_tail : (te he : Ptr) (g r : OutChain A) (bs cs : List (Block A)) (x : ℕ) → Codes te he g bs → LikeEnds g r → length cs ≡ length bs
+      → block cs 0 ≡ worded (block bs 0) TAIL x → block cs 1 ≡ block bs 1 → x ≡ tail_word r.chain → head_word r.chain ≡ head_word g.chain
+      → ((b : ℕ) → b < g.chain.blocks → IsThere r b (block cs (b + 2))) → Codes te he r cs
+  codes_tail te he g r bs cs x codes s long at_tail at_head tail_is head_is there = record {
+    tail = rw at_tail codes.tail;
+    head = rw at_head codes.head;
+    tail_words = rw (at_tail, length-set (block bs 0).words TAIL x) codes.tail_words;
+    head_words = rw at_head codes.head_words;
+    tail_is = rw at_tail (get_or-set_same (block bs 0).words TAIL x 0 (let h = codes.tail_words in omega arith)) ∙ tail_is;
+    head_is = rw at_head codes.head_is ∙ sym head_is;
+    last_is = rw at_tail codes.last_is ∙ ap lead_of (sym s.last);
+    front_is = rw at_head codes.front_is ∙ ap lead_of (sym s.front);
+    size = long ∙ (codes.size ∙ ap (λ n. n + 2) (sym s.blocks));
+    there = λ b lt. there b (let e = s.blocks in omega arith);
+    tested = λ f used. codes.tested f (rw (s.uses f) at used);
+    fresh = (codes.fresh.0, λ f le. s.uses f ∙ codes.fresh.1 f le);
+  }
+
+  -- the tail's word alone is another
+  pub tail_worded : (te he : Ptr) (g r : OutChain A) (bs : List (Block A)) (x : ℕ) → Codes te he g bs → LikeEnds g r → x ≡ tail_word r.chain → head_word r.chain ≡ head_word g.chain
+      → ((b : ℕ) (y : Block A) → b < g.chain.blocks → IsThere g b y → IsThere r b y) → Codes te he r (with_word bs 0 TAIL x)
+  tail_worded te he g r bs x codes s tail_is head_is there =
+      codes_tail te he g r bs (with_word bs 0 TAIL x) x codes s (length-set bs 0 (worded (block bs 0) TAIL x)) (word_here bs 0 TAIL x (let n = codes.size in omega arith)) (word_else bs 0 TAIL x 1 (λ e. absurd (omega arith))) tail_is head_is
+      (λ b lt. subst (λ (y : Block A). IsThere r b y) (sym (word_else bs 0 TAIL x (b + 2) (λ e. absurd (omega arith)))) (there b (block bs (b + 2)) lt (codes.there b lt)))
+
+  -- the head's word alone is another
+  pub head_worded : (te he : Ptr) (g r : OutChain A) (bs : List (Block A)) (x : ℕ) → Codes te he g bs → LikeEnds g r → tail_word r.chain ≡ tail_word g.chain → x ≡ head_word r.chain
+      → ((b : ℕ) (y : Block A) → b < g.chain.blocks → IsThere g b y → IsThere r b y) → Codes te he r (with_word bs 1 HEAD x)
+  head_worded te he g r bs x codes s tail_is head_is there =
+      let at_tail = word_else bs 1 HEAD x 0 (λ e. absurd (omega arith)) in
+      let at_head = word_here bs 1 HEAD x (let n = codes.size in omega arith) in
+      record {
+        tail = rw at_tail codes.tail;
+        head = rw at_head codes.head;
+        tail_words = rw at_tail codes.tail_words;
+        head_words = rw (at_head, length-set (block bs 1).words HEAD x) codes.head_words;
+        tail_is = rw at_tail codes.tail_is ∙ sym tail_is;
+        head_is = rw at_head (get_or-set_same (block bs 1).words HEAD x 0 (let h = codes.head_words in omega arith)) ∙ head_is;
+        last_is = rw at_tail codes.last_is ∙ ap lead_of (sym s.last);
+        front_is = rw at_head codes.front_is ∙ ap lead_of (sym s.front);
+        size = length-set bs 1 (worded (block bs 1) HEAD x) ∙ (codes.size ∙ ap (λ n. n + 2) (sym s.blocks));
+        there = λ b lt. subst (λ (y : Block A). IsThere r b y) (sym (word_else bs 1 HEAD x (b + 2) (λ e. absurd (omega arith)))) (there b (block bs (b + 2)) (let e = s.blocks in omega arith) (codes.there b (let e = s.blocks in omega arith)));
+        tested = λ f used. codes.tested f (rw (s.uses f) at used);
+        fresh = (codes.fresh.0, λ f le. s.uses f ∙ codes.fresh.1 f le);
+      }
+
+  -- a party that holds nothing has no slot
+  none_out : (g : OutChain A) (who n : ℕ) → HoldsOnly g.chain who Nothing → ¬ (HasOut g who n)
+  none_out g who n none (inl e) = none (Write n) e
+  none_out g who n none (inr e) = none (Read n) (ap reader_of e.0)
+
+  pub none_lent : (g : OutChain A) (who : ℕ) → HoldsOnly g.chain who Nothing → ChainLent g who []
+  none_lent g who none = inl (refl, λ n. none_out g who n none)
+
+  -- nor did it have any in its list
+  pub lent_none : (g : OutChain A) (who : ℕ) (xs : List (ℕ × Option A)) → HoldsOnly g.chain who Nothing → ChainLent g who xs → xs ≡ []
+  lent_none g who xs none (inl h) = h.0
+  lent_none g who xs none (inr (n, y, inl o, e)) = absurd (none (Write n) o.0)
+  lent_none g who xs none (inr (n, y, inr o, e)) = absurd (none (Read n) (ap reader_of o.0))
+
+  pub none_left : (c : Chain A) (who : ℕ) (n : Next ℕ) → HoldsOnly c who Nothing → HoldsOnly (left_by c n) who Nothing
+  none_left c who (Next.Step l t o) none = none
+  none_left c who (Next.Reply x spare) none = holds_given c who spare Nothing none
+
+  pub none_slots : (g : OutChain A) (who : ℕ) (n : Next ℕ) → HoldsOnly g.chain who Nothing → SlotsFor g who n
+  none_slots g who (Next.Step l t o) none = λ i e. absurd (none (Read i) (ap reader_of e))
+  none_slots g who (Next.Reply x spare) none = tt
+
+  -- a seat with no slot in hand goes on with the block that it carries
+  pub none_holds : (n : Next ℕ) (spare : Option ℕ) (m : Sitter A (CallState A)) → spare_on n ≡ spare → m.hand ≡ None → m.spare ≡ carried_by spare → HoldsFor [] n m
+  none_holds (Next.Reply x (Some f)) spare m same hand carried = (hand, (fresh_at (spot f), carried ∙ ap carried_by (sym same), refl, refl, refl, all_vacant A BLOCK_SLOTS))
+  none_holds n spare m same hand carried = (hand, carried ∙ ap carried_by (sym same))
+
+  module _ (te he : Ptr) (g : OutChain A) (who : ℕ) (bs : List (Block A)) (m : Sitter A (CallState A)) where
+    -- The step of a call, told by what it finds, by the blocks and the chain after it, and by how the call goes on
+    pub step_by : {ms : List (State A)} {k : Stand A}
+        (here : At g.chain who ms k) (number : ℕ) → Lives bs number (op_place te he k.op) → (number ≡ 0 → word_index (op_word k.op) ≡ 0) → LeadsThere g.chain bs k.op number → Answers g.chain k.op (answered g.chain bs k.op number)
+        → (cs : List (Block A)) → blocks_made k.op number bs ≡ cs → (r : Chain A) → after_of here (answered g.chain bs k.op number) ≡ r → (n : Next ℕ) → unbounded_next (chain_of k.local) (answered g.chain bs k.op number) ≡ n
+        → (out : ℕ → Bool) (acts : List (Act A)) → Mays cs m acts → Codes te he (record { chain = left_by r n; out = out }) (blocks_after cs acts) → ((j : ℕ) → j ≢ who → (i : ℕ) → g.chain.readers i ≡ Reading j → out i ≡ g.out i)
+        → SlotsFor (record { chain = left_by r n; out = out }) who n → (lends : List (ℕ × Option A)) → ChainLent (record { chain = left_by r n; out = out }) who lends → HoldsFor lends n (sitter_after cs m acts)
+        → BlockStep te he g who bs m here
+    step_by here number lives counts leads found cs made r after n goes out acts mays codes others slots lends lent holds = record {
+      number = number;
+      lives = lives;
+      counts = counts;
+      leads = leads;
+      found = found;
+      out = out;
+      acts = acts;
+      mays = rw made mays;
+      codes = rw (made, after, goes) codes;
+      others = others;
+      slots = rw (after, goes) slots;
+      lends = lends;
+      lent = rw (after, goes) lent;
+      holds = rw (made, goes) holds;
+    }
+
+    -- The same where the party holds nothing, neither before nor after it: what the step does to the blocks is all that is owed
+    pub step_none : {ms : List (State A)} {k : Stand A}
+        (here : At g.chain who ms k) (number : ℕ) → Lives bs number (op_place te he k.op) → (number ≡ 0 → word_index (op_word k.op) ≡ 0) → LeadsThere g.chain bs k.op number → Answers g.chain k.op (answered g.chain bs k.op number)
+        → (cs : List (Block A)) → blocks_made k.op number bs ≡ cs → (r : Chain A) → after_of here (answered g.chain bs k.op number) ≡ r → (n : Next ℕ) → unbounded_next (chain_of k.local) (answered g.chain bs k.op number) ≡ n
+        → Codes te he (record { chain = r; out = g.out }) cs → HoldsOnly r who Nothing → spare_on n ≡ spare_in k.local → (m.hand ≡ None) × (m.spare ≡ carried_by (spare_in k.local)) → BlockStep te he g who bs m here
+    step_none {k = k} here number lives counts leads found cs made r after n goes codes none spare holds =
+        let left : OutChain A = record { chain = left_by r n; out = g.out } in
+        step_by here number lives counts leads found cs made r after n goes g.out [] tt (codes_left te he r g.out cs n codes) (λ j ne i e. refl)
+        (none_slots left who n (none_left r who n none)) [] (none_lent left who (none_left r who n none)) (none_holds n (spare_in k.local) m spare holds.0 holds.1)
+
+  -- what the seat of such a party holds before it
+  pub none_held : (g : OutChain A) (who : ℕ) (l : Local ℕ) (o : Op ℕ) (xs : List (ℕ × Option A)) (m : Sitter A (CallState A)) → HoldsOnly g.chain who Nothing → ChainLent g who xs → HoldsBy l o xs m
+      → (m.hand ≡ None) × (m.spare ≡ carried_by (spare_in l))
+  none_held g who l o xs m none lent holds = (holds.0 ∙ ap (λ ys. hand_by (slot_block l o) ys) (lent_none g who xs none lent), holds.1)

@@ -1,0 +1,109 @@
+-- Every link of the web can be compared with null, and neither a step of a call nor the acts beside it touch the count of parties.
+use Rattle.std.proofs.Common.{ℕ, zero, suc, ◌+◌, ◌<◌, ◌≡◌, ◌∙◌, inl, inr, true, false, Some, None, List, [], ◌∷◌, ◌++◌, length, refl, sym, ap, subst, arith, get_or, get_or-set_other, length-set, length-append}
+use mathlib.Core.Logic.{dite}
+use native.Mathlib.Decide.{ℕ_discrete}
+use denote.RawPtr.{Ptr, Testable}
+use Rattle.law_common.specs.Vocabulary.{Op}
+use Rattle.law_chain.specs.ChainCells.{LinkState, Linked, Shown, Seen, Use, Chained, ChainOk, LinkOk, ShownOk}
+use Rattle.law_chain.specs.ChainAnswers.{last_of, shown_of, linked_of}
+use Rattle.mem_blocks.specs.Web.{Block, Home, Act, takes, gives, lays, lifts, block, word_of, homed, gone, linked, worded, with_word, with_next, with_home, without, acted, blocks_after, if_unset}
+use Rattle.mem_blocks.specs.declared.hub.TheConstants.{PARTIES}
+use Rattle.law_common.specs.Operations.{op_word, op_makes}
+use Rattle.shared_chain.specs.Spots.{spot}
+use Rattle.shared_chain.specs.ChainCalls.{OutChain}
+use Rattle.shared_chain.specs.Rule.{lead_of, IsUsed, IsThere, Codes}
+use Rattle.shared_chain.specs.Steps.{word_index, blocks_made}
+use Rattle.shared_chain.proofs.Frames.Blocks.{word_here, word_else, next_here, next_else, home_here, home_else, gone_here, gone_else}
+
+used_chained : (u : Use) (b : ℕ) → u ≡ Chained b → IsUsed u
+used_chained u b e = rw e tt
+
+module _ {A : Type 0} where
+  pub alive_within : (bs : List (Block A)) (k : ℕ) → (block bs k).alive ≡ true → k < length bs
+  alive_within [] k e = absurd (let f : false ≡ true = e in cc)
+  alive_within (x ∷ bs) zero e = omega arith
+  alive_within (x ∷ bs) (suc k) e = omega (arith, alive_within bs k e)
+
+  module _ (te he : Ptr) (g : OutChain A) (bs : List (Block A)) (ok : ChainOk g.chain) (codes : Codes te he g bs) where
+    -- the place of a block of the chain
+    named_tested : (b : ℕ) → b < g.chain.blocks → Testable (spot (g.chain.names b))
+    named_tested b lt = codes.tested (g.chain.names b) (used_chained (g.chain.uses (g.chain.names b)) b (ok.name b lt))
+
+    last_tested : (n : ℕ) → n ≡ g.chain.blocks → Testable (lead_of (last_of g.chain.names n))
+    last_tested zero e = omega arith
+    last_tested (suc b) e = named_tested b (omega arith)
+
+    shown_tested : (s : Shown) → ShownOk g.chain.blocks g.chain.head g.chain.front g.chain.known g.chain.passer s → Testable (lead_of (shown_of s (g.chain.names g.chain.front)))
+    shown_tested Seen h = named_tested g.chain.front h
+    shown_tested s h = omega arith
+
+    linked_tested : (b : ℕ) (l : LinkState) → LinkOk g.chain.blocks b l → Testable (lead_of (linked_of l (g.chain.names (b + 1))))
+    linked_tested b Linked h = named_tested (b + 1) h
+    linked_tested b l h = omega arith
+
+    -- where a link of a living block leads can be compared with null
+    pub next_tested : (k : ℕ) → (block bs k).alive ≡ true → Testable (block bs k).next
+    next_tested zero alive = subst Testable (sym codes.last_is) (last_tested g.chain.blocks refl)
+    next_tested (suc zero) alive = subst Testable (sym codes.front_is) (shown_tested g.chain.shown ok.seen)
+    next_tested (suc (suc b)) alive =
+        let within : b < g.chain.blocks = (let l = alive_within bs (suc (suc b)) alive in let s = codes.size in omega arith) in
+        let at : b + 2 ≡ suc (suc b) = omega arith in
+        let there : IsThere g b (block bs (suc (suc b))) = subst (λ k. IsThere g b (block bs k)) at (codes.there b within) in
+        elim (there.1) [
+          | inl dead ↦ absurd (let f : true ≡ false = sym alive ∙ dead.1 in cc)
+          | inr lives ↦ subst Testable (sym lives.2.linked) (linked_tested b (g.chain.links b) (ok.link b))
+        ]
+
+  -- one word is kept by a change of a slot, by a block more, and by a lift
+  home_word : (bs : List (Block A)) (b j : ℕ) (h : Home A) (k i : ℕ) → k < length bs → word_of (with_home bs b j h) k i ≡ word_of bs k i
+  home_word bs b j h k i lt = dite (ℕ_discrete k b)
+      (λ same. subst (λ z. word_of (with_home bs z j h) k i ≡ word_of bs k i) same (ap (λ (x : Block A). get_or x.words i 0) (home_here bs k j h lt)))
+      (λ ne. ap (λ (x : Block A). get_or x.words i 0) (home_else bs b j h k ne))
+
+  gone_word : (bs : List (Block A)) (b k i : ℕ) → k < length bs → word_of (without bs b) k i ≡ word_of bs k i
+  gone_word bs b k i lt = dite (ℕ_discrete k b)
+      (λ same. subst (λ z. word_of (without bs z) k i ≡ word_of bs k i) same (ap (λ (x : Block A). get_or x.words i 0) (gone_here bs k lt)))
+      (λ ne. ap (λ (x : Block A). get_or x.words i 0) (gone_else bs b k ne))
+
+  next_word : (bs : List (Block A)) (b : ℕ) (q : Ptr) (k i : ℕ) → k < length bs → word_of (with_next bs b q) k i ≡ word_of bs k i
+  next_word bs b q k i lt = dite (ℕ_discrete k b)
+      (λ same. subst (λ z. word_of (with_next bs z q) k i ≡ word_of bs k i) same (ap (λ (x : Block A). get_or x.words i 0) (next_here bs k q lt)))
+      (λ ne. ap (λ (x : Block A). get_or x.words i 0) (next_else bs b q k ne))
+
+  laid_word : (bs : List (Block A)) (x : Block A) (k i : ℕ) → k < length bs → word_of (bs ++ x ∷ []) k i ≡ word_of bs k i
+  laid_word [] x k i lt = absurd (omega arith)
+  laid_word (y ∷ bs) x zero i lt = refl
+  laid_word (y ∷ bs) x (suc k) i lt = laid_word bs x k i (omega arith)
+
+  act_word : (bs : List (Block A)) (a : Act A) (k i : ℕ) → k < length bs → (word_of (acted bs a) k i ≡ word_of bs k i) × (k < length (acted bs a))
+  act_word bs (takes b j c) k i lt = (home_word bs b j None k i lt, omega (arith, length-set bs b (homed (block bs b) j None)))
+  act_word bs (gives b j c) k i lt = (home_word bs b j (Some c) k i lt, omega (arith, length-set bs b (homed (block bs b) j (Some c))))
+  act_word bs (lays x) k i lt = (laid_word bs x k i lt, omega (arith, length-append bs (x ∷ [])))
+  act_word bs (lifts b) k i lt = (gone_word bs b k i lt, omega (arith, length-set bs b (gone (block bs b))))
+
+  acts_word : (bs : List (Block A)) (acts : List (Act A)) (k i : ℕ) → k < length bs → word_of (blocks_after bs acts) k i ≡ word_of bs k i
+  acts_word bs [] k i lt = refl
+  acts_word bs (a ∷ more) k i lt = let h = act_word bs a k i lt in acts_word (acted bs a) more k i h.1 ∙ h.0
+
+  -- the word PARTIES of the tail's end, where a word that is written is not that one
+  word_count : (bs : List (Block A)) (b i n : ℕ) → 0 < length bs → (b ≡ 0 → i ≡ 0) → word_of (with_word bs b i n) 0 PARTIES ≡ word_of bs 0 PARTIES
+  word_count bs b i n lt at = dite (ℕ_discrete b 0)
+      (λ same. subst (λ z. word_of (with_word bs z i n) 0 PARTIES ≡ word_of bs 0 PARTIES) (sym same)
+      (ap (λ (x : Block A). get_or x.words PARTIES 0) (word_here bs 0 i n lt) ∙ get_or-set_other (block bs 0).words i PARTIES n 0 (λ e. absurd (let z = at same in omega arith))))
+      (λ ne. ap (λ (x : Block A). get_or x.words PARTIES 0) (word_else bs b i n 0 (λ e. ne (sym e))))
+
+  written_count : (bs : List (Block A)) (b i n : ℕ) → 0 < length bs → (b ≡ 0 → i ≡ 0) → (word_of (with_word bs b i n) 0 PARTIES ≡ word_of bs 0 PARTIES) × (0 < length (with_word bs b i n))
+  written_count bs b i n lt at = (word_count bs b i n lt at, omega (arith, length-set bs b (worded (block bs b) i n)))
+
+  next_count : (bs : List (Block A)) (b : ℕ) (q : Ptr) → 0 < length bs → (word_of (with_next bs b q) 0 PARTIES ≡ word_of bs 0 PARTIES) × (0 < length (with_next bs b q))
+  next_count bs b q lt = (next_word bs b q 0 PARTIES lt, omega (arith, length-set bs b (linked (block bs b) q)))
+
+  made_count : (bs : List (Block A)) (o : Op ℕ) (b : ℕ) → 0 < length bs → (b ≡ 0 → word_index (op_word o) ≡ 0) → (word_of (blocks_made o b bs) 0 PARTIES ≡ word_of bs 0 PARTIES) × (0 < length (blocks_made o b bs))
+  made_count bs (Op.LoadLink l) b lt at = next_count bs b (block bs b).next lt
+  made_count bs (Op.StoreLink l x) b lt at = next_count bs b (spot x) lt
+  made_count bs (Op.Install x) b lt at = next_count bs b (if_unset (spot x) (block bs b).next) lt
+  made_count bs o b lt at = written_count bs b (word_index (op_word o)) (op_makes o (word_of bs b (word_index (op_word o)))) lt at
+
+  -- the count of parties after a step of a call and the acts beside it
+  pub count_kept : (bs : List (Block A)) (o : Op ℕ) (b : ℕ) (acts : List (Act A)) → 0 < length bs → (b ≡ 0 → word_index (op_word o) ≡ 0) → word_of (blocks_after (blocks_made o b bs) acts) 0 PARTIES ≡ word_of bs 0 PARTIES
+  count_kept bs o b acts lt at = let m = made_count bs o b lt at in acts_word (blocks_made o b bs) acts 0 PARTIES m.1 ∙ m.0

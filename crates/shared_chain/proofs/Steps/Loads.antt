@@ -1,0 +1,104 @@
+-- The steps that load the word of the tail or that of the head: they change no block, and their parties hold nothing.
+use Rattle.std.proofs.Common.{ℕ, ◌≡◌, ◌≤◌, inl, inr, false, Option, Some, None, List, refl, ap}
+use Rattle.std.proofs.lemmas.Bool.Decides.{eqb_tells}
+use denote.RawPtr.{Ptr}
+use Rattle.law_common.specs.Vocabulary.{Call, Effect, Word, Op, Touch, Answer, Local, PushKind, BLOCK_SLOTS}
+use Rattle.queue_steps.specs.State.{State}
+use Rattle.queue_steps.specs.Words.{IsWord, position_of}
+use Rattle.queue_steps.specs.ChainWords.{block_at, offset_of, items_before}
+use Rattle.queue_steps.specs.UnboundedNext.{unbounded_next, chain_tail_found, chain_pop_tail_found, chain_head_found}
+use Rattle.queue_steps.specs.declared.steps.unbounded.UnboundedLocal.TheVariants as chain
+use Rattle.law_common.specs.Moments.{SeenIn, HeadWas}
+use Rattle.law_common.specs.Stand.{stand}
+use Rattle.law_chain.specs.ChainCells.{HoldsOnly, Nothing}
+use Rattle.law_chain.specs.ChainFacts.{head_of, HasSpare, HeadIs, HeadBlockRead, SawEmpty}
+use Rattle.law_chain.specs.ChainAt.{At, push_tail, pop_head, pop_tail, len_tail, len_head, len_again, empty_head, empty_tail, closed_tail}
+use Rattle.law_chain.specs.ChainAnswers.{Answers}
+use Rattle.law_chain.specs.ChainPasses.{spare_in}
+use Rattle.law_chain.proofs.ChainPush.{tail_ways}
+use Rattle.law_chain.specs.ChainAfter.{chain_of, after_of}
+use Rattle.mem_blocks.specs.Web.{Block, Sitter, Lives, word_of}
+use Rattle.shared_parties.specs.declared.known.CallState.{CallState}
+use Rattle.shared_chain.specs.ChainCalls.{OutChain, ChainLent}
+use Rattle.shared_chain.specs.Rule.{Codes}
+use Rattle.shared_chain.specs.Steps.{HoldsBy, word_place, word_index, BlockStep}
+use Rattle.shared_chain.proofs.Frames.Blocks.{word_same}
+use Rattle.shared_chain.proofs.Frames.Slots.{spare_on, step_none, none_held}
+
+-- which spare a call goes on with after a word that it found
+pub tail_spare : (d : PushKind) (x : ℕ) (spare : Option ℕ) → spare_on (chain_tail_found d x spare) ≡ spare
+tail_spare d x spare = tail_ways d x spare (λ n. spare_on n ≡ spare) (λ shut. refl) (λ opened spent. refl) (λ over. refl) (λ opened ne inner. refl)
+
+pub head_spare : (x : ℕ) → spare_on (chain_head_found x) ≡ None
+head_spare x = elim (eqb_tells (offset_of x) BLOCK_SLOTS) [ inl t ↦ rw (t.0) refl | inr t ↦ rw (t.0) refl ]
+
+pop_spare : (h : ℕ) (block : Option ℕ) (x : ℕ) → spare_on (chain_pop_tail_found h block x) ≡ None
+pop_spare h None x = elim (eqb_tells (position_of x) (position_of h)) [ inl t ↦ rw (t.0) refl | inr t ↦ rw (t.0) refl ]
+pop_spare h (Some b) x = elim (eqb_tells (position_of x) (position_of h)) [
+  | inl t ↦ rw (t.0) refl
+  | inr t ↦ elim (eqb_tells (block_at (position_of x)) (block_at (position_of h))) [ inl u ↦ rw (t.0, u.0) refl | inr u ↦ rw (t.0, u.0) refl ]
+]
+
+again_spare : (t h x : ℕ) → spare_on (unbounded_next (chain.LenAgain t h) (Answer.Found x)) ≡ None
+again_spare t h x = elim (eqb_tells x t) [ inl e ↦ rw (e.0) refl | inr e ↦ rw (e.0) refl ]
+
+module _ {A : Type 0} (te he : Ptr) (g : OutChain A) (who : ℕ) (bs : List (Block A)) (m : Sitter A (CallState A)) (ms : List (State A)) where
+  -- the load of the first word of the block k, which is the word w
+  step_load : {l : Local ℕ} {w : Word ℕ} {v : Option A} {call : Call A} {es : List (Effect A)} (here : At g.chain who ms (stand l Touch.Nothing (Op.Load w) v call es)) (k : ℕ)
+      → Lives bs k (word_place te he w) → word_index w ≡ 0 → Answers g.chain (Op.Load w) (Answer.Found (word_of bs k (word_index w))) → after_of here (Answer.Found (word_of bs k (word_index w))) ≡ g.chain
+      → HoldsOnly g.chain who Nothing → spare_on (unbounded_next (chain_of l) (Answer.Found (word_of bs k (word_index w)))) ≡ spare_in l
+      → Codes te he g bs → (xs : List (ℕ × Option A)) → ChainLent g who xs → HoldsBy l (Op.Load w) xs m → BlockStep te he g who bs m here
+  step_load {l = l} {w = w} here k lives first found same none spare codes xs lent holds =
+      step_none te he g who bs m here k lives (λ e. first) tt found bs (word_same bs k (word_index w)) g.chain same (unbounded_next (chain_of l) (Answer.Found (word_of bs k (word_index w)))) refl
+      codes none spare (none_held g who l (Op.Load w) xs m none lent holds)
+
+  load_tail : {l : Local ℕ} {v : Option A} {call : Call A} {es : List (Effect A)} (here : At g.chain who ms (stand l Touch.Nothing (Op.Load Word.Tail) v call es)) → after_of here (Answer.Found (word_of bs 0 0)) ≡ g.chain
+      → HoldsOnly g.chain who Nothing → spare_on (unbounded_next (chain_of l) (Answer.Found (word_of bs 0 0))) ≡ spare_in l
+      → Codes te he g bs → (xs : List (ℕ × Option A)) → ChainLent g who xs → HoldsBy l (Op.Load Word.Tail) xs m → BlockStep te he g who bs m here
+  load_tail here same none spare codes xs lent holds = step_load here 0 codes.tail refl (ap (λ n. Answer.Found n) codes.tail_is) same none spare codes xs lent holds
+
+  load_head : {l : Local ℕ} {v : Option A} {call : Call A} {es : List (Effect A)} (here : At g.chain who ms (stand l Touch.Nothing (Op.Load Word.Head) v call es)) → after_of here (Answer.Found (word_of bs 1 0)) ≡ g.chain
+      → HoldsOnly g.chain who Nothing → spare_on (unbounded_next (chain_of l) (Answer.Found (word_of bs 1 0))) ≡ spare_in l
+      → Codes te he g bs → (xs : List (ℕ × Option A)) → ChainLent g who xs → HoldsBy l (Op.Load Word.Head) xs m → BlockStep te he g who bs m here
+  load_head here same none spare codes xs lent holds = step_load here 1 codes.head refl (ap (λ n. Answer.Found n) codes.head_is) same none spare codes xs lent holds
+
+  pub step_push_tail : (d : PushKind) (v : A) (spare : Option ℕ) (none : HoldsOnly g.chain who Nothing) (spare_is : HasSpare g.chain who spare)
+      → Codes te he g bs → (xs : List (ℕ × Option A)) → ChainLent g who xs → HoldsBy (Local.Unbounded (chain.PushTail d spare)) (Op.Load Word.Tail) xs m
+      → BlockStep te he g who bs m {ms = ms} (push_tail d v spare none spare_is)
+  step_push_tail d v spare none spare_is = load_tail (push_tail d v spare none spare_is) refl none (tail_spare d (word_of bs 0 0) spare)
+
+  pub step_closed_tail : (none : HoldsOnly g.chain who Nothing)
+      → Codes te he g bs → (xs : List (ℕ × Option A)) → ChainLent g who xs → HoldsBy (Local.Unbounded chain.ClosedTail) (Op.Load Word.Tail) xs m → BlockStep te he g who bs m {ms = ms} (closed_tail none)
+  step_closed_tail none = load_tail (closed_tail none) refl none refl
+
+  pub step_pop_tail : (n : ℕ) (block : Option ℕ) (none : HoldsOnly g.chain who Nothing) (is : HeadIs g.chain n) (front : HeadBlockRead g.chain n block)
+      → Codes te he g bs → (xs : List (ℕ × Option A)) → ChainLent g who xs → HoldsBy (Local.Unbounded (chain.PopTail (head_of n false) block)) (Op.Load Word.Tail) xs m
+      → BlockStep te he g who bs m {ms = ms} (pop_tail n block none is front)
+  step_pop_tail n block none is front = load_tail (pop_tail n block none is front) refl none (pop_spare (head_of n false) block (word_of bs 0 0))
+
+  pub step_empty_tail : (h : ℕ) (none : HoldsOnly g.chain who Nothing) (small : IsWord h) (saw : SawEmpty (items_before (position_of h)) g.chain ms)
+      → Codes te he g bs → (xs : List (ℕ × Option A)) → ChainLent g who xs → HoldsBy (Local.Unbounded (chain.EmptyTail h)) (Op.Load Word.Tail) xs m
+      → BlockStep te he g who bs m {ms = ms} (empty_tail h none small saw)
+  step_empty_tail h none small saw = load_tail (empty_tail h none small saw) refl none refl
+
+  pub step_len_tail : (none : HoldsOnly g.chain who Nothing)
+      → Codes te he g bs → (xs : List (ℕ × Option A)) → ChainLent g who xs → HoldsBy (Local.Unbounded chain.LenTail) (Op.Load Word.Tail) xs m → BlockStep te he g who bs m {ms = ms} (len_tail none)
+  step_len_tail none = load_tail (len_tail none) refl none refl
+
+  pub step_len_again : (t h : ℕ) (none : HoldsOnly g.chain who Nothing) (small : IsWord t × IsWord h) (seen : SeenIn ms (HeadWas (items_before (position_of h)) (items_before (position_of t)) g.chain.tail))
+      → Codes te he g bs → (xs : List (ℕ × Option A)) → ChainLent g who xs → HoldsBy (Local.Unbounded (chain.LenAgain t h)) (Op.Load Word.Tail) xs m
+      → BlockStep te he g who bs m {ms = ms} (len_again t h none small seen)
+  step_len_again t h none small seen = load_tail (len_again t h none small seen) refl none (again_spare t h (word_of bs 0 0))
+
+  pub step_pop_head : (none : HoldsOnly g.chain who Nothing)
+      → Codes te he g bs → (xs : List (ℕ × Option A)) → ChainLent g who xs → HoldsBy (Local.Unbounded chain.PopHead) (Op.Load Word.Head) xs m → BlockStep te he g who bs m {ms = ms} (pop_head none)
+  step_pop_head none = load_head (pop_head none) refl none (head_spare (word_of bs 1 0))
+
+  pub step_len_head : (t : ℕ) (none : HoldsOnly g.chain who Nothing) (small : IsWord t) (low : items_before (position_of t) ≤ g.chain.tail)
+      → Codes te he g bs → (xs : List (ℕ × Option A)) → ChainLent g who xs → HoldsBy (Local.Unbounded (chain.LenHead t)) (Op.Load Word.Head) xs m
+      → BlockStep te he g who bs m {ms = ms} (len_head t none small low)
+  step_len_head t none small low = load_head (len_head t none small low) refl none refl
+
+  pub step_empty_head : (none : HoldsOnly g.chain who Nothing)
+      → Codes te he g bs → (xs : List (ℕ × Option A)) → ChainLent g who xs → HoldsBy (Local.Unbounded chain.EmptyHead) (Op.Load Word.Head) xs m → BlockStep te he g who bs m {ms = ms} (empty_head none)
+  step_empty_head none = load_head (empty_head none) refl none refl

@@ -1,0 +1,80 @@
+-- The steps that add to the tail's word, or set its mark: the tail moves over a block's end, and the queue is closed.
+use Rattle.std.proofs.Common.{ℕ, ◌+◌, ◌-◌, ◌/◌, ◌%◌, ◌^◌, ◌≤◌, ◌≡◌, ◌==◌, ◌∙◌, ◌⊎◌, Option, List, [], refl, ap, arith, bit_or}
+use denote.RawPtr.{Ptr}
+use Rattle.law_common.specs.Vocabulary.{Reply, Word, Op, Answer, Local, PushKind, LIMIT, BLOCK_SLOTS, MARK, TAIL_STEP}
+use Rattle.queue_steps.specs.State.{State}
+use Rattle.queue_steps.specs.Words.{tail_of}
+use Rattle.queue_steps.specs.declared.steps.types.Next.TheVariants as next
+use Rattle.queue_steps.specs.BoundedNext.{closed_reply}
+use Rattle.queue_steps.specs.UnboundedNext.{ends}
+use Rattle.queue_steps.specs.declared.steps.unbounded.UnboundedLocal.TheVariants as chain
+use Rattle.law_common.proofs.Tails.{mark_tail, next_tail}
+use Rattle.law_chain.specs.ChainFacts.{place, open_tail_of, IsNamed, HasSpare, Claimed}
+use Rattle.law_chain.specs.ChainCells.{Opening, Linking, Chain, ChainOk, Write, Tail, Next, HoldsOnly, Nothing}
+use Rattle.law_chain.specs.ChainTransitions.{opened, marked}
+use Rattle.law_chain.specs.ChainAt.{opening, spending, closing}
+use Rattle.law_chain.specs.ChainAnswers.{tail_place, tail_word}
+use Rattle.law_chain.proofs.ChainAnswers.{tail_small}
+use Rattle.mem_blocks.specs.Web.{Block, Sitter, word_of, with_word}
+use Rattle.mem_blocks.specs.declared.hub.TheConstants.{TAIL}
+use Rattle.shared_parties.specs.declared.known.CallState.{CallState}
+use Rattle.shared_chain.specs.ChainCalls.{OutChain, SlotsAs, ChainLent}
+use Rattle.shared_chain.specs.Rule.{Codes}
+use Rattle.shared_chain.specs.Steps.{HoldsBy, BlockStep}
+use Rattle.shared_chain.proofs.Frames.Blocks.{there_same}
+use Rattle.shared_chain.proofs.Frames.Slots.{tail_worded, step_none, none_held}
+
+-- the tail's word, moved over a block's end
+opened_word : {A : Type 0} (c : Chain A) (who n : ℕ) → ChainOk c → (c.mover ≡ Opening who) × (c.tail ≡ n + 1) → (tail_word c + TAIL_STEP) % 2 ^ 64 ≡ tail_word (opened c)
+opened_word c who n ok (is, at) =
+    let before : tail_word c ≡ tail_of (place c.tail - 1) c.closed = ap (λ m. tail_of (tail_place c.tail m) c.closed) is in
+    let on : place c.tail - 1 + 1 ≡ place c.tail = omega (arith, at) in
+    let more : tail_word c + TAIL_STEP ≡ tail_word (opened c) = ap (λ w. w + TAIL_STEP) before ∙ (next_tail (place c.tail - 1) c.closed ∙ ap (λ q. tail_of q c.closed) on) in
+    let small = tail_small c ok in
+    let fits : (tail_word c + TAIL_STEP) % 2 ^ 64 ≡ tail_word c + TAIL_STEP = omega arith in
+    fits ∙ more
+
+module _ {A : Type 0} (te he : Ptr) (g : OutChain A) (who : ℕ) (bs : List (Block A)) (m : Sitter A (CallState A)) (ms : List (State A)) where
+  pub step_opening : (d : PushKind) (v : A) (n name f : ℕ) (holds : HoldsOnly g.chain who (λ x. (x ≡ Write n) ⊎ (x ≡ Tail) ⊎ (x ≡ Next (n / BLOCK_SLOTS)))) (mine : Claimed g.chain who n v name) (opens : (g.chain.mover ≡ Opening who) × (g.chain.tail ≡ n + 1))
+      (links : g.chain.links (n / BLOCK_SLOTS) ≡ Linking who) (named : IsNamed g.chain (n / BLOCK_SLOTS + 1) f)
+      → ChainOk g.chain → Codes te he g bs → SlotsAs g who (Local.Unbounded (chain.Opening d (open_tail_of n) name f)) → (xs : List (ℕ × Option A)) → ChainLent g who xs
+      → HoldsBy (Local.Unbounded (chain.Opening d (open_tail_of n) name f)) (Op.Add Word.Tail TAIL_STEP) xs m → BlockStep te he g who bs m {ms = ms} (opening d v n name f holds mine opens links named)
+  step_opening d v n name f holds mine opens links named ok codes slots xs lent held = record {
+    number = 0;
+    lives = codes.tail;
+    counts = λ e. refl;
+    leads = tt;
+    found = ap (λ w. Answer.Found w) codes.tail_is;
+    out = g.out;
+    acts = [];
+    mays = tt;
+    codes = tail_worded te he g (record { chain = opened g.chain; out = g.out }) bs ((word_of bs 0 TAIL + TAIL_STEP) % 2 ^ 64) codes
+        (record { blocks = refl; last = refl; front = refl; uses = λ i. refl }) (ap (λ w. (w + TAIL_STEP) % 2 ^ 64) codes.tail_is ∙ opened_word g.chain who n ok opens) refl
+        (λ b y lt. there_same g (record { chain = opened g.chain; out = g.out }) b y (record { name = refl; link = refl; walk = refl; writers = λ i low. refl; readers = λ i low. refl; out = λ i low. refl }));
+    others = λ j ne i e. refl;
+    slots = slots;
+    lends = xs;
+    lent = lent;
+    holds = held;
+  }
+
+  -- the mark of a close
+  codes_marked : Codes te he g bs → Codes te he (record { chain = marked g.chain; out = g.out }) (with_word bs 0 TAIL (bit_or (word_of bs 0 TAIL) MARK))
+  codes_marked codes = tail_worded te he g (record { chain = marked g.chain; out = g.out }) bs (bit_or (word_of bs 0 TAIL) MARK) codes
+      (record { blocks = refl; last = refl; front = refl; uses = λ i. refl }) (ap (λ w. bit_or w MARK) codes.tail_is ∙ mark_tail (tail_place g.chain.tail g.chain.mover) g.chain.closed) refl
+      (λ b y lt. there_same g (record { chain = marked g.chain; out = g.out }) b y (record { name = refl; link = refl; walk = refl; writers = λ i low. refl; readers = λ i low. refl; out = λ i low. refl }))
+
+  pub step_spending : (d : PushKind) (v : A) (spare : Option ℕ) (none : HoldsOnly g.chain who Nothing) (spare_is : HasSpare g.chain who spare) (spent : LIMIT ≤ g.chain.tail)
+      → Codes te he g bs → (xs : List (ℕ × Option A)) → ChainLent g who xs → HoldsBy (Local.Unbounded (chain.ClosingAtLimit d spare)) (Op.Or Word.Tail MARK) xs m
+      → BlockStep te he g who bs m {ms = ms} (spending d v spare none spare_is spent)
+  step_spending d v spare none spare_is spent codes xs lent held =
+      step_none te he g who bs m (spending d v spare none spare_is spent) 0 codes.tail (λ e. refl) tt (ap (λ w. Answer.Found w) codes.tail_is)
+      (with_word bs 0 TAIL (bit_or (word_of bs 0 TAIL) MARK)) refl (marked g.chain) refl (next.Reply (closed_reply d) spare) refl (codes_marked codes) none refl
+      (none_held g who (Local.Unbounded (chain.ClosingAtLimit d spare)) (Op.Or Word.Tail MARK) xs m none lent held)
+
+  pub step_closing : (none : HoldsOnly g.chain who Nothing)
+      → Codes te he g bs → (xs : List (ℕ × Option A)) → ChainLent g who xs → HoldsBy (Local.Unbounded chain.Closing) (Op.Or Word.Tail MARK) xs m → BlockStep te he g who bs m {ms = ms} (closing none)
+  step_closing none codes xs lent held =
+      step_none te he g who bs m (closing none) 0 codes.tail (λ e. refl) tt (ap (λ w. Answer.Found w) codes.tail_is)
+      (with_word bs 0 TAIL (bit_or (word_of bs 0 TAIL) MARK)) refl (marked g.chain) refl (ends (Reply.Close (word_of bs 0 TAIL % 2 == 0))) refl (codes_marked codes) none refl
+      (none_held g who (Local.Unbounded chain.Closing) (Op.Or Word.Tail MARK) xs m none lent held)

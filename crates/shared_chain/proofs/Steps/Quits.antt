@@ -1,0 +1,127 @@
+-- A call on a chain that has had no effect is given up by a load of the tail's word: the rule stays, the seat is at nothing, and its spare is no block's name any more.
+use Rattle.std.proofs.Common.{◌≡◌, ◌≢◌, ℕ, Option, Some, None, List, [], set, refl, ap, sym, ◌∙◌, subst}
+use Rattle.std.proofs.lemmas.List.{length-replicate}
+use mathlib.Core.Option.{some}
+use mathlib.Core.List.{IsPrefix}
+use lib.ListN.{get_elem?}
+use denote.RawPtr.{Ptr}
+use Rattle.atomic_table.proofs.Lists.{set_again}
+use Rattle.law_common.specs.Vocabulary.{Reply, Effect, Next, BLOCK_SLOTS}
+use Rattle.queue_steps.specs.Kinds.{call_value}
+use Rattle.law_chain.specs.ChainCells.{Chain, queue_of, ChainOk, HoldsOnly, Nothing}
+use Rattle.law_chain.specs.ChainTransitions.{given_up}
+use Rattle.law_chain.specs.ChainPasses.{spare_in}
+use Rattle.law_chain.proofs.ChainEarly.{early, unbound}
+use Rattle.law_chain.proofs.ChainStepOk.{GivesUp}
+use Rattle.law_chain.proofs.ChainGiven.{given_ok, passes_given, holds_given, spares_given}
+use Rattle.law_chain.proofs.ChainPasses.{passes_same}
+use Rattle.mem_blocks.specs.Web.{Block, Home, State, Sitter, sitter, vacant, word_of, KeepsRule, Allows}
+use Rattle.mem_blocks.specs.declared.block.BlockPtr.{BlockPtr as Place}
+use Rattle.mem_blocks.specs.declared.hub.TheConstants.{PARTIES}
+use Rattle.shared_parties.specs.declared.known.CallState.{CallState}
+use Rattle.shared_parties.specs.declared.known.InCall.{InCall}
+use Rattle.shared_parties.specs.declared.known.Known.{Known}
+use Rattle.shared_parties.specs.declared.known.Work.TheVariants as work
+use Rattle.shared_parties.specs.CallStates.{idle}
+use Rattle.shared_parties.specs.Calling.{Standing}
+use Rattle.shared_parties.specs.Quitting.{its_call}
+use Rattle.shared_parties.proofs.Callings.{others_stay}
+use Rattle.shared_parties.proofs.Quits.{quit, quits}
+use Rattle.shared_chain.specs.Spots.{spot}
+use Rattle.shared_chain.specs.Names.{link_of, name_map}
+use Rattle.shared_chain.specs.ChainCalls.{OutChain, PassesOut, chain_calls}
+use Rattle.shared_chain.specs.Rule.{Rule}
+use Rattle.shared_chain.specs.Steps.{slot_block, hand_by, carried_by, fresh_at}
+use Rattle.shared_chain.specs.Turning.{Carries}
+use Rattle.shared_chain.specs.Quitting.{MayQuit, HasLeft, ShowsPlace}
+use Rattle.shared_chain.proofs.Frames.Blocks.{word_same, codes_left}
+use Rattle.shared_chain.proofs.CallLaws.{chain_call_laws}
+use Rattle.shared_chain.proofs.Frames.Links.{nothing_lent}
+use Rattle.shared_chain.proofs.Frames.Slots.{all_vacant}
+
+-- a block that is given up is no part of the queue
+queue_given : {A : Type 0} (c : Chain A) (spare : Option ℕ) → queue_of (given_up c spare) ≡ queue_of c
+queue_given c None = refl
+queue_given c (Some f) = refl
+
+module _ {T : Type 0} where
+  -- the spare that a seat carries is fresh
+  pub carries_spare : (m : Sitter T (CallState T)) (x : Option ℕ) (b : Place T) → m.spare ≡ carried_by x → Some b ≡ name_map link_of x → Carries (Some b) m
+  carries_spare m None b carried is = absurd (let e : Some b ≡ None = is in cc)
+  carries_spare m (Some f) b carried is =
+      let same : b ≡ link_of f = cc in
+      (fresh_at (spot f), carried, ap (λ (p : Place T). p.ptr) (sym same), refl, length-replicate {A = Home T} BLOCK_SLOTS vacant, all_vacant T BLOCK_SLOTS)
+
+  pub carries_none : (m : Sitter T (CallState T)) (x : Option ℕ) → m.spare ≡ carried_by x → None ≡ name_map (link_of {T = T}) x → m.spare ≡ None
+  carries_none m None carried is = carried
+  carries_none m (Some f) carried is = absurd (let e : None ≡ Some (link_of {T = T} f) = is in cc)
+
+  module _ (te he : Ptr) (id : ℕ) (m : Sitter T (CallState T)) (may : MayQuit m) where
+    leaves : (s : State T (CallState T)) (r : Rule te he s) → get_elem? s.views id ≡ some m.view → Rule te he record { blocks = s.blocks; views = set s.views id (idle m.view.known) } × HasLeft m (sitter (idle m.view.known) m.hand m.spare)
+    leaves s r at = (
+      record {
+        cells = after;
+        history = r.history;
+        codes = codes_left te he g.chain g.out s.blocks (Next.Reply (Reply.Capacity None) spare) r.codes;
+        all = quits chain_calls g r.history (word_of s.blocks 0 PARTIES) s.views id m.view r.all at after ok same others (λ j ne idle. chain_call_laws.idle_stays g after id j ne passes idle)
+            (holds_given g.chain id spare Nothing e.1, spares_given g.chain id spare st.here.1);
+      },
+      (
+        quit chain_calls g r.history (word_of s.blocks 0 PARTIES) s.views id m.view r.all at c may.0 e.0,
+        may.2.0 ∙ ap (hand_by (slot_block c.local c.op)) (nothing_lent g id c.lends e.1 st.lent),
+        refl,
+        e.3,
+      ),
+    )
+      where
+        c : InCall T
+        c = its_call m.view
+
+        g : OutChain T
+        g = r.cells
+
+        spare : Option ℕ
+        spare = spare_in c.local
+
+        after : OutChain T
+        after = record { chain = given_up g.chain spare; out = g.out }
+
+        st : Standing chain_calls g r.history id m.view.known c
+        st = r.all.calls id m.view c at may.0
+
+        e : (c.effects ≡ []) × HoldsOnly g.chain id Nothing × GivesUp g.chain id spare × (c.carried ≡ call_value c.call)
+        e = early may.1 st.here.0
+
+        ok : ChainOk after.chain
+        ok = given_ok g.chain spare r.all.ok
+
+        same : queue_of after.chain ≡ queue_of g.chain
+        same = queue_given g.chain spare
+
+        passes : PassesOut id g after
+        passes = (passes_given g.chain g.chain id spare r.all.ok e.2 (passes_same g.chain id), λ j n ne reads. refl)
+
+        others : (j : ℕ) (k : Known T) (b : InCall T) → j ≢ id → IsPrefix k.seen r.history → Standing chain_calls g r.history j k b → Standing chain_calls after r.history j k b
+        others j k b ne seen stands =
+            others_stay chain_calls chain_call_laws g after r.history None id j k b r.all.ok ok ne passes (same ∙ r.all.state) (λ (is : None ≡ Some Effect.Arrive). absurd (cc)) seen stands
+
+    -- the load of the tail's word by which the call is given up
+    pub gives_up : (p : Ptr) → te ≡ p → Allows (Rule te he) id m p PARTIES (λ n. n) (λ n q. HasLeft m q)
+    gives_up p is = subst (λ z. Allows (Rule te he) id m z PARTIES (λ n. n) (λ n q. HasLeft m q)) is here
+      where
+        here : Allows (Rule te he) id m te PARTIES (λ n. n) (λ n q. HasLeft m q)
+        here s r at =
+            let d = leaves s r at in
+            (0, r.codes.tail, λ small. subst (λ (bs : List (Block T)). KeepsRule (Rule te he) s bs id m (λ q. HasLeft m q)) (sym (word_same s.blocks 0 PARTIES)) (idle m.view.known, [], tt, d.0, d.1))
+
+  module _ (te he : Ptr) (id : ℕ) (m : Sitter T (CallState T)) (calls : m.view.work ≡ work.Calls (its_call m.view)) where
+    -- a load that changes nothing tells where a push is
+    pub looks_on : (p : Ptr) → te ≡ p → Allows (Rule te he) id m p PARTIES (λ n. n) (λ n q. (q ≡ m) × ShowsPlace m)
+    looks_on p is = subst (λ z. Allows (Rule te he) id m z PARTIES (λ n. n) (λ n q. (q ≡ m) × ShowsPlace m)) is here
+      where
+        here : Allows (Rule te he) id m te PARTIES (λ n. n) (λ n q. (q ≡ m) × ShowsPlace m)
+        here s r at =
+            let c = its_call m.view in
+            let st = r.all.calls id m.view c at calls in
+            let rule : Rule te he record { blocks = s.blocks; views = set s.views id m.view } = subst (λ (vs : List (CallState T)). Rule te he record { blocks = s.blocks; views = vs }) (sym (set_again s.views id m.view at)) r in
+            (0, r.codes.tail, λ small. subst (λ (bs : List (Block T)). KeepsRule (Rule te he) s bs id m (λ q. (q ≡ m) × ShowsPlace m)) (sym (word_same s.blocks 0 PARTIES)) (m.view, [], tt, rule, (refl, λ push. unbound push st.here.0)))
