@@ -25,6 +25,8 @@ use shared_calls::attempts::{attempt_in, end_or_quit_at, retold};
 use shared_calls::waiting::{run_either, run_fast};
 use shared_parties::known::CallState;
 use shared_site::left::Left;
+use shared_tables::ring::Rings;
+use shared_tables::slot::Slots;
 use shared_tables::table::{SharedTable, TableSteps};
 use std::alloc::Allocator;
 use std::ops::ControlFlow;

@@ -1,7 +1,9 @@
 -- A step on the words and slots of one owner is that step of the laws of parties.
 use Rattle.std.specs.Prelude.{◌==◌, slice_set, if◌then◌else◌}
-use Rattle.std.proofs.Common.{◌≡◌, ℕ, ◌+◌, ◌^◌, ◌<◌, Bool, true, false, List, length, get_or, Option, None, refl, sym, ap, ◌∙◌, subst}
+use Rattle.std.proofs.Common.{◌≡◌, ℕ, ◌+◌, ◌%◌, ◌^◌, ◌<◌, Bool, true, false, List, length, get_or, Option, None, refl, sym, ap, ◌∙◌, subst}
+use Rattle.std.proofs.Math.Nat.{mod-eq_of_lt}
 use Rattle.std.proofs.lemmas.List.{get_or-map, length-map, map-set, set-get_or}
+use prog.Atomic.{either}
 use Rattle.queue_steps.specs.State.{State}
 use Rattle.law_common.specs.Vocabulary.{Word, Op, Touch, Answer}
 use Rattle.law_common.specs.Stand.{Stand}
@@ -80,18 +82,20 @@ module _ {T : Type 0} where
   same_operation r (Op.Load Word.Head) done can = record { can = refl; answers = refl; leaves = refl; cap = refl }
   same_operation r (Op.Load (Word.Stamp i)) done can = let lt = has_stamp r i can in record { can = less i (length r.slots) lt; answers = ap (λ n. Answer.Found n) (sym (stamp_is r i lt)); leaves = refl; cap = refl }
   same_operation r (Op.Store (Word.Stamp i) n) done can = let lt = has_stamp r i can in record { can = less i (length r.slots) lt; answers = refl; leaves = stamp_put r i n lt; cap = refl }
-  same_operation r (Op.Add Word.Tail n) done can = record { can = less (r.tail + n) (2 ^ 64) can.1; answers = refl; leaves = refl; cap = refl }
+  same_operation r (Op.Add Word.Tail n) done can =
+      let fits : (r.tail + n) % 2 ^ 64 ≡ r.tail + n = mod-eq_of_lt can.1 in
+      record { can = less (r.tail + n) (2 ^ 64) can.1; answers = refl; leaves = ap (λ m. put_word (part r) Word.Tail m) (sym fits); cap = refl }
   same_operation r (Op.Or Word.Tail n) done can = record { can = refl; answers = refl; leaves = refl; cap = refl }
   same_operation r (Op.Exchange Word.Tail a b) done can = record {
     can = refl;
     answers = refl;
-    leaves = elim (r.tail == a) as (λ t. part (record r { tail = if t then b else r.tail }) ≡ (if t then put_word (part r) Word.Tail b else part r)) [ true ↦ refl | false ↦ refl ];
+    leaves = elim (r.tail == a) as (λ t. part (record r { tail = if t then b else r.tail }) ≡ put_word (part r) Word.Tail (either t b r.tail)) [ true ↦ refl | false ↦ refl ];
     cap = refl;
   }
   same_operation r (Op.Exchange Word.Head a b) done can = record {
     can = refl;
     answers = refl;
-    leaves = elim (r.head == a) as (λ t. part (record r { head = if t then b else r.head }) ≡ (if t then put_word (part r) Word.Head b else part r)) [ true ↦ refl | false ↦ refl ];
+    leaves = elim (r.head == a) as (λ t. part (record r { head = if t then b else r.head }) ≡ put_word (part r) Word.Head (either t b r.head)) [ true ↦ refl | false ↦ refl ];
     cap = refl;
   }
   same_operation r (Op.Load w) done can = absurd can
