@@ -72,7 +72,10 @@ impl<T> Attempt<T> for TryPushes {
     }
 
     #[inline(always)]
-    fn tell(told: ControlFlow<Reply<T>, Option<T>>) -> Result<(), TryPushError<T>> {
+    fn tell(told: ControlFlow<Reply<T>, Option<T>>) -> Result<(), TryPushError<T>>
+        requires { (v w : PartyView T) × (x : T) × Tries v (call.Push x) told w }
+        ensures { (v w : PartyView T) (x : T) → Tries v (call.Push x) told w → TriesPush v x result w }
+    {
         match told {
             ControlFlow::Break(Reply::Push(Ok(()))) => Ok(()),
             ControlFlow::Break(Reply::Push(Err(PushError::Full(value)))) => Err(TryPushError::Full(
@@ -105,7 +108,10 @@ impl<T> Attempt<T> for TryDisplaces {
     }
 
     #[inline(always)]
-    fn tell(told: ControlFlow<Reply<T>, Option<T>>) -> Result<Option<T>, TryForcePushError<T>> {
+    fn tell(told: ControlFlow<Reply<T>, Option<T>>) -> Result<Option<T>, TryForcePushError<T>>
+        requires { (v w : PartyView T) × (x : T) × Tries v (call.ForcePush x) told w }
+        ensures { (v w : PartyView T) (x : T) → Tries v (call.ForcePush x) told w → TriesForcePush v x result w }
+    {
         match told {
             ControlFlow::Break(Reply::ForcePush(Ok(old))) => Ok(old),
             ControlFlow::Break(Reply::ForcePush(Err(ForcePushError::Closed(value)))) => Err(
@@ -135,7 +141,10 @@ impl<T> Attempt<T> for TryPops {
     }
 
     #[inline(always)]
-    fn tell(told: ControlFlow<Reply<T>, Option<T>>) -> Result<T, TryPopError> {
+    fn tell(told: ControlFlow<Reply<T>, Option<T>>) -> Result<T, TryPopError>
+        requires { (v w : PartyView T) × Unit {0} × Tries v call.Pop told w }
+        ensures { (v w : PartyView T) → Unit {0} → Tries v call.Pop told w → TriesPop v result w }
+    {
         match told {
             ControlFlow::Break(Reply::Pop(Ok(item))) => Ok(item),
             ControlFlow::Break(Reply::Pop(Err(PopError::Empty))) => Err(TryPopError::Empty),
