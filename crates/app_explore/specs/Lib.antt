@@ -1,5 +1,4 @@
 pub mod Lists
-pub mod Asked
 pub mod Requests
 pub mod Programs
 pub mod Faults

@@ -1,7 +1,8 @@
 -- What is told of a program.
-use Rattle.std.specs.Prelude.{◌≡◌, ℕ, Option, None, Some, ◌+◌, ◌-◌, ◌<◌, List, [], ◌∷◌, ◌++◌, length, map, slice_get}
+use Rattle.std.specs.Prelude.{◌≡◌, ℕ, Option, None, Some, ◌+◌, ◌-◌, ◌<◌, Bool, List, [], ◌∷◌, ◌++◌, length, map, slice_get}
 use Rattle.std.specs.List.{AllZip}
 use Rattle.queue_steps.specs.declared.model.Call.{Call}
+use Rattle.queue_steps.specs.declared.steps.types.Kind.{Kind}
 use Rattle.app_text.specs.Lines.{lines_of}
 use Rattle.app_text.specs.KindNames.{queue_named}
 use Rattle.app_text.specs.declared.faults.Fault.TheVariants as fault
@@ -10,7 +11,6 @@ use Rattle.machine_explore.specs.Explored.{HasNoOther}
 use Rattle.machine_explore.specs.Positions.{Outcome}
 use Rattle.machine_explore.specs.Traces.{Course, IsTraceOf}
 use Rattle.machine_explore.specs.declared.schedule.Move.{Move}
-use Rattle.app_explore.specs.Asked.{Asked}
 use Rattle.app_explore.specs.Lanes.{lanes_text}
 use Rattle.app_explore.specs.Outcomes.{AreInOrder, outcome_line, text_of}
 use Rattle.app_explore.specs.Reads.{IsReadAs, IsFirstWrong}
@@ -29,9 +29,9 @@ outcome_lines n (o ∷ os) (t ∷ ts) = outcome_line n o t ++ outcome_lines (n +
 outcome_lines n _ _ = []
 
 -- these are the outcomes of the program, each of which its schedule shows, in the order of their texts, each once; and it has no other
-pub record AreOutcomes (a : Asked) (schedules : List (List Move)) (outcomes : List (Outcome ℕ)) : Type 0 where
-  pub no_other : HasNoOther a.kind a.refuses a.before a.calls outcomes
-  pub shown : AllZip (IsOutcomeOf a.kind a.refuses a.before a.calls) schedules outcomes
+pub record AreOutcomes (k : Kind) (refuses : Bool) (before : List (Call ℕ)) (calls : List (List (Call ℕ))) (schedules : List (List Move)) (outcomes : List (Outcome ℕ)) : Type 0 where
+  pub no_other : HasNoOther k refuses before calls outcomes
+  pub shown : AllZip (IsOutcomeOf k refuses before calls) schedules outcomes
   pub in_order : AreInOrder (map text_of outcomes)
 
 -- it is the list of outcomes with these texts: a line for each, and a last line, which counts them and those of no order
@@ -43,49 +43,49 @@ pub record IsListOf (texts : List (List ℕ)) (text : List ℕ) : Type 0 where
   pub text_is : text ≡ outcome_lines 1 texts (map tail_line tails) ++ last_text (length texts) total lone (without_order tails)
 
 -- the text has a line for each outcome of the program, and for no other, and a last line
-pub record IsListing (a : Asked) (text : List ℕ) : Type 0 where
+pub record IsListing (k : Kind) (refuses : Bool) (before : List (Call ℕ)) (calls : List (List (Call ℕ))) (text : List ℕ) : Type 0 where
   pub schedules : List (List Move)
   pub outcomes : List (Outcome ℕ)
-  pub are : AreOutcomes a schedules outcomes
+  pub are : AreOutcomes k refuses before calls schedules outcomes
   pub list : IsListOf (map text_of outcomes) text
 
 -- this is seen of the schedule of the program's outcome of this number
-pub record IsTraceOfOutcome (a : Asked) (number : ℕ) (c : Course) : Type 0 where
+pub record IsTraceOfOutcome (k : Kind) (refuses : Bool) (before : List (Call ℕ)) (calls : List (List (Call ℕ))) (number : ℕ) (c : Course) : Type 0 where
   pub schedules : List (List Move)
   pub outcomes : List (Outcome ℕ)
-  pub are : AreOutcomes a schedules outcomes
+  pub are : AreOutcomes k refuses before calls schedules outcomes
   pub outcome : slice_get outcomes (number - 1) ≡ Some c.outcome
   pub schedule : List Move
   pub there : slice_get schedules (number - 1) ≡ Some schedule
-  pub trace : IsTraceOf a.kind a.refuses a.before a.calls schedule c
+  pub trace : IsTraceOf k refuses before calls schedule c
 
 -- the text has the lines by which a replay makes the schedule of the program's outcome of this number: line by line, they make its moves and no other
-pub record IsScheduleOf (a : Asked) (number : ℕ) (text : List ℕ) : Type 0 where
+pub record IsScheduleOf (k : Kind) (refuses : Bool) (before : List (Call ℕ)) (calls : List (List (Call ℕ))) (number : ℕ) (text : List ℕ) : Type 0 where
   pub course : Course
-  pub trace : IsTraceOfOutcome a number course
-  pub text_is : text ≡ schedule_text a.before course.seen
+  pub trace : IsTraceOfOutcome k refuses before calls number course
+  pub text_is : text ≡ schedule_text before course.seen
   pub made : MakeAll (move_lines 0 course.seen) course.seen
 
 -- the text is the picture of that schedule
-pub record IsPictureOf (a : Asked) (number : ℕ) (text : List ℕ) : Type 0 where
+pub record IsPictureOf (k : Kind) (refuses : Bool) (before : List (Call ℕ)) (calls : List (List (Call ℕ))) (number : ℕ) (text : List ℕ) : Type 0 where
   pub course : Course
-  pub trace : IsTraceOfOutcome a number course
-  pub text_is : text ≡ lanes_text (length a.calls) course.opening course.seen
+  pub trace : IsTraceOfOutcome k refuses before calls number course
+  pub text_is : text ≡ lanes_text (length calls) course.opening course.seen
 
 -- the program has fewer outcomes than that
-pub record HasFewer (a : Asked) (number : ℕ) : Type 0 where
+pub record HasFewer (k : Kind) (refuses : Bool) (before : List (Call ℕ)) (calls : List (List (Call ℕ))) (number : ℕ) : Type 0 where
   pub schedules : List (List Move)
   pub outcomes : List (Outcome ℕ)
-  pub are : AreOutcomes a schedules outcomes
+  pub are : AreOutcomes k refuses before calls schedules outcomes
   pub fewer : length outcomes < number
 
 -- the text tells what is asked for
-abbrev pub TellsWanted : Asked → Wanted → List ℕ → Type 0
-TellsWanted a wanted.Outcomes text = IsListing a text
-TellsWanted a (wanted.Schedule n) text = IsScheduleOf a n text
-TellsWanted a (wanted.Lanes n) text = IsPictureOf a n text
-TellsWanted a wanted.Waits text = IsWaitList a text
-TellsWanted a (wanted.Wait n) text = IsWaitSchedule a text
+abbrev pub TellsWanted : Kind → Bool → List (Call ℕ) → List (List (Call ℕ)) → Wanted → List ℕ → Type 0
+TellsWanted k refuses before calls wanted.Outcomes text = IsListing k refuses before calls text
+TellsWanted k refuses before calls (wanted.Schedule n) text = IsScheduleOf k refuses before calls n text
+TellsWanted k refuses before calls (wanted.Lanes n) text = IsPictureOf k refuses before calls n text
+TellsWanted k refuses before calls wanted.Waits text = IsWaitList k refuses before calls text
+TellsWanted k refuses before calls (wanted.Wait n) text = IsWaitSchedule k refuses before calls text
 
 -- the number of the outcome that is asked for, if one is
 abbrev pub number_in : Wanted → Option ℕ
@@ -94,24 +94,20 @@ number_in (wanted.Schedule n) = Some n
 number_in (wanted.Lanes n) = Some n
 number_in _ = None
 
--- what the request asks of a program
-abbrev pub asked_for : Request → List (Call ℕ) → List (List (Call ℕ)) → Asked
-asked_for r before calls = record { kind = queue_named r.kind; refuses = r.refuses; before = before; calls = calls }
-
 -- the input names a program, and the text tells of it what is asked for
 pub record IsTold (r : Request) (input text : List ℕ) : Type 0 where
   pub before : List (Call ℕ)
   pub calls : List (List (Call ℕ))
   pub read : IsReadAs (lines_of input) before calls
-  pub tells : TellsWanted (asked_for r before calls) r.wanted text
+  pub tells : TellsWanted (queue_named r.kind) r.refuses before calls r.wanted text
 
 -- why nothing of this is told of the program
-abbrev pub MayTellNothing : Asked → Wanted → Stop → Type 0
-MayTellNothing a w (stop.Fault why) = why ≡ fault.NoMemory
-MayTellNothing a w (stop.Line n why) = ⊥
-MayTellNothing a w (stop.NoOutcome number) = (number_in w ≡ Some number) × HasFewer a number
-MayTellNothing a w (stop.NoWait number) = w ≡ wanted.Wait number
-MayTellNothing a w _ = Unit {0}
+abbrev pub MayTellNothing : Kind → Bool → List (Call ℕ) → List (List (Call ℕ)) → Wanted → Stop → Type 0
+MayTellNothing k refuses before calls w (stop.Fault why) = why ≡ fault.NoMemory
+MayTellNothing k refuses before calls w (stop.Line n why) = ⊥
+MayTellNothing k refuses before calls w (stop.NoOutcome number) = (number_in w ≡ Some number) × HasFewer k refuses before calls number
+MayTellNothing k refuses before calls w (stop.NoWait number) = w ≡ wanted.Wait number
+MayTellNothing k refuses before calls w _ = Unit {0}
 
 -- the program that the input names has fewer outcomes than that
 pub record HasFewerOutcomes (r : Request) (input : List ℕ) (number : ℕ) : Type 0 where
@@ -119,7 +115,7 @@ pub record HasFewerOutcomes (r : Request) (input : List ℕ) (number : ℕ) : Ty
   pub calls : List (List (Call ℕ))
   pub read : IsReadAs (lines_of input) before calls
   pub asked : number_in r.wanted ≡ Some number
-  pub fewer : HasFewer (asked_for r before calls) number
+  pub fewer : HasFewer (queue_named r.kind) r.refuses before calls number
 
 -- why nothing is told of the program that the input names
 abbrev pub MayStop : Request → List ℕ → Stop → Type 0

@@ -2,7 +2,6 @@
 ghost use Rattle.std.specs.Prelude.{◌≡◌, ◌⊎◌, Err, IfErr, IfOk, MatchResult, None, Ok, Some, map, string_bytes};
 ghost use Rattle.machine_replay.specs.Replays.{CanReplay};
 ghost use Rattle.app_text.specs.KindNames.{queue_named};
-ghost use Rattle.app_explore.specs.Asked.{asked_by};
 ghost use Rattle.app_explore.specs.Listings.{MayStop, MayTellNothing, IsTold, TellsWanted};
 ghost use Rattle.app_explore.specs.Requests.{IsRequest, IsWanted};
 ghost use Rattle.app_explore.specs.Commands.{IsExplorerEnd, IsExplored, IsStopOf};
@@ -131,8 +130,8 @@ pub fn answer<A: Allocator + Copy>(
     requires can { CanReplay problem.now.kind }
     requires asked { IsWanted wanted }
     ensures { MatchResult result
-        (λ text. TellsWanted (asked_by problem.now) wanted (string_bytes text))
-        (MayTellNothing (asked_by problem.now) wanted) }
+        (λ text. TellsWanted problem.now.kind problem.now.refuses problem.now.program.before problem.now.program.parties.items wanted (string_bytes text))
+        (MayTellNothing problem.now.kind problem.now.refuses problem.now.program.before problem.now.program.parties.items wanted) }
 {
     match wanted {
         Wanted::Outcomes => match list_outcomes(alloc, problem) {

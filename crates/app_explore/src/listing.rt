@@ -2,7 +2,6 @@
 ghost use Rattle.std.specs.Prelude.{◌≡◌, ◌++◌, ◌<◌, ◌≤◌, length, map, string_bytes, IfOk, MatchOption, OnOk};
 ghost use Rattle.machine_replay.specs.Replays.{CanReplay};
 ghost use Rattle.machine_explore.specs.Traces.{IsTraceOf};
-ghost use Rattle.app_explore.specs.Asked.{asked_by};
 ghost use Rattle.app_explore.specs.Outcomes.{text_of};
 ghost use Rattle.app_explore.specs.Tails.{figure_tail, items_in, none_of, tail_line, without_order};
 ghost use Rattle.app_explore.specs.Listings.{AreOutcomes, HasFewer, IsListOf, IsListing, IsPictureOf, IsScheduleOf, IsTraceOfOutcome, outcome_lines};
@@ -64,7 +63,7 @@ pub fn list_outcomes<A: Allocator + Copy>(
     problem: &Problem<A>,
 ) -> Result<String<A>, SearchFault>
     requires { CanReplay problem.now.kind }
-    ensures { IfOk result (λ text. IsListing (asked_by problem.now) (string_bytes text)) }
+    ensures { IfOk result (λ text. IsListing problem.now.kind problem.now.refuses problem.now.program.before problem.now.program.parties.items (string_bytes text)) }
 {
     let findings = find_all(alloc, problem)?;
     list_found(alloc, problem, &findings)
@@ -81,7 +80,7 @@ pub fn list_found<A: Allocator + Copy>(
     findings: &Findings<A>,
 ) -> Result<String<A>, SearchFault>
     requires { CanReplay problem.now.kind }
-    ensures { IfOk result (λ text. IsListing (asked_by problem.now) (string_bytes text)) }
+    ensures { IfOk result (λ text. IsListing problem.now.kind problem.now.refuses problem.now.program.before problem.now.program.parties.items (string_bytes text)) }
 {
     let shown = show_all(alloc, problem, findings)?;
     write_list(alloc, problem, findings, &shown)
@@ -100,8 +99,8 @@ pub fn list_schedule<A: Allocator + Copy>(
     requires can { CanReplay problem.now.kind }
     requires counted { 0 < number }
     ensures { IfOk result (λ o. MatchOption o
-        (HasFewer (asked_by problem.now) number)
-        (λ text. IsScheduleOf (asked_by problem.now) number (string_bytes text))) }
+        (HasFewer problem.now.kind problem.now.refuses problem.now.program.before problem.now.program.parties.items number)
+        (λ text. IsScheduleOf problem.now.kind problem.now.refuses problem.now.program.before problem.now.program.parties.items number (string_bytes text))) }
 {
     let Some(trace) = trace_outcome(alloc, problem, number)? else {
         return Ok(None);
@@ -128,8 +127,8 @@ pub fn draw_lanes<A: Allocator + Copy>(
     requires can { CanReplay problem.now.kind }
     requires counted { 0 < number }
     ensures { IfOk result (λ o. MatchOption o
-        (HasFewer (asked_by problem.now) number)
-        (λ text. IsPictureOf (asked_by problem.now) number (string_bytes text))) }
+        (HasFewer problem.now.kind problem.now.refuses problem.now.program.before problem.now.program.parties.items number)
+        (λ text. IsPictureOf problem.now.kind problem.now.refuses problem.now.program.before problem.now.program.parties.items number (string_bytes text))) }
 {
     let Some(trace) = trace_outcome(alloc, problem, number)? else {
         return Ok(None);
@@ -154,8 +153,8 @@ fn trace_outcome<A: Allocator + Copy>(
     requires can { CanReplay problem.now.kind }
     requires counted { 0 < number }
     ensures { IfOk result (λ o. MatchOption o
-        (HasFewer (asked_by problem.now) number)
-        (IsTraceOfOutcome (asked_by problem.now) number)) }
+        (HasFewer problem.now.kind problem.now.refuses problem.now.program.before problem.now.program.parties.items number)
+        (IsTraceOfOutcome problem.now.kind problem.now.refuses problem.now.program.before problem.now.program.parties.items number)) }
 {
     let findings = find_all(alloc, problem)?;
     trace_found(alloc, problem, &findings, number)
@@ -171,8 +170,8 @@ fn trace_found<A: Allocator + Copy>(
     requires can { CanReplay problem.now.kind }
     requires counted { 0 < number }
     ensures { IfOk result (λ o. MatchOption o
-        (HasFewer (asked_by problem.now) number)
-        (IsTraceOfOutcome (asked_by problem.now) number)) }
+        (HasFewer problem.now.kind problem.now.refuses problem.now.program.before problem.now.program.parties.items number)
+        (IsTraceOfOutcome problem.now.kind problem.now.refuses problem.now.program.before problem.now.program.parties.items number)) }
 {
     let all = show_all(alloc, problem, findings)?;
     let index = (number - 1) as usize;
@@ -194,7 +193,7 @@ fn follow_to<A: Allocator + Copy>(
     outcome: &Outcome<A>,
 ) -> Result<Trace<A>, SearchFault>
     requires { CanReplay problem.now.kind }
-    ensures trace { IfOk result (λ t. IsTraceOf (asked_by problem.now) schedule.now t) }
+    ensures trace { IfOk result (λ t. IsTraceOf problem.now.kind problem.now.refuses problem.now.program.before problem.now.program.parties.items schedule.now t) }
     ensures outcome { IfOk result (λ t. t.outcome ≡ outcome.now) }
 {
     match follow(
@@ -277,7 +276,7 @@ fn show_all<A: Allocator + Copy>(
     findings: &Findings<A>,
 ) -> Result<CheckedOutcomes<A>, SearchFault>
     requires { CanReplay problem.now.kind }
-    ensures are { IfOk result (λ shown. AreOutcomes (asked_by problem.now) findings.now.schedules.items shown.outcomes.items) }
+    ensures are { IfOk result (λ shown. AreOutcomes problem.now.kind problem.now.refuses problem.now.program.before problem.now.program.parties.items findings.now.schedules.items shown.outcomes.items) }
     ensures texts { IfOk result (λ shown. map string_bytes shown.texts.items ≡ map text_of shown.outcomes.items) }
 {
     let shown = show(

@@ -2,7 +2,6 @@
 ghost use Rattle.std.specs.Prelude.{◌<◌, IfOk, MatchOption, string_bytes, ⊤};
 ghost use Rattle.machine_explore.specs.Waiting.{wait_of};
 ghost use Rattle.machine_replay.specs.Replays.{CanReplay};
-ghost use Rattle.app_explore.specs.Asked.{asked_by};
 ghost use Rattle.app_explore.specs.Waits.{IsShownWait, IsWaitList, IsWaitSchedule};
 
 use crate::listing::Problem;
@@ -25,7 +24,7 @@ pub fn list_waits<A: Allocator + Copy>(
     problem: &Problem<A>,
 ) -> Result<String<A>, SearchFault>
     requires { CanReplay problem.now.kind }
-    ensures { IfOk result (λ text. IsWaitList (asked_by problem.now) (string_bytes text)) }
+    ensures { IfOk result (λ text. IsWaitList problem.now.kind problem.now.refuses problem.now.program.before problem.now.program.parties.items (string_bytes text)) }
 {
     let approaches = find_waits(alloc, problem)?;
     let mut waits = Vec::new(alloc);
@@ -50,7 +49,7 @@ pub fn wait_schedule<A: Allocator + Copy>(
 ) -> Result<Option<String<A>>, SearchFault>
     requires can { CanReplay problem.now.kind }
     requires counted { 0 < number }
-    ensures { IfOk result (λ o. MatchOption o ⊤ (λ text. IsWaitSchedule (asked_by problem.now) (string_bytes text))) }
+    ensures { IfOk result (λ o. MatchOption o ⊤ (λ text. IsWaitSchedule problem.now.kind problem.now.refuses problem.now.program.before problem.now.program.parties.items (string_bytes text))) }
 {
     let waits = find_waits(alloc, problem)?;
     let Some(found) = waits.get((number - 1) as usize) else {
@@ -73,7 +72,7 @@ fn show<A: Allocator + Copy>(
     found: &Approach<A>,
 ) -> Result<Wait<A>, SearchFault>
     requires { CanReplay problem.now.kind }
-    ensures { IfOk result (λ wait. IsShownWait (asked_by problem.now) (wait_of wait)) }
+    ensures { IfOk result (λ wait. IsShownWait problem.now.kind problem.now.refuses problem.now.program.before problem.now.program.parties.items (wait_of wait)) }
 {
     let shown = show_wait(
         alloc,
