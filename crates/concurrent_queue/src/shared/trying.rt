@@ -32,7 +32,7 @@ use std::alloc::Allocator;
 use std::ops::ControlFlow;
 
 /// A call which gives up where it would wait, for the driver: each has fast steps of its own, also beside those that wait.
-trait Attempt<T> {
+pub(crate) trait Attempt<T> {
     /// What the call is given, and what its caller is told.
     type Given;
 
@@ -53,11 +53,11 @@ trait Attempt<T> {
         ensures { (v w : PartyView T) (x : Self.Given) → Tries v (asks x) told w → tells v x result w };
 }
 
-struct TryPushes;
+pub(crate) struct TryPushes;
 
-struct TryDisplaces;
+pub(crate) struct TryDisplaces;
 
-struct TryPops;
+pub(crate) struct TryPops;
 
 impl<T> Attempt<T> for TryPushes {
     type Given = T;
