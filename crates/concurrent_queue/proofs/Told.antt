@@ -1,5 +1,5 @@
 -- A party whose call was tried: it is held again, and the call was made or has done nothing.
-use Rattle.std.proofs.Common.{◌≡◌, ℕ, Option, None, Continue, Break, ◌∙◌, refl, sym, ap, subst}
+use Rattle.std.proofs.Common.{◌≡◌, ℕ, Option, None, Continue, Break, refl, sym, ap, subst}
 use Rattle.std.specs.ControlFlow.{MatchControlFlow}
 use Rattle.std.specs.declared.ops.ControlFlow.{ControlFlow}
 use Rattle.atomic_table.specs.Seated.{TableId}

@@ -1,5 +1,5 @@
 -- No operation makes more blocks than there were, unless one was granted.
-use Rattle.std.proofs.Common.{◌≡◌, ◌==◌, ℕ, ◌+◌, ◌≤◌, zero, suc, Bool, true, false, if◌then◌else◌, Option, Some, None, is_some, List, [], ◌∷◌, ◌++◌, length, refl, arith, get_or, set, length-append}
+use Rattle.std.proofs.Common.{◌≡◌, ℕ, ◌+◌, ◌≤◌, zero, suc, Bool, true, false, if◌then◌else◌, Option, Some, None, is_some, List, [], ◌∷◌, ◌++◌, length, refl, arith, get_or, set, length-append}
 use Rattle.std.proofs.lemmas.List.{length-set}
 use Rattle.queue_steps.specs.declared.steps.types.Link.{Link}
 use Rattle.queue_steps.specs.declared.steps.types.Link.TheVariants as link

@@ -185,7 +185,9 @@ impl<T, A: NullTestable> ConcurrentQueue<T, A> {
         let call = W::ask(given);
         match (&self.form, &mut party.place) {
             (Form::Single(slot), SeatPlace::Table(seat)) => {
-                match run_fast::<SharedTable<T, Slots, A>, Open, Short<W>>(slot, &Open, seat, call) {
+                match run_fast::<SharedTable<T, Slots, A>, Open, Short<W>>(
+                    slot, &Open, seat, call,
+                ) {
                     ControlFlow::Break(reply) => W::tell(ControlFlow::Break(reply)),
                     ControlFlow::Continue(left) => W::tell(end_or_quit(slot, seat, left)),
                 }

@@ -1,9 +1,8 @@
-use Rattle.std.proofs.Common.{Break, ◌≡◌, refl, ◌∙◌, sym, ap, subst, None}
+use Rattle.std.proofs.Common.{Break, refl, ◌∙◌, sym, ap, subst}
 use Rattle.law_chain.specs.ChainEarly.{IsPush}
 use Rattle.queue_steps.specs.declared.model.Call.{Call}
-use Rattle.concurrent_queue.specs.declared.party.SeatPlace.{SeatPlace}
 use Rattle.concurrent_queue.specs.declared.party.SeatPlace.TheVariants as place
-use Rattle.concurrent_queue.specs.Shared.{QueueId, form_id, IsHeld, PartyView, party_view_of}
+use Rattle.concurrent_queue.specs.Shared.{QueueId, form_id, IsHeld, party_view_of}
 use Rattle.concurrent_queue.specs.Tries.{Tries}
 use Rattle.concurrent_queue.proofs.TableCalls.{begins_here}
 use Rattle.concurrent_queue.proofs.Told.{told_here, told_web, tells}
