@@ -14,7 +14,7 @@ use Rattle.law_chain.specs.ChainAfter.{after_of, chain_of, left_by}
 use Rattle.law_chain.specs.ChainAnswers.{Answers, tail_word, head_word}
 use Rattle.law_chain.specs.ChainAt.{At, Only, push_tail, push_block, asking, installing, showing, claiming, spending, pop_head, pop_block, pop_tail, taking, following, peeking, passing, entering, awaiting, reading, beginning, walking, destroying, len_tail, len_head, len_again, empty_head, empty_tail, closing, closed_tail}
 use Rattle.law_chain.specs.ChainCells.{Shown, Hidden, Showing, Seen, Chain, ChainOk, ShownOk, First, owner, shower_of, HoldsOnly, Nothing, queue_of}
-use Rattle.law_chain.specs.ChainFacts.{place, head_of}
+use Rattle.law_chain.specs.ChainFacts.{head_of}
 use Rattle.law_chain.proofs.ChainRanks.{is_seen}
 use Rattle.law_chain.proofs.ChainRight.{NextOkSpares, step_right}
 use Rattle.law_chain.proofs.ChainStep.{is_chain}

@@ -3,13 +3,13 @@ use Rattle.std.proofs.Common.{ℕ, ◌≡◌, ◌==◌, Option, Ok, List, [], re
 use Rattle.std.specs.List.{Any}
 use Rattle.queue_steps.specs.State.{State}
 use Rattle.queue_steps.specs.Words.{is_shut}
-use Rattle.machine_replay.specs.Vocabulary.{Call, Reply, Effect, Kind, Op, Touch, Answer, Local, UnboundedLocal, EffectKind, PopError}
+use Rattle.machine_replay.specs.Vocabulary.{Call, Reply, Effect, Kind, Answer, Local, UnboundedLocal, EffectKind}
 use Rattle.queue_steps.specs.declared.steps.unbounded.UnboundedLocal.TheVariants as chain
 use Rattle.law_common.specs.Moments.{SeenIn}
 use Rattle.law_common.specs.Effects.{Leads, with_effect}
 use Rattle.law_common.specs.Stand.{Stand}
 use Rattle.law_chain.specs.ChainCells.{Chain, queue_of}
-use Rattle.law_chain.specs.ChainAt.{At, laying, opening, chaining, writing, following, peeking, passing, entering, awaiting, reading, beginning, walking, destroying, push_tail, push_block, asking, installing, showing, claiming, spending, len_tail, len_head, len_again, empty_head, empty_tail, closing, closed_tail}
+use Rattle.law_chain.specs.ChainAt.{At, laying, opening, chaining, writing, following, peeking, passing, entering, awaiting, reading, beginning, walking, destroying}
 use Rattle.law_chain.proofs.ChainStepOk.{IsEffect}
 use Rattle.machine_replay.specs.Book.{Open, Moves, Allows, IsBegun}
 use Rattle.machine_memory.specs.EffectOf.{effect_of}

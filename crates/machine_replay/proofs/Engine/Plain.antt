@@ -1,5 +1,5 @@
 -- Operations on the words of a queue with a capacity: they need no block, and where there is none, none comes.
-use Rattle.std.proofs.Common.{◌≡◌, ◌∙◌, ◌==◌, ℕ, Bool, true, false, if◌then◌else◌, Option, Some, None, [], refl, ap}
+use Rattle.std.proofs.Common.{◌≡◌, ◌∙◌, ℕ, Bool, true, Option, Some, None, [], refl, ap}
 use Rattle.machine_replay.specs.Vocabulary.{Kind, Word, Op, Touch, Local, Running}
 use Rattle.law_common.specs.Operations.{OnWord, op_word, op_makes}
 use Rattle.machine_memory.specs.Blocks.{without}

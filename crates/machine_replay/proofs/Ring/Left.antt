@@ -1,5 +1,5 @@
 -- The list that a ring holds, once each call that is about to write has written, is that of the queue.
-use Rattle.std.proofs.Common.{ℕ, suc, ◌+◌, ◌-◌, ◌%◌, ◌<◌, ◌≤◌, ◌≡◌, ◌==◌, ◌∙◌, ◌⊎◌, inl, inr, Bool, true, false, Option, Some, None, List, ◌∷◌, length, refl, sym, ap, subst, arith, get_or, slice_get}
+use Rattle.std.proofs.Common.{ℕ, suc, ◌+◌, ◌-◌, ◌%◌, ◌<◌, ◌≤◌, ◌≡◌, ◌==◌, ◌∙◌, inl, inr, Bool, true, false, Option, Some, None, List, ◌∷◌, length, refl, sym, ap, subst, arith, get_or, slice_get}
 use Rattle.std.proofs.lemmas.Bool.{eq-eqb}
 use Rattle.std.proofs.lemmas.Bool.Decides.{eqb_tells}
 use Rattle.queue_steps.specs.State.{State}

@@ -2,7 +2,7 @@
 use Rattle.std.proofs.Common.{ℕ, ◌+◌, ◌≡◌, ◌==◌, inr, Bool, true, false, if◌then◌else◌, Option, Some, None, Ok, List, [], ◌∷◌, refl}
 use Rattle.queue_steps.specs.State.{State}
 use Rattle.queue_steps.specs.Words.{position_of, is_shut}
-use Rattle.machine_replay.specs.Vocabulary.{Call, Reply, Effect, Kind, Op, Touch, Answer, Local, EffectKind, PopError, PushKind}
+use Rattle.machine_replay.specs.Vocabulary.{Reply, Effect, Kind, Answer, Local, EffectKind}
 use Rattle.queue_steps.specs.declared.steps.bounded.BoundedLocal.TheVariants as ring
 use Rattle.law_common.specs.Effects.{Leads, Whether, with_effect}
 use Rattle.law_common.specs.Stand.{Stand}

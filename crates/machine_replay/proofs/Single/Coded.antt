@@ -1,5 +1,5 @@
 -- The machine's word and slot at each step of a call on one slot: what the laws of the slot say of them.
-use Rattle.std.proofs.Common.{ℕ, ◌≡◌, ◌==◌, ◌∙◌, Bool, true, false, Option, None, [], ◌∷◌, if◌then◌else◌, refl, ap}
+use Rattle.std.proofs.Common.{ℕ, ◌≡◌, ◌∙◌, Bool, Option, None, [], ◌∷◌, refl, ap}
 use Rattle.machine_replay.specs.Vocabulary.{Kind, Touch, Running}
 use Rattle.law_common.specs.Stand.{Stand}
 use Rattle.machine_replay.proofs.Engine.StandOf.{running_of}

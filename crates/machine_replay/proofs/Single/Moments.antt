@@ -1,8 +1,8 @@
 -- What a step of a call on one slot is in the book: its effects begin those of a reply, and its effect moves the queue.
-use Rattle.std.proofs.Common.{ℕ, ◌≡◌, ◌==◌, inl, Bool, true, false, if◌then◌else◌, Option, Some, None, Ok, List, [], refl, Err, ◌∷◌}
+use Rattle.std.proofs.Common.{ℕ, ◌≡◌, ◌==◌, inl, Bool, true, false, if◌then◌else◌, Option, Some, None, Ok, [], refl}
 use Rattle.queue_steps.specs.State.{State}
 use Rattle.queue_steps.specs.SingleNext.{is_marked}
-use Rattle.machine_replay.specs.Vocabulary.{Call, Reply, Effect, Kind, Op, Touch, Answer, Local, PushKind, EffectKind, PopError, Look}
+use Rattle.machine_replay.specs.Vocabulary.{Reply, Effect, Kind, Answer, Local, PushKind, EffectKind}
 use Rattle.queue_steps.specs.declared.steps.single.SingleLocal.TheVariants.{Pushing, Forcing, Popping, Closing}
 use Rattle.law_common.specs.Effects.{Leads, with_effect, Whether}
 use Rattle.law_common.specs.Stand.{Stand}

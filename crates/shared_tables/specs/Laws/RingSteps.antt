@@ -1,15 +1,14 @@
 -- The laws of a ring in a table: what each step of a call does to the words and slots, and where calls begin.
-use Rattle.std.proofs.Common.{◌≡◌, ◌≢◌, ℕ, ◌+◌, ◌-◌, ◌<◌, ◌==◌, ◌||◌, not, length, Bool, true, false, List, [], ◌∷◌, get_or, set, Option, Some, None, refl, ap, sym, ◌∙◌, subst, inl, arith, length-set}
+use Rattle.std.proofs.Common.{◌≡◌, ◌≢◌, ℕ, ◌+◌, ◌-◌, ◌<◌, ◌||◌, not, length, Bool, List, [], ◌∷◌, get_or, set, Option, Some, None, refl, ap, sym, ◌∙◌, subst, inl, arith, length-set}
 use Rattle.std.proofs.lemmas.List.{set-get_or, get_or-drop, set-append_right}
 use mathlib.Core.Option.{some, some-injective}
 use mathlib.Core.Option as maybe
 use lib.ListN.{get_elem?}
 use Rattle.atomic_table.specs.Table.{Act, keeps, takes, gives, Valid, carried_after, homes_after, rest}
 use Rattle.atomic_table.proofs.Lists.{set_here, set_else}
-use Rattle.law_common.specs.Vocabulary.{Call, Reply, Effect, Kind, Word, Op, Touch, Answer, Local, Next}
-use Rattle.queue_steps.specs.declared.steps.bounded.BoundedLocal.TheVariants as ring
+use Rattle.law_common.specs.Vocabulary.{Call, Reply, Effect, Kind, Word, Op, Touch, Answer, Next}
 use Rattle.queue_steps.specs.State.{State}
-use Rattle.queue_steps.specs.Words.{IsRing, position_of, is_shut}
+use Rattle.queue_steps.specs.Words.{IsRing}
 use Rattle.queue_steps.specs.Next.{CanNext, next_of}
 use Rattle.law_common.specs.Puts.{put}
 use Rattle.law_common.proofs.Puts.{put_ok, put_same}
