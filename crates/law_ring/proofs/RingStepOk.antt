@@ -123,6 +123,7 @@ module _ {A : Type 0} {cap : ℕ} {r : Ring A} {who : ℕ} {s : Shared A} {ms : 
 -- the operation is on a word that the ring has
 pub operates_on : {A : Type 0} (s : Shared A) (o : Op ℕ) → CanOperate s o → HasWord s (op_word o)
 operates_on s (Op.Add w x) can = can.0
+operates_on s (Op.And w x) can = absurd can
 operates_on s o can = has_word (HasWord s) o can
 
 -- a mark that finds the ring closed

@@ -32,9 +32,10 @@ put_word s Word.Tail x = record s { tail = x }
 put_word s (Word.Stamp i) x = record s { stamps = slice_set s.stamps i x }
 put_word s _ x = s
 
--- the operation is one on a word that the ring has, and no sum is too large for a word
+-- the operation is one on a word that the ring has, and no sum is too large for a word. No call takes bits off
 abbrev pub CanOperate : {T : Type 0} → Shared T → Op ℕ → Type 0
 CanOperate s (Op.Add w x) = HasWord s w × (word_at s w + x < 2 ^ 64)
+CanOperate s (Op.And w x) = ⊥
 CanOperate s o = OnWord (HasWord s) o
 
 -- what the operation answers

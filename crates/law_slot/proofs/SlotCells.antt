@@ -3,7 +3,9 @@ use Rattle.std.proofs.Common.{ℕ, ◌≡◌, ◌≢◌, ◌∙◌, Bool, Option
 use Rattle.std.proofs.lemmas.Bool.{eq-eqb}
 use Rattle.law_common.specs.Effects.{IsBetween, Touches}
 use Rattle.law_common.specs.Stand.{Stand}
-use Rattle.law_slot.specs.SlotShared.{CanOperate}
+use Rattle.law_common.specs.Operations.{OnWord}
+use Rattle.law_common.specs.Vocabulary.{Op}
+use Rattle.law_slot.specs.SlotShared.{IsLock, CanOperate}
 use Rattle.law_slot.specs.SlotHolder.{SlotHolder, Nobody}
 use Rattle.law_slot.specs.SlotRows.{Codes, free_empty, free_full, At, push_try, push_put, force_put_empty, force_put_full, pop_take}
 use Rattle.law_slot.specs.SlotCells.{Slot, own_in, Passes, lent_by, Lent, IsHeld}
@@ -39,6 +41,11 @@ at_whole x b = b
 pub at_lock : {T : Type 0} {x : Stand T} {own : SlotHolder T} → At x own → CanOperate x.op
 at_lock (push_try v) = tt
 at_lock x = tt
+
+pub on_lock : (o : Op ℕ) → CanOperate o → OnWord IsLock o
+on_lock (Op.Store w x) can = absurd can
+on_lock (Op.Add w x) can = absurd can
+on_lock o can = can
 
 -- the slot is touched by the party who has it
 pub at_touches : {T : Type 0} {x : Stand T} {own : SlotHolder T} (i : ℕ) → At x own → Touches x.touch i → (y : Option T) × (lent_by own ≡ (i, y) ∷ [])

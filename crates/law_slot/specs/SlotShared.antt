@@ -15,8 +15,10 @@ abbrev pub IsLock : Word ℕ → Type 0
 IsLock Word.Lock = Unit {0}
 IsLock _ = ⊥
 
--- the operation is one on it
+-- the operation is one on it. No call stores there or adds
 abbrev pub CanOperate : Op ℕ → Type 0
+CanOperate (Op.Store w x) = ⊥
+CanOperate (Op.Add w x) = ⊥
 CanOperate o = OnWord IsLock o
 
 -- what the operation answers

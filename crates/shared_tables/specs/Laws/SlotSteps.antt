@@ -19,7 +19,7 @@ use Rattle.law_slot.proofs.SlotSteps.{step_good}
 use Rattle.law_slot.proofs.SlotRanks.{can_operate}
 use Rattle.law_slot.proofs.SlotHolder.{share_of, next_who, own_self, own_other}
 use Rattle.law_slot.specs.SlotCells.{Slot, queue_of, own_in, lent_by, Lent, IsHeld}
-use Rattle.law_slot.proofs.SlotCells.{nobody_if, held_lent, at_stays, lent_stays, at_whole, at_lock, at_touches}
+use Rattle.law_slot.proofs.SlotCells.{nobody_if, held_lent, at_stays, lent_stays, at_whole, at_lock, on_lock, at_touches}
 use Rattle.law_common.proofs.Moments.{seen_map}
 use Rattle.shared_parties.specs.Calling.{touched_list, lies_in, handed_by, NextOk, CallLaws}
 use Rattle.shared_tables.specs.TableRule.{TakesOff, TableStepOk, OpensIn, TableLaws}
@@ -232,7 +232,7 @@ module _ {T : Type 0} where
   slot_table_laws = record {
     calls = slot_call_laws;
     below = λ w has. omega arith;
-    at_word = λ g j ms was c ok here. at_lock here;
+    at_word = λ g j ms was c ok here. on_lock c.op (at_lock here);
     steps = λ g who n ws hs ms was c xs ok coded here lent. slot_steps g who n ws hs ms was c xs coded here lent;
     takes_off = λ g who n ws hs ms was c ok coded here. slot_takes_off g who n ws hs c coded here;
     gives = λ spare none. none;
