@@ -6,6 +6,7 @@ ghost use Rattle.queue_steps.specs.declared.steps.types.Op.{Op as SpecOp};
 ghost use Rattle.queue_steps.specs.declared.steps.types.Touch.{Touch as SpecTouch};
 ghost use Rattle.queue_steps.specs.declared.steps.types.Answer.{Answer as SpecAnswer};
 ghost use Rattle.queue_steps.specs.declared.steps.types.Touch.TheVariants.{Nothing};
+ghost use Rattle.queue_steps.specs.Legal.{IsSoundOwned};
 ghost use Rattle.queue_steps.specs.Sequential.{Owned};
 ghost use Rattle.queue_steps.specs.LookNext.{IsLoad};
 ghost use Rattle.call_driver.specs.EndsIn.{EndsRight};
@@ -80,6 +81,9 @@ pub trait OwnCells {
 
     /// Where nothing is touched, all stays.
     ghost stays: { (cells : Self) (op : SpecOp Self.Block) (carried : Option Self.Item) → touches cells Nothing op carried cells carried };
+
+    /// Between calls the queue is sound.
+    ghost sound: { (cells : Self) → idle cells → IsSoundOwned (owned cells) };
 
     /// Every call ends, with its reply.
     ghost answers: { (cells : Self) (call : SpecCall Self.Item) → idle cells → EndsRight can_touch touches can_perform performs can_release releases idle owned (kind_of cells) call cells };

@@ -7,7 +7,7 @@ use Rattle.std.specs.contracts.alloc.Global as global
 use Rattle.std.specs.contracts.impls.GlobalAllocator.TheImpl.{ghosts}
 use Rattle.std.proofs.Crossing.{frees, send, sync}
 use Rattle.own_bounded.proofs.Sent.{ring_send, ring_sync}
-use Rattle.exclusive_queue.specs.contracts.exclusive.Form.{the_row as form_row, enum as form_enum}
+use Rattle.exclusive_queue.specs.contracts.exclusive.form.Form.{the_row as form_row, enum as form_enum}
 use Rattle.exclusive_queue.specs.contracts.exclusive.Exclusive.{the_row as exclusive_row}
 use Rattle.exclusive_queue.specs.contracts.exclusive.Exclusive.TheInside.{the_type as exclusive_type}
 use Rattle.own_unbounded.proofs.unbounded.LinkedBlocks.TheSendSync.{the_send as blocks_send, the_sync as blocks_sync}

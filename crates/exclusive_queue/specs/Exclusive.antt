@@ -3,8 +3,8 @@ use Rattle.queue_steps.specs.Sequential.{Owned}
 use Rattle.own_bounded.specs.SingleCells as single
 use Rattle.own_bounded.specs.RingOwned as ring
 use Rattle.own_unbounded.specs.OwnChainOwned as line
-use Rattle.exclusive_queue.specs.declared.exclusive.Form.{Form}
-use Rattle.exclusive_queue.specs.declared.exclusive.Form.TheVariants as form
+use Rattle.exclusive_queue.specs.declared.exclusive.form.Form.{Form}
+use Rattle.exclusive_queue.specs.declared.exclusive.form.Form.TheVariants as form
 use Rattle.exclusive_queue.specs.declared.exclusive.Exclusive.TheInside.{Inside}
 
 abbrev pub form_owned : {T A : Type 0} → Form T A → Owned T

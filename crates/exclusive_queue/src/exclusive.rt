@@ -38,9 +38,11 @@ use std::alloc::{AllocError, Allocator, Global};
 use std::fmt;
 use std::marker::Model;
 
+mod form;
 mod iter;
 mod reading;
 
+use form::Form;
 pub use iter::TryIter;
 pub use reading::{IntoIter, Iter};
 
@@ -49,16 +51,6 @@ pub use reading::{IntoIter, Iter};
 /// A contract sees the abstract queue and the number of blocks that it holds. Each call answers by the table of one owner, `Sequential`.
 pub struct Exclusive<T, A: Allocator = Global> {
     form: Form<T, A>,
-}
-
-/// How the items are kept.
-enum Form<T, A: Allocator> {
-    /// One slot.
-    Single(Single<T>),
-    /// A ring of slots.
-    Bounded(Ring<T, A>),
-    /// A chain of blocks.
-    Unbounded(LinkedBlocks<T, A>),
 }
 
 impl<T, A: Allocator> Model for Exclusive<T, A> {
@@ -112,42 +104,6 @@ fn give_up<T: Drop, A: Allocator>(mut blocks: LinkedBlocks<T, A>)
         }
     }
     blocks.end();
-}
-
-impl<T, A: Allocator> Form<T, A> {
-    ghost use Rattle.std.specs.Prelude.{IsTrue};
-    ghost use Rattle.queue_steps.specs.Looks.{IsLook, look_reply};
-    ghost use Rattle.exclusive_queue.specs.Exclusive.{form_owned, IsFormIdle};
-
-    /// Runs a call to its end. The place of the value that it carries is lent, and then holds what it ends with.
-    #[inline(always)]
-    fn settle<W>(&mut self, call: CallKind, carried: &mut Option<T>) -> ReplyKind
-        requires idle { IsFormIdle self.old }
-        requires whole { FitsCall call carried.old }
-        ensures idle { IsFormIdle self.new }
-        ensures sequential { SequentialApart (form_owned self.old) call carried.old result carried.new (form_owned self.new) }
-    {
-        // the compiler tests last for what stands first: one slot, which has the fewest steps, is to be found by one test
-        match self {
-            Form::Bounded(ring) => ring.settle::<W>(call, carried),
-            Form::Unbounded(blocks) => blocks.settle::<W>(call, carried),
-            Form::Single(single) => single.settle::<W>(call, carried),
-        }
-    }
-
-    /// Runs a call that changes nothing to its end.
-    #[inline(always)]
-    fn look(&self, call: CallKind) -> ReplyKind
-        requires idle { IsFormIdle self.now }
-        requires look { IsLook call }
-        ensures { result ≡ look_reply (form_owned self.now).queue call }
-    {
-        match self {
-            Form::Single(single) => single.look(call),
-            Form::Bounded(ring) => ring.look(call),
-            Form::Unbounded(blocks) => blocks.look(call),
-        }
-    }
 }
 
 impl<T, A: Allocator> Sealed<T> for Exclusive<T, A> {

@@ -2,7 +2,7 @@
 use Rattle.std.proofs.Common.{◌≡◌, ℕ, suc, ◌+◌, ◌-◌, ◌%◌, ◌<◌, ◌≤◌, List, ◌∷◌, length, Some, arith, sym, ap, ◌∙◌, mod-lt}
 use Rattle.std.proofs.Math.Nat.{suc-mod, mod-eq_of_lt, mod_self}
 use Rattle.queue_steps.specs.Words.{position_of, slot_at}
-use Rattle.own_bounded.specs.RingCells.{RingState, RingSlot, slot_in}
+use Rattle.own_bounded.specs.RingCells.{RingState, item_at}
 use Rattle.own_bounded.specs.RingOwned.{put_in, at_position, items_of, ring_queue, IsIdle}
 use Rattle.own_bounded.specs.ItemsLeft.{next_position, items_left, Reads}
 
@@ -34,16 +34,16 @@ module _ {T : Type 0} (r : RingState T) where
     pub below : slot < length r.slots
     below = let low = within in let long = now.idle.holds.slotted in omega arith
 
-    pub full : (x : T) × ((slot_in r.slots slot).item ≡ Some x)
+    pub full : (x : T) × (item_at r slot ≡ Some x)
     full =
         let few = now.within in let order = now.idle.holds.order in let here = now.idle.holds.filled p (omega arith) (omega arith) in
-        (here.0, ap (λ s. (slot_in r.slots s).item) now.in_slot ∙ ap (λ (s : RingSlot T). s.item) here.1)
+        (here.0, ap (item_at r) now.in_slot ∙ here.2)
 
     -- the item is the first of those that are left
-    pub reads : (x : T) → (slot_in r.slots slot).item ≡ Some x → items_left r left ≡ x ∷ items_left r (left - 1)
+    pub reads : (x : T) → item_at r slot ≡ Some x → items_left r left ≡ x ∷ items_left r (left - 1)
     reads x is =
         let one : left ≡ suc (left - 1) = omega arith in let on = next in let more : p + 1 ≡ next_position r (left - 1) = omega arith in
-        let item : (at_position r.cap r.slots p).item ≡ Some x = sym (ap (λ s. (slot_in r.slots s).item) now.in_slot) ∙ is in
+        let item : at_position r.cap r.slots p ≡ Some x = sym (ap (item_at r) now.in_slot) ∙ is in
         ap (items_of r.cap r.slots p) one ∙ (ap (λ o. put_in o (items_of r.cap r.slots (p + 1) (left - 1))) item ∙ ap (λ q. x ∷ items_of r.cap r.slots q (left - 1)) more)
 
     -- the slot of the next position

@@ -10,10 +10,10 @@ use Rattle.queue_steps.specs.State.{start}
 use Rattle.queue_steps.specs.Words.{IsRing, position_of, is_shut, slot_at}
 use Rattle.own_bounded.specs.RingOwned.{HoldsItems, items_of, IsIdle, ring_owned}
 use Rattle.law_ring.proofs.RingIdle.{same_position}
-use Rattle.own_bounded.specs.RingMemory.{paired, ring_in}
+use Rattle.own_bounded.specs.RingMemory.{ring_in}
 use Rattle.own_bounded.specs.RingWords.{words_behind}
 use Rattle.own_bounded.specs.RingOpening.{Opened, IsOpening, IsUntouched}
-use Rattle.own_bounded.proofs.RingWrites.{elem_or, length_paired, pair_at}
+use Rattle.own_bounded.proofs.RingWrites.{elem_or}
 
 pub Opened-none : (n cap : ℕ) → Opened n cap 0 []
 Opened-none n cap = record { long = refl; free = λ k h. absurd (omega arith) }
@@ -40,11 +40,12 @@ homes_at (suc n) (suc k) a lt = homes_at n k a (omega arith)
 
 module _ {T : Type 0} where
   Opened-holds : (n cap : ℕ) (stamps : List ℕ) (xs : List (Option T)) → 0 < cap → length xs ≡ cap → ((k : ℕ) → k < cap → get_or xs k None ≡ None) → Opened n cap cap stamps
-      → HoldsItems cap n n (paired stamps xs)
+      → HoldsItems cap n n stamps xs
   Opened-holds n cap stamps xs wide long empty o =
       record {
         some = wide;
-        slotted = length_paired stamps xs cap o.long long;
+        stamped = o.long;
+        slotted = long;
         order = omega arith;
         within = omega arith;
         filled = λ p low high. absurd (omega arith);
@@ -52,7 +53,7 @@ module _ {T : Type 0} where
             let below : p % cap < cap = mod-lt p wide in
             let s = o.free (p % cap) below in
             let stamp : get_or stamps (p % cap) 0 ≡ p = s.1 ∙ same_position cap n s.0 p wide s.4 s.2 s.3 low high in
-            pair_at stamps xs (p % cap) (o.long ∙ sym long) ∙ (λ i. record { stamp = stamp i; item = empty (p % cap) below i });
+            (stamp, empty (p % cap) below);
       }
 
   -- with empty slots they are an empty open ring
@@ -67,7 +68,7 @@ module _ {T : Type 0} where
           below = omega arith;
           holds = rw half (Opened-holds n cap stamps xs (let wide = ring.0 in omega arith) long empty o);
         },
-        (λ i. record { queue = record { items = items_of cap (paired stamps xs) n (none i); cap = Some cap; closed = open_is i; coming = None; accepted = half i }; blocks = 0 }),
+        (λ i. record { queue = record { items = items_of cap xs n (none i); cap = Some cap; closed = open_is i; coming = None; accepted = half i }; blocks = 0 }),
       )
 
   -- the memory of a table that was closed untouched is an empty open ring

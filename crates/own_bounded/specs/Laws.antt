@@ -6,3 +6,4 @@ pub mod ComputedRuns
 pub mod RingParty
 pub mod RingSame
 pub mod RingRests
+pub mod Sound

@@ -11,28 +11,27 @@ use Rattle.queue_steps.specs.declared.steps.types.Touch.{Touch}
 use Rattle.queue_steps.specs.declared.steps.types.Touch.TheVariants as touch
 use Rattle.own_bounded.specs.ComputedSteps.{CanTouch, Touches, CanPerform, Performs}
 
--- a slot, and the stamp that says for which position it is free or filled
-pub record RingSlot (T : Type 0) : Type 0 where
-  pub stamp : ℕ
-  pub item : Option T
-
--- what is in a ring: how many slots, the two positions in their words, and the slots
+-- what is in a ring: how many slots, the two positions in their words, the stamps, each of which says for which position its slot is free or filled, and the slots
 pub record RingState (T : Type 0) : Type 0 where
   pub cap : ℕ
   pub head : ℕ
   pub tail : ℕ
-  pub slots : List (RingSlot T)
+  pub stamps : List ℕ
+  pub slots : List (Option T)
 
 abbrev pub kind_of_ring : {T : Type 0} → RingState T → Kind
 kind_of_ring r = kind.Bounded r.cap
 
--- the slot of this number; there is none beyond the last
-abbrev pub slot_in : {T : Type 0} → List (RingSlot T) → ℕ → RingSlot T
-slot_in slots i = get_or slots i (record { stamp = 0; item = None })
+-- the stamp and the content of the slot of this number; there is none beyond the last
+abbrev pub stamp_at : {T : Type 0} → RingState T → ℕ → ℕ
+stamp_at r i = get_or r.stamps i 0
+
+abbrev pub item_at : {T : Type 0} → RingState T → ℕ → Option T
+item_at r i = get_or r.slots i None
 
 -- the call's own place and a slot change their content
 abbrev pub exchanged : {T : Type 0} → RingState T → ℕ → Option T → RingState T × Option T
-exchanged r i carried = (record r { slots = slice_set r.slots i (record { stamp = (slot_in r.slots i).stamp; item = carried }) }, (slot_in r.slots i).item)
+exchanged r i carried = (record r { slots = slice_set r.slots i carried }, item_at r i)
 
 abbrev pub ring_touched : {T : Type 0} → RingState T → Touch → Op ℕ → Option T → RingState T × Option T
 ring_touched r touch.Nothing o carried = (r, carried)
@@ -44,12 +43,12 @@ ring_touched r (touch.Take i) o carried = exchanged r i carried
 abbrev pub ring_performed : {T : Type 0} → RingState T → Op ℕ → Answer ℕ × RingState T
 ring_performed r (op.Load word.Tail) = (answer.Found r.tail, r)
 ring_performed r (op.Load word.Head) = (answer.Found r.head, r)
-ring_performed r (op.Load (word.Stamp i)) = (answer.Found (slot_in r.slots i).stamp, r)
+ring_performed r (op.Load (word.Stamp i)) = (answer.Found (stamp_at r i), r)
 ring_performed r (op.Exchange word.Tail a b) = (answer.Found r.tail, record r { tail = if r.tail == a then b else r.tail })
 ring_performed r (op.Exchange word.Head a b) = (answer.Found r.head, record r { head = if r.head == a then b else r.head })
 ring_performed r (op.Or word.Tail bits) = (answer.Found r.tail, record r { tail = bit_or r.tail bits })
 ring_performed r (op.Add word.Tail more) = (answer.Found r.tail, record r { tail = r.tail + more })
-ring_performed r (op.Store (word.Stamp i) stamp) = (answer.Done, record r { slots = slice_set r.slots i (record { stamp = stamp; item = (slot_in r.slots i).item }) })
+ring_performed r (op.Store (word.Stamp i) stamp) = (answer.Done, record r { stamps = slice_set r.stamps i stamp })
 ring_performed r _ = (answer.Done, r)
 
 abbrev pub ring_touchable : {T : Type 0} → RingState T → Touch → Op ℕ → Bool
@@ -62,12 +61,12 @@ ring_touchable r (touch.Take i) o = nat_lt i (length r.slots)
 abbrev pub ring_operable : {T : Type 0} → RingState T → Op ℕ → Bool
 ring_operable r (op.Load word.Tail) = true
 ring_operable r (op.Load word.Head) = true
-ring_operable r (op.Load (word.Stamp i)) = nat_lt i (length r.slots)
+ring_operable r (op.Load (word.Stamp i)) = nat_lt i (length r.stamps)
 ring_operable r (op.Exchange word.Tail a b) = true
 ring_operable r (op.Exchange word.Head a b) = true
 ring_operable r (op.Or word.Tail bits) = true
 ring_operable r (op.Add word.Tail more) = nat_lt (r.tail + more) (2 ^ 64)
-ring_operable r (op.Store (word.Stamp i) stamp) = nat_lt i (length r.slots)
+ring_operable r (op.Store (word.Stamp i) stamp) = nat_lt i (length r.stamps)
 ring_operable r _ = false
 
 abbrev pub ring_can_touch : {T : Type 0} → RingState T → Touch → Op ℕ → Type 0

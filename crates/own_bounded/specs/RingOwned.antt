@@ -4,42 +4,37 @@ use Rattle.queue_steps.specs.declared.sizes.TheConstants.{LIMIT}
 use Rattle.queue_steps.specs.State.{State}
 use Rattle.queue_steps.specs.Sequential.{Owned}
 use Rattle.queue_steps.specs.Words.{IsRing, position_of, is_shut, slot_at, stamp_free, stamp_filled}
-use Rattle.own_bounded.specs.RingCells.{RingState, RingSlot, slot_in}
-use Rattle.std.proofs.Common.{◌≡◌, ℕ, zero, suc, ◌+◌, ◌<◌, List, [], ◌∷◌, length, Option}
+use Rattle.own_bounded.specs.RingCells.{RingState}
+use Rattle.std.proofs.Common.{◌≡◌, ℕ, zero, suc, ◌+◌, ◌<◌, List, [], ◌∷◌, length, get_or, Option}
 
--- the slot of a position
-abbrev pub at_position : {T : Type 0} → ℕ → List (RingSlot T) → ℕ → RingSlot T
-at_position n slots p = slot_in slots (slot_at n p)
-
-abbrev pub filled_slot : {T : Type 0} → ℕ → T → RingSlot T
-filled_slot p v = record { stamp = stamp_filled p; item = Some v }
-
-abbrev pub free_slot : {T : Type 0} → ℕ → RingSlot T
-free_slot p = record { stamp = stamp_free p; item = None }
+-- what is in the slot of a position
+abbrev pub at_position : {T : Type 0} → ℕ → List (Option T) → ℕ → Option T
+at_position n slots p = get_or slots (slot_at n p) None
 
 -- of n slots, those of the positions from h on, before t, hold items and are stamped so; the others of the lap are free
-pub record HoldsItems {T : Type 0} (n h t : ℕ) (slots : List (RingSlot T)) : Type 0 where
+pub record HoldsItems {T : Type 0} (n h t : ℕ) (stamps : List ℕ) (slots : List (Option T)) : Type 0 where
   pub some : 0 < n
+  pub stamped : length stamps ≡ n
   pub slotted : length slots ≡ n
   pub order : h ≤ t
   pub within : t ≤ h + n
-  pub filled : (p : ℕ) → h ≤ p → p < t → (v : T) × (at_position n slots p ≡ filled_slot p v)
-  pub free : (p : ℕ) → t ≤ p → p < h + n → at_position n slots p ≡ free_slot p
+  pub filled : (p : ℕ) → h ≤ p → p < t → (v : T) × (get_or stamps (slot_at n p) 0 ≡ stamp_filled p) × (at_position n slots p ≡ Some v)
+  pub free : (p : ℕ) → t ≤ p → p < h + n → (get_or stamps (slot_at n p) 0 ≡ stamp_free p) × (at_position n slots p ≡ None)
 
 abbrev pub put_in : {T : Type 0} → Option T → List T → List T
 put_in None xs = xs
 put_in (Some x) xs = x ∷ xs
 
 -- the items of k positions from p on
-abbrev pub items_of : {T : Type 0} → ℕ → List (RingSlot T) → ℕ → ℕ → List T
+abbrev pub items_of : {T : Type 0} → ℕ → List (Option T) → ℕ → ℕ → List T
 items_of n slots p zero = []
-items_of n slots p (suc k) = put_in (at_position n slots p).item (items_of n slots (p + 1) k)
+items_of n slots p (suc k) = put_in (at_position n slots p) (items_of n slots (p + 1) k)
 
 -- no call is on its way
 pub record IsIdle {T : Type 0} (r : RingState T) : Type 0 where
   pub ring : IsRing r.cap
   pub below : position_of r.tail ≤ LIMIT
-  pub holds : HoldsItems r.cap r.head (position_of r.tail) r.slots
+  pub holds : HoldsItems r.cap r.head (position_of r.tail) r.stamps r.slots
 
 -- the items from the head's position to the tail's. As many items were accepted as the tail's position says
 abbrev pub ring_queue : {T : Type 0} → RingState T → State T

@@ -5,7 +5,7 @@ ghost use Rattle.queue_steps.specs.LookNext.{IsLoad};
 ghost use Rattle.queue_steps.specs.State.{start};
 ghost use Rattle.queue_steps.specs.Words.{slot_at};
 ghost use Rattle.queue_steps.specs.declared.sizes.TheConstants.{LIMIT, MAX_CAPACITY};
-ghost use Rattle.own_bounded.specs.RingCells.{slot_in};
+ghost use Rattle.own_bounded.specs.RingCells.{stamp_at, item_at};
 ghost use Rattle.own_bounded.specs.RingOpening.{IsOpening};
 ghost use Rattle.own_bounded.specs.declared.ring_words.TheConstants.{STAMPS};
 
@@ -164,8 +164,8 @@ impl<T, A: Allocator> Ring<T, A> {
 
     #[inline(always)]
     fn stamp(&self, slot: usize) -> u64
-        requires { slot < length self.now.slots }
-        ensures { result ≡ (slot_in self.now.slots slot).stamp }
+        requires { slot < length self.now.stamps }
+        ensures { result ≡ stamp_at self.now slot }
     {
         self.memory.word(STAMPS + slot)
     }
@@ -196,8 +196,8 @@ impl<T, A: Allocator> Ring<T, A> {
 
     #[inline(always)]
     fn set_stamp(&mut self, slot: usize, stamp: u64)
-        requires { slot < length self.old.slots }
-        ensures { self.new ≡ record self.old { slots = slice_set self.old.slots slot (record { stamp = stamp; item = (slot_in self.old.slots slot).item }) } }
+        requires { slot < length self.old.stamps }
+        ensures { self.new ≡ record self.old { stamps = slice_set self.old.stamps slot stamp } }
     {
         self.memory.words.put(STAMPS + slot, stamp);
     }
@@ -206,8 +206,8 @@ impl<T, A: Allocator> Ring<T, A> {
     #[inline(always)]
     fn exchange(&mut self, slot: usize, value: Option<T>) -> Option<T>
         requires { slot < length self.old.slots }
-        ensures taken { result ≡ (slot_in self.old.slots slot).item }
-        ensures put { self.new ≡ record self.old { slots = slice_set self.old.slots slot (record { stamp = (slot_in self.old.slots slot).stamp; item = value }) } }
+        ensures taken { result ≡ item_at self.old slot }
+        ensures put { self.new ≡ record self.old { slots = slice_set self.old.slots slot value } }
     {
         let item = self.memory.slots.take(slot);
         self.memory.slots.put(slot, value);
@@ -259,10 +259,13 @@ impl<T, A: Allocator> OwnCells for Ring<T, A> {
 
     ghost use Rattle.std.specs.Prelude.{refl};
     ghost use Rattle.own_bounded.specs.Laws.RingAnswers.{ring_answers, ring_stays};
+    ghost use Rattle.own_bounded.specs.Laws.Sound.{ring_sound};
 
     ghost steps_fit = { λ ring. (ring.cap, refl) };
 
     ghost stays = { ring_stays };
+
+    ghost sound = { ring_sound };
 
     ghost answers = { ring_answers };
 

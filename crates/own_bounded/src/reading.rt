@@ -2,7 +2,7 @@
 ghost use Rattle.std.specs.Prelude.{◌≡◌, ◌<◌, length};
 ghost use Rattle.std.specs.Iterator.{at_most};
 ghost use Rattle.std.specs.Map.Iter.{TakesFirst, deref};
-ghost use Rattle.own_bounded.specs.RingCells.{slot_in};
+ghost use Rattle.own_bounded.specs.RingCells.{item_at};
 ghost use Rattle.own_bounded.specs.RingOwned.{IsIdle, ring_queue};
 
 use crate::bounded::Ring;
@@ -37,7 +37,7 @@ impl<T, A: Allocator> Ring<T, A> {
     /// What is in a slot.
     fn content(&self, slot: usize) -> &Option<T>
         requires { slot < length self.now.slots }
-        ensures { result.now ≡ (slot_in self.now.slots slot).item }
+        ensures { result.now ≡ item_at self.now slot }
     {
         self.memory.slots.get(slot)
     }

@@ -55,10 +55,13 @@ impl<T> OwnCells for Single<T> {
 
     ghost use Rattle.std.specs.Prelude.{refl};
     ghost use Rattle.own_bounded.specs.Laws.SingleAnswers.{single_answers, single_stays};
+    ghost use Rattle.own_bounded.specs.Laws.Sound.{single_sound};
 
     ghost steps_fit = { λ _. refl };
 
     ghost stays = { single_stays };
+
+    ghost sound = { single_sound };
 
     ghost answers = { single_answers };
 

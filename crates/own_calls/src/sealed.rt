@@ -5,12 +5,9 @@ ghost use Rattle.queue_steps.specs.Looks.{IsLook, look_reply};
 ghost use Rattle.queue_steps.specs.Sequential.{Owned};
 ghost use Rattle.call_driver.specs.Apart.{FitsCall, SequentialApart};
 
+use call_driver::cells::OwnCells;
 use call_driver::own::{drive, observe};
-use own_bounded::bounded::Ring;
-use own_bounded::single::Single;
-use own_unbounded::unbounded::LinkedBlocks;
 use queue_steps::model::{CallKind, ReplyKind};
-use std::alloc::Allocator;
 
 /// What keeps the items of a queue with one owner. `exclusive_queue` does not give it on, so who has that crate alone can make no `Store`.
 pub trait Sealed<T> {
@@ -39,76 +36,24 @@ pub trait Sealed<T> {
         ensures { IsSoundOwned (owned self.now) };
 }
 
-impl<T> Sealed<T> for Single<T> {
-    ghost use Rattle.own_bounded.specs.SingleCells.{IsIdle, single_owned};
+impl<T, C: OwnCells<Item = T>> Sealed<T> for C {
+    ghost idle = { C.idle };
 
-    ghost idle = { IsIdle };
-
-    ghost owned = { single_owned };
+    ghost owned = { C.owned };
 
     #[inline(always)]
     fn settle<W>(&mut self, call: CallKind, carried: &mut Option<T>) -> ReplyKind
-        requires idle { IsIdle self.old }
+        requires idle { C.idle self.old }
         requires whole { FitsCall call carried.old }
-        ensures idle { IsIdle self.new }
-        ensures sequential { SequentialApart (single_owned self.old) call carried.old result carried.new (single_owned self.new) }
+        ensures idle { C.idle self.new }
+        ensures sequential { SequentialApart (C.owned self.old) call carried.old result carried.new (C.owned self.new) }
     {
-        drive::<Single<T>, W>(self, call, carried)
+        drive::<C, W>(self, call, carried)
     }
 
     #[inline(always)]
     fn look(&self, call: CallKind) -> ReplyKind {
-        observe::<Single<T>>(self, call)
-    }
-
-    fn show_sound(&self) {}
-}
-
-impl<T, A: Allocator> Sealed<T> for Ring<T, A> {
-    ghost use Rattle.own_bounded.specs.RingOwned.{IsIdle, ring_owned};
-
-    ghost idle = { IsIdle };
-
-    ghost owned = { ring_owned };
-
-    #[inline(always)]
-    fn settle<W>(&mut self, call: CallKind, carried: &mut Option<T>) -> ReplyKind
-        requires idle { IsIdle self.old }
-        requires whole { FitsCall call carried.old }
-        ensures idle { IsIdle self.new }
-        ensures sequential { SequentialApart (ring_owned self.old) call carried.old result carried.new (ring_owned self.new) }
-    {
-        drive::<Ring<T, A>, W>(self, call, carried)
-    }
-
-    #[inline(always)]
-    fn look(&self, call: CallKind) -> ReplyKind {
-        observe::<Ring<T, A>>(self, call)
-    }
-
-    fn show_sound(&self) {}
-}
-
-impl<T, A: Allocator> Sealed<T> for LinkedBlocks<T, A> {
-    ghost use Rattle.own_unbounded.specs.OwnChainOwned.{IsIdle, own_chain_owned};
-
-    ghost idle = { IsIdle };
-
-    ghost owned = { own_chain_owned };
-
-    #[inline(always)]
-    fn settle<W>(&mut self, call: CallKind, carried: &mut Option<T>) -> ReplyKind
-        requires idle { IsIdle self.old }
-        requires whole { FitsCall call carried.old }
-        ensures idle { IsIdle self.new }
-        ensures sequential { SequentialApart (own_chain_owned self.old) call carried.old result carried.new (own_chain_owned self.new) }
-    {
-        drive::<LinkedBlocks<T, A>, W>(self, call, carried)
-    }
-
-    #[inline(always)]
-    fn look(&self, call: CallKind) -> ReplyKind {
-        observe::<LinkedBlocks<T, A>>(self, call)
+        observe::<C>(self, call)
     }
 
     fn show_sound(&self) {}

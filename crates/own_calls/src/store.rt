@@ -7,9 +7,9 @@ ghost use Rattle.queue_steps.specs.Sequential.{Sequential};
 ghost use Rattle.queue_steps.specs.declared.model.Call.TheVariants as call;
 ghost use Rattle.queue_steps.specs.declared.model.Reply.TheVariants as reply;
 
-use crate::fill_reply::{Closes, Displaces, FillReply, Pops, Pushes};
 use crate::sealed::Sealed;
 use queue_steps::errors::{ForcePushError, PopError, PushError};
+use queue_steps::fill_reply::{Closes, Displaces, FillReply, Pops, Pushes};
 use queue_steps::model::{Call, Reply};
 
 /// Runs a call to its end, and puts its reply together.

@@ -107,10 +107,13 @@ impl<T, A: Allocator> OwnCells for LinkedBlocks<T, A> {
 
     ghost use Rattle.std.specs.Prelude.{refl};
     ghost use Rattle.own_unbounded.specs.Laws.OwnChainAnswers.{own_chain_answers, own_chain_stays};
+    ghost use Rattle.own_unbounded.specs.Laws.OwnChainSequential.{own_chain_sound};
 
     ghost steps_fit = { λ _. refl };
 
     ghost stays = { own_chain_stays };
+
+    ghost sound = { own_chain_sound };
 
     ghost answers = { own_chain_answers };
 

@@ -2,6 +2,7 @@
 #![tactic(auto)]
 
 pub mod errors;
+pub mod fill_reply;
 pub mod laws;
 pub mod model;
 pub mod sizes;

@@ -1,6 +1,6 @@
 -- What is left of a shared ring that its only party ended is a ring with one owner, in the state after the history.
 use Rattle.std.proofs.Common.{◌≡◌, ℕ, ◌<◌, List, ◌∷◌, length, get_or, Option, Some, None, inr, refl, ap, sym, ◌∙◌, subst}
-use mathlib.Core.Option.{some, some-injective, some-ne-none}
+use mathlib.Core.Option.{some}
 use mathlib.Core.Option as maybe
 use lib.ListN.{get_elem?}
 use Rattle.atomic_table.specs.Table.{Final, Seen}
@@ -19,11 +19,10 @@ use Rattle.shared_tables.specs.Seats.{count_of}
 use Rattle.shared_parties.specs.CallStates.{IsLoneSeat}
 use Rattle.shared_tables.specs.TableRule.{Rule}
 use Rattle.shared_tables.specs.RingTable.{home_when, Homes, ring_words, ring_table}
-use Rattle.own_bounded.specs.RingCells.{slot_in}
 use Rattle.own_bounded.specs.RingOwned.{IsIdle, ring_queue}
 use Rattle.own_bounded.specs.Laws.RingRests.{rested_idle, rested_queue}
-use Rattle.own_bounded.specs.RingMemory.{paired, ring_in}
-use Rattle.own_bounded.proofs.RingWrites.{elem_or, length_paired, pair_at}
+use Rattle.own_bounded.specs.RingMemory.{ring_in}
+use Rattle.own_bounded.proofs.RingWrites.{elem_or}
 use Rattle.shared_tables.proofs.TableRests.{table_ends}
 
 module _ {T : Type 0} where
@@ -31,11 +30,7 @@ module _ {T : Type 0} where
   ring_rests : (cap : ℕ) (r : Ring T) (s : Shared T) (n : ℕ) (xs : List (Option T)) → RingOk cap r → Codes cap r s → AtRest cap r s → length xs ≡ cap → ((i : ℕ) → i < cap → get_or xs i None ≡ get_or s.slots i None)
       → IsIdle (ring_in cap (n ∷ ring_words s) xs) × (ring_queue (ring_in cap (n ∷ ring_words s) xs) ≡ queue_of cap r)
   ring_rests cap r s n xs ok codes rest long lies =
-      let slots = paired s.stamps xs in
-      let many : length slots ≡ cap = length_paired s.stamps xs cap codes.stamped long in
-      let at : (i : ℕ) → i < cap → slot_in slots i ≡ record { stamp = get_or s.stamps i 0; item = get_or s.slots i None } = λ i lt.
-      pair_at s.stamps xs i (codes.stamped ∙ sym long) ∙ ap (λ (x : Option T). record { stamp = get_or s.stamps i 0; item = x }) (lies i lt) in
-      (rested_idle cap r s slots ok codes rest many at, rested_queue cap r s slots ok codes rest many at)
+      (rested_idle cap r s xs ok codes rest long lies, rested_queue cap r s xs ok codes rest long lies)
 
   -- where nobody has a slot all are at home
   all_home : (cap : ℕ) (r : Ring T) (s : Shared T) (hs : List (maybe.Option (Option T))) → Codes cap r s → Homes cap r hs → NobodyHolds r → (i : ℕ) → i < cap → get_elem? hs i ≡ some (some (get_or s.slots i None))

@@ -3,7 +3,8 @@ ghost use Rattle.std.specs.Prelude.{◌≡◌, ◌<◌, ◌↔◌, length, IsSom
 ghost use Rattle.std.specs.Iterator.{at_most};
 ghost use Rattle.std.specs.Map.Iter.{TakesFirst, ShowsInOrder, GivesInOrder, deref};
 
-use crate::exclusive::{Exclusive, Form};
+use crate::exclusive::Exclusive;
+use crate::exclusive::form::Form;
 use own_bounded::reading::Items as RingItems;
 use own_unbounded::reading::Items as BlockItems;
 use std::alloc::{Allocator, Global};

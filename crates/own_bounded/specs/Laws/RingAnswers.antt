@@ -1,7 +1,6 @@
 -- Every call on a ring ends with its reply: it is a call of the only party, whose steps are those of the laws of parties.
 use Rattle.std.specs.Prelude.{◌==◌, if◌then◌else◌}
-use Rattle.std.proofs.Common.{◌≡◌, ◌||◌, ℕ, zero, suc, ◌<◌, ◌≤◌, not, Bool, true, false, List, [], ◌∷◌, length, get_or, Option, Some, None, Err, refl, arith, sym, ap, ◌∙◌, subst, inl, inr}
-use Rattle.std.proofs.lemmas.List.{get_or-map, length-map}
+use Rattle.std.proofs.Common.{◌≡◌, ◌||◌, ℕ, zero, suc, ◌<◌, ◌≤◌, not, Bool, true, false, List, [], ◌∷◌, Option, Some, None, Err, refl, arith, sym, ap, ◌∙◌, subst, inl, inr}
 use Rattle.queue_steps.specs.State.{State, is_single_cap}
 use Rattle.queue_steps.specs.Effect.{after_from}
 use Rattle.queue_steps.specs.Kinds.{call_kind, call_value, filled}
@@ -28,7 +27,7 @@ use Rattle.law_ring.proofs.RingFronts.{may_front}
 use Rattle.law_ring.proofs.RingStart.{at_first}
 use Rattle.law_ring.proofs.RingStep.{step_good}
 use Rattle.call_driver.specs.EndsIn.{EndsIn, EndsRight, Released, Replied, Answered}
-use Rattle.own_bounded.specs.RingCells.{RingSlot, RingState, slot_in, kind_of_ring, ring_touchable, ring_touched, ring_operable, ring_performed, ring_can_touch, ring_touches, ring_can_perform, ring_performs, ring_can_release, ring_releases}
+use Rattle.own_bounded.specs.RingCells.{RingState, kind_of_ring, ring_touchable, ring_touched, ring_operable, ring_performed, ring_can_touch, ring_touches, ring_can_perform, ring_performs, ring_can_release, ring_releases}
 use Rattle.own_bounded.specs.RingOwned.{IsIdle, ring_queue, ring_owned}
 use Rattle.own_bounded.specs.Laws.ComputedRuns.{EndsIn-step}
 use Rattle.own_bounded.specs.Laws.RingParty.{part, ring_of, nobody_holds, party_ok, party_codes}
@@ -80,12 +79,7 @@ module _ {T : Type 0} where
         there : RingOk r.cap g → Codes r.cap g (part r) → IsIdle r × (ring_queue r ≡ queue_of r.cap g)
         there ok codes =
             let rest : AtRest r.cap g (part r) = at_rest r.cap g (part r) ok codes (nobody g 0 none h.quiet) in
-            let long : length r.slots ≡ r.cap = sym (length-map r.slots (λ (s : RingSlot T). s.item)) ∙ codes.slotted in
-            let lies : (i : ℕ) → i < r.cap → slot_in r.slots i ≡ record { stamp = get_or (part r).stamps i 0; item = get_or (part r).slots i None } = λ i lt.
-            let stamp = get_or-map (λ (s : RingSlot T). s.stamp) r.slots i (record { stamp = 0; item = None }) 0 (rw long lt) in
-            let item = get_or-map (λ (s : RingSlot T). s.item) r.slots i (record { stamp = 0; item = None }) None (rw long lt) in
-            λ j. record { stamp = sym stamp j; item = sym item j } in
-            (rested_idle r.cap g (part r) r.slots ok codes rest long lies, rested_queue r.cap g (part r) r.slots ok codes rest long lies)
+            (rested_idle r.cap g (part r) r.slots ok codes rest codes.slotted (λ i lt. refl), rested_queue r.cap g (part r) r.slots ok codes rest codes.slotted (λ i lt. refl))
 
     -- the call ends with its reply
     ends : (r : RingState T) (g : Ring T) (ms : List (State T)) (was : Bool) (es : List (Effect T)) (x : Reply Unit) (v : Option T)

@@ -11,6 +11,7 @@ use Rattle.queue_steps.specs.declared.errors.ForcePushError.TheVariants as force
 use Rattle.queue_steps.specs.declared.steps.bounded.PushKind.{PushKind}
 use Rattle.queue_steps.specs.declared.steps.bounded.PushKind.TheVariants as push_kind
 use Rattle.queue_steps.specs.State.{State}
+use Rattle.queue_steps.specs.Legal.{IsSoundOwned}
 use Rattle.queue_steps.specs.Replies.{MayAsk}
 use Rattle.queue_steps.specs.Sequential.{Sequential, HoldsBlocks, blocks_of, sequential_reply, sequential_state, moved}
 use Rattle.queue_steps.specs.Words.{is_shut}
@@ -65,6 +66,9 @@ holds-blocks {T} r i = go (equal_or_above 0 (accepted r) (omega arith)) i.blocks
         let long = length-items r i in
         let back : accepted r - length (own_chain_queue r).items ≡ taken r = omega arith in
         inl (rw back (omega arith))
+
+pub own_chain_sound : {T : Type 0} (r : OwnChain T) → IsIdle r → IsSoundOwned (own_chain_owned r)
+own_chain_sound r i = (record { none_coming = refl; within = tt; counted = inr i.below }, holds-blocks r i)
 
 -- the call leaves what the table says, and no other block where nothing was accepted yet
 pub sequential : {T : Type 0} (r done : OwnChain T) (c : Call T) (x : Reply T) → IsIdle done → x ≡ sequential_reply (own_chain_queue r) c → own_chain_queue done ≡ sequential_state (own_chain_queue r) c

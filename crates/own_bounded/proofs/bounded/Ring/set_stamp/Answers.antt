@@ -1,19 +1,19 @@
 use Rattle.std.proofs.Common.{ap, ◌∙◌, arith}
 use Rattle.std.specs.Mem.Slots.{slots_items, slots_counts, slots_small}
 use Rattle.own_bounded.specs.RingMemory.{ring_in}
-use Rattle.own_bounded.proofs.RingLies.{slot_low, stamp_written}
+use Rattle.own_bounded.proofs.RingLies.{stamp_low, stamp_written}
 use Rattle.own_bounded.proofs.bounded.Ring.set_stamp.Goals as goal
 
 pub overflow_add-slot : goal.overflow_add-slot
 overflow_add-slot g c =
     let m = c.self.inside.memory in
-    let lt = slot_low c.self.inside.capacity (slots_items m.words) (slots_items m.slots) (slots_counts m.words).0 (slots_counts m.slots).0 c.self.inside.sized c.self.view_is c.args.slot c.requires in
+    let lt = stamp_low c.self.inside.capacity (slots_items m.words) (slots_items m.slots) (slots_counts m.words).0 (slots_counts m.slots).0 c.self.inside.sized c.self.view_is c.args.slot c.requires in
     let small = slots_small m.words in omega (arith, c.self.inside.sized.0, small)
 
 pub put-requires : goal.put-requires
 put-requires g c =
     let m = c.self.inside.memory in
-    let lt = slot_low c.self.inside.capacity (slots_items m.words) (slots_items m.slots) (slots_counts m.words).0 (slots_counts m.slots).0 c.self.inside.sized c.self.view_is c.args.slot c.requires in
+    let lt = stamp_low c.self.inside.capacity (slots_items m.words) (slots_items m.slots) (slots_counts m.words).0 (slots_counts m.slots).0 c.self.inside.sized c.self.view_is c.args.slot c.requires in
     omega (arith, c.self.inside.sized.0)
 
 pub returns : goal.returns

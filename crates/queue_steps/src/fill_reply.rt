@@ -6,11 +6,11 @@ ghost use Rattle.queue_steps.specs.Kinds.{call_of_reply, filled};
 ghost use Rattle.queue_steps.specs.declared.model.Call.{Call as SpecCall};
 ghost use Rattle.queue_steps.specs.declared.model.Call.TheVariants as call;
 
-use queue_steps::errors::{ForcePushError, PushError};
-use queue_steps::model::{Reply, ReplyKind};
+use crate::errors::{ForcePushError, PushError};
+use crate::model::{Reply, ReplyKind};
 
-/// One of the calls, for the driver: each has fast steps of its own.
-pub(crate) trait FillReply {
+/// One of the calls. Its type tells the driver which of the fast steps are its own.
+pub trait FillReply {
     /// The call, without its value.
     ghost call: { SpecCall Unit };
 
@@ -21,13 +21,17 @@ pub(crate) trait FillReply {
         ensures { filled kind carried ≡ Some result };
 }
 
-pub(crate) struct Pushes;
+/// A call of `push`.
+pub struct Pushes;
 
-pub(crate) struct Displaces;
+/// A call of `force_push`.
+pub struct Displaces;
 
-pub(crate) struct Pops;
+/// A call of `pop`.
+pub struct Pops;
 
-pub(crate) struct Closes;
+/// A call of `close`.
+pub struct Closes;
 
 impl FillReply for Pushes {
     ghost call = { call.Push tt };
