@@ -57,36 +57,37 @@ pub record PlaysSo (P : Owned ℕ) (all rest : List (Call ℕ)) (Q : Owned ℕ) 
 pub played_none : (P : Owned ℕ) (all rest : List (Call ℕ)) (held : List ℕ) (old : Option (List ℕ)) → rest ≡ all → PlaysSo P all rest P held held old old
 played_none P all rest held old same = record { done = []; parts = sym same; plays = record { replies = []; plays = refl; put = put_nothing old held } }
 
--- some calls more are played
-pub played_more : (P Q R : Owned ℕ) (all rest part after : List (Call ℕ)) (rs : List (Reply ℕ)) (held mid kept : List ℕ) (old now new : Option (List ℕ)) → PlaysSo P all rest Q held mid old now → rest ≡ part ++ after → SequentialRun Q part rs R
-    → LeavesRest now new (mid ++ replies_text rs) kept → PlaysSo P all after R held kept old new
-played_more P Q R all rest part after rs held mid kept old now new so is ran put =
-    let before = so.plays in
-    record {
-      done = so.done ++ part;
-      parts = so.parts ∙ ap (λ l. so.done ++ l) is ∙ sym (append_assoc so.done part after);
-      plays = record {
-        replies = before.replies ++ rs;
-        plays = run_then P Q R so.done part before.replies rs before.plays ran;
-        put = rw (then_text held before.replies rs) (rest-then old now new (held ++ replies_text before.replies) mid (replies_text rs) kept before.put put);
-      };
-    }
+module _ (P Q R : Owned ℕ) (all rest part after : List (Call ℕ)) (rs : List (Reply ℕ)) (held mid : List ℕ) where
+  -- some calls more are played
+  pub played_more : (kept : List ℕ) (old now new : Option (List ℕ)) → PlaysSo P all rest Q held mid old now → rest ≡ part ++ after → SequentialRun Q part rs R
+      → LeavesRest now new (mid ++ replies_text rs) kept → PlaysSo P all after R held kept old new
+  played_more kept old now new so is ran put =
+      let before = so.plays in
+      record {
+        done = so.done ++ part;
+        parts = so.parts ∙ ap (λ l. so.done ++ l) is ∙ sym (append_assoc so.done part after);
+        plays = record {
+          replies = before.replies ++ rs;
+          plays = run_then P Q R so.done part before.replies rs before.plays ran;
+          put = rw (then_text held before.replies rs) (rest-then old now new (held ++ replies_text before.replies) mid (replies_text rs) kept before.put put);
+        };
+      }
 
--- the replies to some calls more could not be put: whatever calls there are behind them, they have replies
-pub played_part : (P Q R : Owned ℕ) (all rest part after : List (Call ℕ)) (rs : List (Reply ℕ)) (held mid : List ℕ) (old now new : Option (List ℕ)) → PlaysSo P all rest Q held mid old now → rest ≡ part ++ after → SequentialRun Q part rs R
-    → IsBegun now new (mid ++ replies_text rs) → BeginsToPlay P all held old new
-played_part P Q R all rest part after rs held mid old now new so is ran begun =
-    let before = so.plays in
-    let left : HasReplies R after = goes R after in
-    let replies : List (Reply ℕ) = before.replies ++ rs in
-    let parts : all ≡ (so.done ++ part) ++ after = so.parts ∙ ap (λ l. so.done ++ l) is ∙ sym (append_assoc so.done part after) in
-    let here : IsBegun old new (held ++ replies_text replies) = rw (then_text held before.replies rs) (begun-then old now new (held ++ replies_text before.replies) mid (replies_text rs) before.put begun) in
-    record {
-      replies = replies ++ left.replies;
-      after = left.after;
-      plays = rw parts (run_then P R left.after (so.done ++ part) after replies left.replies (run_then P Q R so.done part before.replies rs before.plays ran) left.plays);
-      begun = rw (then_text held replies left.replies) (begun-more old new (held ++ replies_text replies) (replies_text left.replies) here);
-    }
+  -- the replies to some calls more could not be put: whatever calls there are behind them, they have replies
+  pub played_part : (old now new : Option (List ℕ)) → PlaysSo P all rest Q held mid old now → rest ≡ part ++ after → SequentialRun Q part rs R
+      → IsBegun now new (mid ++ replies_text rs) → BeginsToPlay P all held old new
+  played_part old now new so is ran begun =
+      let before = so.plays in
+      let left : HasReplies R after = goes R after in
+      let replies : List (Reply ℕ) = before.replies ++ rs in
+      let parts : all ≡ (so.done ++ part) ++ after = so.parts ∙ ap (λ l. so.done ++ l) is ∙ sym (append_assoc so.done part after) in
+      let here : IsBegun old new (held ++ replies_text replies) = rw (then_text held before.replies rs) (begun-then old now new (held ++ replies_text before.replies) mid (replies_text rs) before.put begun) in
+      record {
+        replies = replies ++ left.replies;
+        after = left.after;
+        plays = rw parts (run_then P R left.after (so.done ++ part) after replies left.replies (run_then P Q R so.done part before.replies rs before.plays ran) left.plays);
+        begun = rw (then_text held replies left.replies) (begun-more old new (held ++ replies_text replies) (replies_text left.replies) here);
+      }
 
 -- no call more could be made
 pub played_so : (P Q : Owned ℕ) (all rest : List (Call ℕ)) (held mid : List ℕ) (old now : Option (List ℕ)) → PlaysSo P all rest Q held mid old now → BeginsToPlay P all held old now

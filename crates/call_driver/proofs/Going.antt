@@ -55,21 +55,23 @@ module _ {O M T B S K : Type 0} (m : Ghosts O M T B S K) where
       let same : local ≡ first_local (call_kind c) = is_local ∙ ap first_local is_call in
       ((is_kind, is_call), subst (λ l. On k l) (sym same) (subst (λ z. On z (first_local (call_kind c))) (sym is_kind) (h n all)))
 
-  -- a step of a call that is on its way
-  pub step : (n : ℕ) (k : Kind) (call : Call Unit) (site : M) (first : S) (c : Call T) (from : Local B) (found : Answer B) {made : Next B} (l : Local B) (t : Touch) (o : Op B) (s : S) (x : Option T)
-      → made ≡ next_of k from found → made ≡ next.Step l t o → OnWay m n k call site first c (record { local = from; answer = found }) x s
-      → m.can site s call l t o x × ((a : Answer B) (after : S) (left : Option T) → m.does site s call l t o x a after left → Stood m n k call site first c (record { local = l; answer = a }) left after)
-  step n k call site first c from found l t o s x made is h =
-      let on = subst (λ (z : Next B). Leads m.can m.does m.spares m.gives m.stands m.ended n site first c z s x) (sym made ∙ is) h.1.1 in (
-        subst (λ (z : Call Unit). m.can site s z l t o x) (sym h.0.1) on.0,
-        λ a after left did. (h.0, on.1 a after left (subst (λ (z : Call Unit). m.does site s z l t o x a after left) h.0.1 did)),
-      )
+  -- what a call that is on its way does next
+  module _ (n : ℕ) (k : Kind) (call : Call Unit) (site : M) (first : S) (c : Call T) (from : Local B) (found : Answer B) {made : Next B} where
+    -- a step of a call that is on its way
+    pub step : (l : Local B) (t : Touch) (o : Op B) (s : S) (x : Option T)
+        → made ≡ next_of k from found → made ≡ next.Step l t o → OnWay m n k call site first c (record { local = from; answer = found }) x s
+        → m.can site s call l t o x × ((a : Answer B) (after : S) (left : Option T) → m.does site s call l t o x a after left → Stood m n k call site first c (record { local = l; answer = a }) left after)
+    step l t o s x made is h =
+        let on = subst (λ (z : Next B). Leads m.can m.does m.spares m.gives m.stands m.ended n site first c z s x) (sym made ∙ is) h.1.1 in (
+          subst (λ (z : Call Unit). m.can site s z l t o x) (sym h.0.1) on.0,
+          λ a after left did. (h.0, on.1 a after left (subst (λ (z : Call Unit). m.does site s z l t o x a after left) h.0.1 did)),
+        )
 
-  -- the reply of a call that is on its way
-  pub replies : (n : ℕ) (k : Kind) (call : Call Unit) (site : M) (first : S) (c : Call T) (from : Local B) (found : Answer B) {made : Next B} (r : Reply Unit) (spare : Option B) (s : S) (x : Option T)
-      → made ≡ next_of k from found → made ≡ next.Reply r spare → OnWay m n k call site first c (record { local = from; answer = found }) x s
-      → MayGive m.spares site s spare × ((after : S) → Gave m.gives site s spare after → (reply : Reply T) × (filled r x ≡ Some reply) × m.ended site first c reply after)
-  replies n k call site first c from found r spare s x made is h = subst (λ (z : Next B). Leads m.can m.does m.spares m.gives m.stands m.ended n site first c z s x) (sym made ∙ is) h.1.1
+    -- the reply of a call that is on its way
+    pub replies : (r : Reply Unit) (spare : Option B) (s : S) (x : Option T)
+        → made ≡ next_of k from found → made ≡ next.Reply r spare → OnWay m n k call site first c (record { local = from; answer = found }) x s
+        → MayGive m.spares site s spare × ((after : S) → Gave m.gives site s spare after → (reply : Reply T) × (filled r x ≡ Some reply) × m.ended site first c reply after)
+    replies r spare s x made is h = subst (λ (z : Next B). Leads m.can m.does m.spares m.gives m.stands m.ended n site first c z s x) (sym made ∙ is) h.1.1
 
 -- a wait-free call has a step less to go
 pub ends-step : {B : Type 0} (n : ℕ) (k : Kind) (from : Local B) (found : Answer B) {made : Next B} (l : Local B) (t : Touch) (o : Op B) (a : Answer B) → n < WAIT_FREE_STEPS + 1 → made ≡ next_of k from found → made ≡ next.Step l t o

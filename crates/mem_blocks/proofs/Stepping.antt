@@ -103,22 +103,26 @@ module _ {M : Type 1} {𝓤 : Ura M} {𝓛 : Logic 𝓤} {K : Type 0} {Γ : List
 module _ {M : Type 1} {𝓤 : Ura M} {𝓛 : Logic 𝓤} {K : Type 0} {Γ : List (Item 𝓤)} {G : Goal 𝓤 𝓛.H} where
   open 𝓛 use {H}
 
-  -- The same, and n parameters that hold nothing are given back, with the tokens.
-  pub shuts_ref : K → Soaks G → (Sr : RattleType) (h : Sr.Denot) {κ : Lft} {q : Share} {owned fields others : Fml} {u v : Gv} {γ : GName} (ts : List Val) {us : List Val} (b o n : ℕ) → us ≡ vptr b o ∷ [] → Sr.own_val h ts ≡ fsep fields owned
-      → Step K 𝓛 ((‵ (flft κ q) ⊛ ‵ others) ∷ ‵ (lent_back Sr κ us b o γ h n) ∷ Γ) G
-      (‵ owned ∷ ‵ fields ∷ ‵ (cell_at full_share Sr.mir ts b o) ∷ ‵ (fobor κ q (Body (mem Sr) b o γ)) ∷ ‵ (fobs γ u) ∷ ‵ (fauth γ v) ∷ ‵ others ∷ Γ) G
-  shuts_ref t z Sr h ts b o n is same = step (λ s. closes_ref t z Sr h ts b o is same $ alone t n $ move t (1 ∷ 2 ∷ []) $ join t $ s)
+  module _ {κ : Lft} {q : Share} {γ : GName} where
+    module _ {fields others : Fml} {u v : Gv} where
+      -- The same, and n parameters that hold nothing are given back, with the tokens.
+      pub shuts_ref : K → Soaks G → (Sr : RattleType) (h : Sr.Denot) {owned : Fml} (ts : List Val) {us : List Val} (b o n : ℕ) → us ≡ vptr b o ∷ [] → Sr.own_val h ts ≡ fsep fields owned
+          → Step K 𝓛 ((‵ (flft κ q) ⊛ ‵ others) ∷ ‵ (lent_back Sr κ us b o γ h n) ∷ Γ) G
+          (‵ owned ∷ ‵ fields ∷ ‵ (cell_at full_share Sr.mir ts b o) ∷ ‵ (fobor κ q (Body (mem Sr) b o γ)) ∷ ‵ (fobs γ u) ∷ ‵ (fauth γ v) ∷ ‵ others ∷ Γ) G
+      shuts_ref t z Sr h ts b o n is same = step (λ s. closes_ref t z Sr h ts b o is same $ alone t n $ move t (1 ∷ 2 ∷ []) $ join t $ s)
 
-  -- The web's token Φ is taken out of a `&`, and the seat out of a `&mut`, where it owns `owned x`, and x is y. C is the invariant, which stays as it is.
-  pub begins_step : K → Soaks G → (Sr : RattleType) (h : Sr.Denot) {κ κ' : Lft} {q q' : Share} {Φ : Share → Fml} {C : Fml} {γ : GName} → Halves 𝓤 H 𝓛.A Φ → (b o : ℕ)
-      → {X : Type 0} (owned : X → Fml) {x y : X} → x ≡ y → {fields : List Val → Fml} → ((ts : List Val) → Sr.own_val h ts ≡ fsep (fields ts) (owned x))
-      → ((s : Share) (ts : List Val) → Seq K 𝓛 (‵ (owned y) ∷ ‵ (fields ts) ∷ ‵ (cell_at full_share Sr.mir ts b o) ∷ ‵ (fobor κ' q' (Body (mem Sr) b o γ)) ∷ ‵ (fobs γ (Sr.coded.code h)) ∷ ‵ (fauth γ (Sr.coded.code h)) ∷ ‵ (fobor κ q (Φ s)) ∷ ‵ (Φ s) ∷ ‵ C ∷ Γ) G)
-      → Seq K 𝓛 (‵ (fshr_bor κ Φ) ∷ ‵ C ∷ ‵ (flft κ q) ∷ ‵ (fobs γ (Sr.coded.code h)) ∷ ‵ (fbor κ' (Body (mem Sr) b o γ)) ∷ ‵ (flft κ' q') ∷ Γ) G
-  begins_step t z Sr h halves b o owned e same k = move t (0 ∷ 2 ∷ []) $ shr_bor-open t z halves (λ s. move t (3 ∷ 4 ∷ 5 ∷ []) $ opens_ref t z Sr h b o same (λ ts. rewrite t 0 (λ u. ‵ (owned u)) e refl $ k s ts))
+    module _ {κ' : Lft} {q' : Share} where
+      -- The web's token Φ is taken out of a `&`, and the seat out of a `&mut`, where it owns `owned x`, and x is y. C is the invariant, which stays as it is.
+      pub begins_step : K → Soaks G → (Sr : RattleType) (h : Sr.Denot) {Φ : Share → Fml} {C : Fml} → Halves 𝓤 H 𝓛.A Φ → (b o : ℕ)
+          → {X : Type 0} (owned : X → Fml) {x y : X} → x ≡ y → {fields : List Val → Fml} → ((ts : List Val) → Sr.own_val h ts ≡ fsep (fields ts) (owned x))
+          → ((s : Share) (ts : List Val) → Seq K 𝓛 (‵ (owned y) ∷ ‵ (fields ts) ∷ ‵ (cell_at full_share Sr.mir ts b o) ∷ ‵ (fobor κ' q' (Body (mem Sr) b o γ)) ∷ ‵ (fobs γ (Sr.coded.code h)) ∷ ‵ (fauth γ (Sr.coded.code h)) ∷ ‵ (fobor κ q (Φ s)) ∷ ‵ (Φ s) ∷ ‵ C ∷ Γ) G)
+          → Seq K 𝓛 (‵ (fshr_bor κ Φ) ∷ ‵ C ∷ ‵ (flft κ q) ∷ ‵ (fobs γ (Sr.coded.code h)) ∷ ‵ (fbor κ' (Body (mem Sr) b o γ)) ∷ ‵ (flft κ' q') ∷ Γ) G
+      begins_step t z Sr h halves b o owned e same k = move t (0 ∷ 2 ∷ []) $ shr_bor-open t z halves (λ s. move t (3 ∷ 4 ∷ 5 ∷ []) $ opens_ref t z Sr h b o same (λ ts. rewrite t 0 (λ u. ‵ (owned u)) e refl $ k s ts))
 
-  -- The token T is shut in again, and a seat `new x` stands in its place. The `&`, the seat's `&mut` and n parameters that hold nothing are given back, with the tokens.
-  pub ends_step : K → Soaks G → (Sr : RattleType) {κ κ' : Lft} {q q' : Share} {T fields others : Fml} {X : Type 0} {more sat : X → Fml} {u v : Gv} {γ : GName} (b o : ℕ) (ts : List Val) (n : ℕ) (new : X → Sr.Denot) → ((x : X) → Sr.own_val (new x) ts ≡ fsep fields (sat x))
-      → ((x : X) → Seq K 𝓛 (‵ (more x) ∷ (‵ (flft κ q) ⊛ ‵ (flft κ' q') ⊛ ‵ others) ∷ ‵ (fsep ftrue (lent_back Sr κ' (vptr b o ∷ []) b o γ (new x) n)) ∷ Γ) G)
-      → Seq K 𝓛 (‵ (fsep T (fex X (λ x. fsep (more x) (sat x)))) ∷ ‵ fields ∷ ‵ (cell_at full_share Sr.mir ts b o) ∷ ‵ (fobor κ' q' (Body (mem Sr) b o γ)) ∷ ‵ (fobs γ u) ∷ ‵ (fauth γ v) ∷ ‵ (fobor κ q T) ∷ ‵ others ∷ Γ) G
-  ends_step t z Sr b o ts n new same k = fsplit t $ move t (7 ∷ 0 ∷ []) $ obor_close t z $ drop t $ move t (1 ∷ []) $ fpick t (λ x. fsplit t $ move t (1 ∷ 3 ∷ 4 ∷ 5 ∷ 6 ∷ 7 ∷ 8 ∷ []) $
-      closes_ref t z Sr (new x) ts b o refl (same x) $ alone t n $ nothing t $ fjoin t $ move t (1 ∷ 2 ∷ []) $ join t $ move t (3 ∷ 0 ∷ []) $ join t $ move t (2 ∷ 0 ∷ []) $ k x)
+      module _ {fields others : Fml} {u v : Gv} where
+        -- The token T is shut in again, and a seat `new x` stands in its place. The `&`, the seat's `&mut` and n parameters that hold nothing are given back, with the tokens.
+        pub ends_step : K → Soaks G → (Sr : RattleType) {T : Fml} {X : Type 0} {more sat : X → Fml} (b o : ℕ) (ts : List Val) (n : ℕ) (new : X → Sr.Denot) → ((x : X) → Sr.own_val (new x) ts ≡ fsep fields (sat x))
+            → ((x : X) → Seq K 𝓛 (‵ (more x) ∷ (‵ (flft κ q) ⊛ ‵ (flft κ' q') ⊛ ‵ others) ∷ ‵ (fsep ftrue (lent_back Sr κ' (vptr b o ∷ []) b o γ (new x) n)) ∷ Γ) G)
+            → Seq K 𝓛 (‵ (fsep T (fex X (λ x. fsep (more x) (sat x)))) ∷ ‵ fields ∷ ‵ (cell_at full_share Sr.mir ts b o) ∷ ‵ (fobor κ' q' (Body (mem Sr) b o γ)) ∷ ‵ (fobs γ u) ∷ ‵ (fauth γ v) ∷ ‵ (fobor κ q T) ∷ ‵ others ∷ Γ) G
+        ends_step t z Sr b o ts n new same k = fsplit t $ move t (7 ∷ 0 ∷ []) $ obor_close t z $ drop t $ move t (1 ∷ []) $ fpick t (λ x. fsplit t $ move t (1 ∷ 3 ∷ 4 ∷ 5 ∷ 6 ∷ 7 ∷ 8 ∷ []) $
+            closes_ref t z Sr (new x) ts b o refl (same x) $ alone t n $ nothing t $ fjoin t $ move t (1 ∷ 2 ∷ []) $ join t $ move t (3 ∷ 0 ∷ []) $ join t $ move t (2 ∷ 0 ∷ []) $ k x)

@@ -38,11 +38,11 @@ module _ {T : Type 0} where
   kept_on refusal.CloseQueue true u v w a b = parted_on u v w a b
   kept_on refusal.GoOn started u v w a b = parted_on u v w a b
 
-module _ {T Post : Type 0} where
+module _ {T Post : Type 0} (reports : ℕ → PartyView T → Post → Type 0) (q : QueueId) (on_refusal : OnRefusal) (all_started : Bool) where
   -- before any thread
-  pub came_none : (reports : ℕ → PartyView T → Post → Type 0) (q : QueueId) (on_refusal : OnRefusal) (all_started : Bool) (n : ℕ) (v kept : PartyView T) (posts : List Post)
+  pub came_none : (n : ℕ) (v kept : PartyView T) (posts : List Post)
       → IsPartyOf kept q → SamePart kept.view.share v.view.share → IsKept on_refusal all_started v kept → posts ≡ [] → Came reports q on_refusal all_started n 0 v kept posts
-  came_none reports q on_refusal all_started n v kept posts of share is_kept none = record {
+  came_none n v kept posts of share is_kept none = record {
     queue = of;
     share = share;
     kept = kept;
@@ -57,11 +57,11 @@ module _ {T Post : Type 0} where
   }
 
   -- a thread's party, which had done nothing, is joined, and what the thread brought is added
-  pub came_more : (reports : ℕ → PartyView T → Post → Type 0) (q : QueueId) (on_refusal : OnRefusal) (all_started : Bool) (n made : ℕ) (v a b all back new : PartyView T) (post : Post) (posts more : List Post)
+  pub came_more : (n made : ℕ) (v a b all back new : PartyView T) (post : Post) (posts more : List Post)
       → IsView v.queue.cap v.view → Parts v a b → Came reports q on_refusal all_started (n + 1) made a all posts
       → IsPartyOf back q → SamePart back.view.share b.view.share → reports n back post
       → IsView all.queue.cap all.view → IsView back.queue.cap back.view → Joins all back new → more ≡ posts ++ post ∷ [] → Came reports q on_refusal all_started n (made + 1) v new more
-  came_more reports q on_refusal all_started n made v a b all back new post posts more is parts came of share told is_all is_back joins added = record {
+  came_more n made v a b all back new post posts more is parts came of share told is_all is_back joins added = record {
     queue = joins.0 ∙ came.queue;
     share =
         subst {A = Share} (λ s. SamePart s v.view.share) (sym joins.1.share)
@@ -88,9 +88,9 @@ module _ {T Post : Type 0} where
       piece = record { party = back; post = post }
 
   -- all threads, with the posts in their order
-  pub has_worked : (reports : ℕ → PartyView T → Post → Type 0) (q : QueueId) (on_refusal : OnRefusal) (all_started : Bool) (made : ℕ) (v all : PartyView T) (posts turned : List Post)
+  pub has_worked : (made : ℕ) (v all : PartyView T) (posts turned : List Post)
       → Came reports q on_refusal all_started 0 made v all posts → turned ≡ reverse posts → HasWorked reports q on_refusal all_started v all turned
-  has_worked reports q on_refusal all_started made v all posts turned came is = record {
+  has_worked made v all posts turned came is = record {
     queue = came.queue;
     share = came.share;
     kept = came.kept;

@@ -27,67 +27,69 @@ held_left s b w y x walk (inr h) is = inr ((λ e. h.0 (sym walk ∙ e)), subst (
 other_walk : {A : Type 0} (c s : Chain A) (b i : ℕ) (w : Walk) → s.walks ≡ put c.walks b w → i ≢ b → s.walks i ≡ c.walks i
 other_walk c s b i w is ne = ap (λ f. f i) is ∙ put_other c.walks b i w ne
 
--- V10: the item is read. The last slot's word does not tell of it
-pub codes_read : {A : Type 0} {c : Chain A} {head tail : ℕ} {front last : Option ℕ} {blocks after : List (Option (Block A))} (n i f : ℕ) (w : Walk) (q : BlockPlace A) (y : Option (Block A)) (x : Block A)
-    → ChainOk c → i < BLOCK_SLOTS → item_at (n / BLOCK_SLOTS) i ≡ n → IsNamed c (n / BLOCK_SLOTS) f → BlockIs c (n / BLOCK_SLOTS) x.places x.next → c.readers n ≢ Done
-    → ((j : ℕ) → j ≢ i → waits_at w j ≡ waits_at (c.walks (n / BLOCK_SLOTS)) j) → q.item ≡ None → (i ≡ LAST) ⊎ (q.state ≡ bit_or (get_or x.places i blank).state READ)
-    → Changed blocks after f y → Left w y (record x { places = set x.places i q })
-    → Codes c head tail front last blocks → Codes (reads c n w) head tail front last after
-codes_read {A} {c = c} n i f w q y x ok low at named is unread waits empty word changed left codes =
-    codes_at c.writers (put c.readers n Done) c.links (put c.walks b w) b f y ok named
-    (λ j ne. record {
-      over = λ e. put_other c.walks b j w ne ∙ e;
-      on = λ e. sym (put_other c.walks b j w ne) ∙ e;
-      same = λ k lt. record { wrote = refl; done = ap is_done (put_other c.readers n (item_at j k) Done (other_block b j k n ne lt refl)); waits = ap (λ z. waits_at z k) (put_other c.walks b j w ne) };
-      link = refl;
-    })
-    changed
-    (held_left s b w y (record x { places = set x.places i q }) walk left
-    (block_put c s b i q x.places x.next is low
-    (λ j lt ne. record { wrote = refl; done = ap is_done (put_other c.readers n (item_at b j) Done (other_slot b i j n ne at)); waits = ap (λ z. waits_at z j) walk ∙ waits j ne })
-    (state word)
-    (empty ∙ sym (ap (λ r. lies (c.writers (item_at b i)) r) read))
-    refl))
-    codes
-  where
-    b : ℕ
-    b = n / BLOCK_SLOTS
+-- the chain c, and the machine's words and blocks before and after a step
+module _ {A : Type 0} {c : Chain A} {head tail : ℕ} {front last : Option ℕ} {blocks after : List (Option (Block A))} where
+  -- V10: the item is read. The last slot's word does not tell of it
+  pub codes_read : (n i f : ℕ) (w : Walk) (q : BlockPlace A) (y : Option (Block A)) (x : Block A)
+      → ChainOk c → i < BLOCK_SLOTS → item_at (n / BLOCK_SLOTS) i ≡ n → IsNamed c (n / BLOCK_SLOTS) f → BlockIs c (n / BLOCK_SLOTS) x.places x.next → c.readers n ≢ Done
+      → ((j : ℕ) → j ≢ i → waits_at w j ≡ waits_at (c.walks (n / BLOCK_SLOTS)) j) → q.item ≡ None → (i ≡ LAST) ⊎ (q.state ≡ bit_or (get_or x.places i blank).state READ)
+      → Changed blocks after f y → Left w y (record x { places = set x.places i q })
+      → Codes c head tail front last blocks → Codes (reads c n w) head tail front last after
+  codes_read n i f w q y x ok low at named is unread waits empty word changed left codes =
+      codes_at c.writers (put c.readers n Done) c.links (put c.walks b w) b f y ok named
+      (λ j ne. record {
+        over = λ e. put_other c.walks b j w ne ∙ e;
+        on = λ e. sym (put_other c.walks b j w ne) ∙ e;
+        same = λ k lt. record { wrote = refl; done = ap is_done (put_other c.readers n (item_at j k) Done (other_block b j k n ne lt refl)); waits = ap (λ z. waits_at z k) (put_other c.walks b j w ne) };
+        link = refl;
+      })
+      changed
+      (held_left s b w y (record x { places = set x.places i q }) walk left
+      (block_put c s b i q x.places x.next is low
+      (λ j lt ne. record { wrote = refl; done = ap is_done (put_other c.readers n (item_at b j) Done (other_slot b i j n ne at)); waits = ap (λ z. waits_at z j) walk ∙ waits j ne })
+      (state word)
+      (empty ∙ sym (ap (λ r. lies (c.writers (item_at b i)) r) read))
+      refl))
+      codes
+    where
+      b : ℕ
+      b = n / BLOCK_SLOTS
 
-    s : Chain A
-    s = reads c n w
+      s : Chain A
+      s = reads c n w
 
-    walk : put c.walks (n / BLOCK_SLOTS) w (n / BLOCK_SLOTS) ≡ w
-    walk = put_same c.walks (n / BLOCK_SLOTS) w
+      walk : put c.walks (n / BLOCK_SLOTS) w (n / BLOCK_SLOTS) ≡ w
+      walk = put_same c.walks (n / BLOCK_SLOTS) w
 
-    read : put c.readers n Done (item_at (n / BLOCK_SLOTS) i) ≡ Done
-    read = ap (put c.readers n Done) at ∙ put_same c.readers n Done
+      read : put c.readers n Done (item_at (n / BLOCK_SLOTS) i) ≡ Done
+      read = ap (put c.readers n Done) at ∙ put_same c.readers n Done
 
-    state : (i ≡ LAST) ⊎ (q.state ≡ bit_or (get_or x.places i blank).state READ) → (i ≡ LAST → put c.readers n Done (item_at (n / BLOCK_SLOTS) i) ≢ Done) → IsState (reads c n w) (n / BLOCK_SLOTS) i q.state
-    state (inl last) unread_still = absurd (unread_still last read)
-    state (inr e) unread_still = subst (λ z. IsState (reads c n w) (n / BLOCK_SLOTS) i z) (sym e) (state_read c (reads c n w) (n / BLOCK_SLOTS) i (get_or x.places i blank).state refl read (is.state i low (λ last d. unread (ap c.readers (sym at) ∙ d))))
+      state : (i ≡ LAST) ⊎ (q.state ≡ bit_or (get_or x.places i blank).state READ) → (i ≡ LAST → put c.readers n Done (item_at (n / BLOCK_SLOTS) i) ≢ Done) → IsState (reads c n w) (n / BLOCK_SLOTS) i q.state
+      state (inl last) unread_still = absurd (unread_still last read)
+      state (inr e) unread_still = subst (λ z. IsState (reads c n w) (n / BLOCK_SLOTS) i z) (sym e) (state_read c (reads c n w) (n / BLOCK_SLOTS) i (get_or x.places i blank).state refl read (is.state i low (λ last d. unread (ap c.readers (sym at) ∙ d))))
 
--- W1, W2: a passed block whose walk is this then
-pub codes_walked : {A : Type 0} {c : Chain A} {head tail : ℕ} {front last : Option ℕ} {blocks after : List (Option (Block A))} (b i f : ℕ) (w : Walk) (q : BlockPlace A) (y : Option (Block A)) (x : Block A)
-    → ChainOk c → i < LAST → IsNamed c b f → BlockIs c b x.places x.next
-    → ((j : ℕ) → j ≢ i → waits_at w j ≡ waits_at (c.walks b) j) → q.item ≡ (get_or x.places i blank).item → IsState (walked c b w) b i q.state
-    → Changed blocks after f y → Left w y (record x { places = set x.places i q })
-    → Codes c head tail front last blocks → Codes (walked c b w) head tail front last after
-codes_walked {A} {c = c} b i f w q y x ok low named is waits item state changed left codes =
-    codes_at c.writers c.readers c.links (put c.walks b w) b f y ok named
-    (λ j ne. record {
-      over = λ e. put_other c.walks b j w ne ∙ e;
-      on = λ e. sym (put_other c.walks b j w ne) ∙ e;
-      same = λ k lt. record { wrote = refl; done = refl; waits = ap (λ z. waits_at z k) (put_other c.walks b j w ne) };
-      link = refl;
-    })
-    changed
-    (held_left (walked c b w) b w y (record x { places = set x.places i q }) (put_same c.walks b w) left
-    (block_put c (walked c b w) b i q x.places x.next is (omega arith)
-    (λ j lt ne. record { wrote = refl; done = refl; waits = ap (λ z. waits_at z j) (put_same c.walks b w) ∙ waits j ne })
-    (λ unread. state)
-    (item ∙ is.slot i (omega arith))
-    refl))
-    codes
+  -- W1, W2: a passed block whose walk is this then
+  pub codes_walked : (b i f : ℕ) (w : Walk) (q : BlockPlace A) (y : Option (Block A)) (x : Block A)
+      → ChainOk c → i < LAST → IsNamed c b f → BlockIs c b x.places x.next
+      → ((j : ℕ) → j ≢ i → waits_at w j ≡ waits_at (c.walks b) j) → q.item ≡ (get_or x.places i blank).item → IsState (walked c b w) b i q.state
+      → Changed blocks after f y → Left w y (record x { places = set x.places i q })
+      → Codes c head tail front last blocks → Codes (walked c b w) head tail front last after
+  codes_walked b i f w q y x ok low named is waits item state changed left codes =
+      codes_at c.writers c.readers c.links (put c.walks b w) b f y ok named
+      (λ j ne. record {
+        over = λ e. put_other c.walks b j w ne ∙ e;
+        on = λ e. sym (put_other c.walks b j w ne) ∙ e;
+        same = λ k lt. record { wrote = refl; done = refl; waits = ap (λ z. waits_at z k) (put_other c.walks b j w ne) };
+        link = refl;
+      })
+      changed
+      (held_left (walked c b w) b w y (record x { places = set x.places i q }) (put_same c.walks b w) left
+      (block_put c (walked c b w) b i q x.places x.next is (omega arith)
+      (λ j lt ne. record { wrote = refl; done = refl; waits = ap (λ z. waits_at z j) (put_same c.walks b w) ∙ waits j ne })
+      (λ unread. state)
+      (item ∙ is.slot i (omega arith))
+      refl))
+      codes
 
 -- a walk that goes on waits for nobody
 pub after_waits : (who slot j : ℕ) → waits_at (walk_after who slot) j ≡ false

@@ -42,35 +42,36 @@ ChainGoes A Stands = engine.NextFits A (Shared A) (Running A) (Chain A) None (st
 abbrev ChainBegins : (A : Type 0) (Stands : Shared A → State A → Chain A → Type 0) → Shared A → State A → Chain A → ℕ → Call A → Option (Running A) → Option (Reply A) → Type 0
 ChainBegins A Stands = engine.BeginsWell A (Shared A) (Running A) (Chain A) None (step_of Kind.Unbounded) (start_of Kind.Unbounded) (CanStep Kind.Unbounded) Stands ChainIdle ChainFits
 
--- where the call stands after its step, or its reply
-goes_on : {A : Type 0} (Stands : Shared A → State A → Chain A → Type 0) (busy : ℕ) (s : Shared A) (g : Chain A) (p : ℕ) (o : Open A) (n : Next ℕ) (v : Option A) (es : List (Effect A)) (m : ℕ)
-    → FewSteps busy o m longest → (busy ≡ 1 → Falls g n m) → (is_wait_free o.call ≡ true → Falls g n m) → NextOkSpares g p (queue_of g ∷ o.moments) n v o.call es
-    → ChainGoes A Stands busy s (queue_of g) g p (after_own busy o (queue_of g) es) (running_after n v) (reply_after n v)
-goes_on {A} Stands busy s g p o (Next.Step l t x) v es m few falls hurry ends =
-    let less = few_own busy o (queue_of g) es m (rank g l) longest (rank_small g l) falls hurry few in
-    (record { here = ends.0; spares = ends.1; few = less }, few_stays busy (after_own busy o (queue_of g) es) (rank g l) longest (omega arith) (rank_some g l) (chain_begun ends.0) less)
-goes_on {A} Stands busy s g p o (Next.Reply x spare) v es m few falls hurry ends =
-    let y = ends.2 in
-    rw y.1 ((ends.0, ends.1), (y.2, λ e. allowed_in o.call y.0 (queue_of g ∷ o.moments) (y.3 e)))
-
 -- the block that a reply gives up makes no difference to the count
 falls_left : {A : Type 0} (r : Chain A) (n : Next ℕ) (m : ℕ) → Falls r n m → Falls (left_by r n) n m
 falls_left r (Next.Step l t o) m h = h
 falls_left r (Next.Reply x spare) m h = tt
 
--- where a call stands after the step that got this answer
-pub chain_goes : {A : Type 0} (Stands : Shared A → State A → Chain A → Type 0) (busy : ℕ) (s t : Shared A) (Q : State A) (g : Chain A) (p : ℕ) (x : Running A) (o : Open A) (a : Answer ℕ)
-    → (ok : ChainOk g) (found : Answers g x.op a) (f : ChainFits busy s Q g p x o) → (busy ≡ 1 → (j : ℕ) → j ≢ p → ChainIdle g j)
-    → ChainGoes A Stands busy t (queue_of (left_by (after_of f.here a) (unbounded_next (chain_of x.local) a))) (left_by (after_of f.here a) (unbounded_next (chain_of x.local) a)) p
-    (after_own busy o (queue_of (left_by (after_of f.here a) (unbounded_next (chain_of x.local) a))) (with_effect o.effects (step_right f.here a ok found f.spares).e))
-    (running_after (unbounded_next (chain_of x.local) a) (carried_of f.here)) (reply_after (unbounded_next (chain_of x.local) a) (carried_of f.here))
-chain_goes {A} Stands busy s t Q g p x o a ok found f quiet =
-    let right = step_right f.here a ok found f.spares in
-    let r = after_of f.here a in
-    let n = unbounded_next (chain_of x.local) a in
-    goes_on Stands busy t (left_by r n) p o n (carried_of f.here) (with_effect o.effects right.e) (rank g x.local) f.few
-    (λ one. falls_left r n (rank g x.local) (step_falls f.here a ok found (λ j ne. (quiet one j ne).0)))
-    (λ e. falls_left r n (rank g x.local) (wait_free_falls f.here a found e)) right.ends
+module _ {A : Type 0} (Stands : Shared A → State A → Chain A → Type 0) (busy : ℕ) where
+  -- where the call stands after its step, or its reply
+  goes_on : (s : Shared A) (g : Chain A) (p : ℕ) (o : Open A) (n : Next ℕ) (v : Option A) (es : List (Effect A)) (m : ℕ)
+      → FewSteps busy o m longest → (busy ≡ 1 → Falls g n m) → (is_wait_free o.call ≡ true → Falls g n m) → NextOkSpares g p (queue_of g ∷ o.moments) n v o.call es
+      → ChainGoes A Stands busy s (queue_of g) g p (after_own busy o (queue_of g) es) (running_after n v) (reply_after n v)
+  goes_on s g p o (Next.Step l t x) v es m few falls hurry ends =
+      let less = few_own busy o (queue_of g) es m (rank g l) longest (rank_small g l) falls hurry few in
+      (record { here = ends.0; spares = ends.1; few = less }, few_stays busy (after_own busy o (queue_of g) es) (rank g l) longest (omega arith) (rank_some g l) (chain_begun ends.0) less)
+  goes_on s g p o (Next.Reply x spare) v es m few falls hurry ends =
+      let y = ends.2 in
+      rw y.1 ((ends.0, ends.1), (y.2, λ e. allowed_in o.call y.0 (queue_of g ∷ o.moments) (y.3 e)))
+
+  -- where a call stands after the step that got this answer
+  pub chain_goes : (s t : Shared A) (Q : State A) (g : Chain A) (p : ℕ) (x : Running A) (o : Open A) (a : Answer ℕ)
+      → (ok : ChainOk g) (found : Answers g x.op a) (f : ChainFits busy s Q g p x o) → (busy ≡ 1 → (j : ℕ) → j ≢ p → ChainIdle g j)
+      → ChainGoes A Stands busy t (queue_of (left_by (after_of f.here a) (unbounded_next (chain_of x.local) a))) (left_by (after_of f.here a) (unbounded_next (chain_of x.local) a)) p
+      (after_own busy o (queue_of (left_by (after_of f.here a) (unbounded_next (chain_of x.local) a))) (with_effect o.effects (step_right f.here a ok found f.spares).e))
+      (running_after (unbounded_next (chain_of x.local) a) (carried_of f.here)) (reply_after (unbounded_next (chain_of x.local) a) (carried_of f.here))
+  chain_goes s t Q g p x o a ok found f quiet =
+      let right = step_right f.here a ok found f.spares in
+      let r = after_of f.here a in
+      let n = unbounded_next (chain_of x.local) a in
+      goes_on t (left_by r n) p o n (carried_of f.here) (with_effect o.effects right.e) (rank g x.local) f.few
+      (λ one. falls_left r n (rank g x.local) (step_falls f.here a ok found (λ j ne. (quiet one j ne).0)))
+      (λ e. falls_left r n (rank g x.local) (wait_free_falls f.here a found e)) right.ends
 
 -- a call of another party stands where it stood
 pub chain_watched : {A : Type 0} (busy busy' : ℕ) (s t : Shared A) (Q : State A) (g h : Chain A) (p j : ℕ) (x : Running A) (o : Open A) → ChainOk g → ChainOk h → j ≢ p → Passes p g h → busy ≢ 1

@@ -128,73 +128,75 @@ stays-at : {T : Type 0} (r : Option (Reply T)) (mine o : Open T) → (if is_some
 stays-at None mine o e = cc
 stays-at (Some z) mine o e = cc
 
-pace-next : {T : Type 0} (cap : Option ℕ) (parties : ℕ) (past : List (Event T)) (told : List (Told T)) (n : ℕ) (S : List ℕ) (R : List (ℕ × ℕ × Reply T)) (b c : Book T) (x : Event T) (t : Told T) → Fair parties past told n S R b → Counts parties b
-    → ((p : ℕ) (o : Open T) → b.open_call p ≡ Some o → (k : IsInCall past S R p n) → Pace past S R p n o k)
-    → Fair parties (past ++ x ∷ []) (told ++ t ∷ []) (n + 1) (noted n (is_skipped t) S) (with_reply n (party_of x) (reply_told t) R) c → Happens cap parties b x t c
-    → (p : ℕ) (o : Open T) → c.open_call p ≡ Some o → (k : IsInCall (past ++ x ∷ []) (noted n (is_skipped t) S) (with_reply n (party_of x) (reply_told t) R) p (n + 1))
-    → Pace (past ++ x ∷ []) (noted n (is_skipped t) S) (with_reply n (party_of x) (reply_told t) R) p (n + 1) o k
-pace-next {T} cap parties past told n S R b c x Skipped f h paces f' happens p o here k =
-    let was : b.open_call p ≡ Some o = sym (ap (λ z. z.open_call p) happens.1) ∙ here in
-    let zero = no-step p x (skipped-no-step parties p b o x happens.0 was (h.within p o was)) in
-    elim (was-there T past x S R n (party_of x) true None f.len f.early p k) [
-      | inl at ↦ absurd (ran-here T parties past told n S R b c x Skipped f h paces p k at refl)
-      | inr lt ↦ pace-on T parties past told n S R b c x Skipped f h paces p o o was k lt refl (omega arith) (λ quiet. omega arith)
-    ]
-pace-next {T} cap parties past told n S R b c (Begin q d) (Ran None None) f h paces f' happens p o here k =
-    elim (put-cases (λ j. at_open joined (b.open_call j)) q p (Some (begun d)) o (sym (ap (λ z. z.open_call p) happens.2) ∙ here)) [
-      | inl m ↦ elim (was-there T past (Begin q d) S R n q false None f.len f.early p k) [
-        | inl at ↦
-            let is : begun d ≡ o = let e = m.1 in cc in
-            subst (λ z. Pace (past ++ Begin q d ∷ []) S R p (n + 1) z k) is (pace-begun T parties past told n S R b c (Begin q d) (Ran None None) f h paces p d (ap (λ z. Begin z d) (sym m.0)) k at)
-        | inr lt ↦ absurd (f.outside p (ap b.open_call m.0 ∙ is_none_true (b.open_call q) (and-right (nat_lt q parties) (is_none (b.open_call q)) happens.0)) (there-before T past (Begin q d) S R n q false None f.len f.early p k lt))
+-- how the run goes on from the book b to c, by one event
+module _ {T : Type 0} (cap : Option ℕ) (parties : ℕ) (past : List (Event T)) (told : List (Told T)) (n : ℕ) (S : List ℕ) (R : List (ℕ × ℕ × Reply T)) (b c : Book T) where
+  pace-next : (x : Event T) (t : Told T) → Fair parties past told n S R b → Counts parties b
+      → ((p : ℕ) (o : Open T) → b.open_call p ≡ Some o → (k : IsInCall past S R p n) → Pace past S R p n o k)
+      → Fair parties (past ++ x ∷ []) (told ++ t ∷ []) (n + 1) (noted n (is_skipped t) S) (with_reply n (party_of x) (reply_told t) R) c → Happens cap parties b x t c
+      → (p : ℕ) (o : Open T) → c.open_call p ≡ Some o → (k : IsInCall (past ++ x ∷ []) (noted n (is_skipped t) S) (with_reply n (party_of x) (reply_told t) R) p (n + 1))
+      → Pace (past ++ x ∷ []) (noted n (is_skipped t) S) (with_reply n (party_of x) (reply_told t) R) p (n + 1) o k
+  pace-next x Skipped f h paces f' happens p o here k =
+      let was : b.open_call p ≡ Some o = sym (ap (λ z. z.open_call p) happens.1) ∙ here in
+      let zero = no-step p x (skipped-no-step parties p b o x happens.0 was (h.within p o was)) in
+      elim (was-there T past x S R n (party_of x) true None f.len f.early p k) [
+        | inl at ↦ absurd (ran-here T parties past told n S R b c x Skipped f h paces p k at refl)
+        | inr lt ↦ pace-on T parties past told n S R b c x Skipped f h paces p o o was k lt refl (omega arith) (λ quiet. omega arith)
       ]
-      | inr m ↦
-          let old = at_open-cases joined (b.open_call p) o m.1 in
-          elim (was-there T past (Begin q d) S R n q false None f.len f.early p k) [
-            | inl at ↦ absurd (m.0 (begin-is q p d k.call (began-here T parties past told n S R b c (Begin q d) (Ran None None) f h paces p k at)).0)
-            | inr lt ↦
-                let steps : o.steps ≡ old.0.steps = ap (λ z. z.steps) (sym old.2) in
-                pace-on T parties past told n S R b c (Begin q d) (Ran None None) f h paces p old.0 o old.1 k lt (ap (λ z. z.call) (sym old.2)) (omega arith)
-                (λ quiet. absurd (quiet q (n + 1) (λ e. m.0 (sym e)) (omega arith) (omega arith) (f'.inside q (begun d) (ap (λ z. z.open_call q) happens.2 ∙ put-same (λ j. at_open joined (b.open_call j)) q (Some (begun d))))))
-          ]
-    ]
-pace-next {T} cap parties past told n S R b c (Begin q d) (Ran None (Some r)) f h paces f' happens p o here k =
-    let was : b.open_call p ≡ Some o = sym (ap (λ z. z.open_call p) happens.3) ∙ here in
-    elim (was-there T past (Begin q d) S R n q false (Some r) f.len f.early p k) [
-      | inl at ↦
-          let same = (begin-is q p d k.call (began-here T parties past told n S R b c (Begin q d) (Ran None (Some r)) f h paces p k at)).0 in
-          let free : b.open_call p ≡ None = ap b.open_call same ∙ is_none_true (b.open_call q) (and-right (nat_lt q parties) (is_none (b.open_call q)) happens.0) in
-          cc
-      | inr lt ↦ pace-on T parties past told n S R b c (Begin q d) (Ran None (Some r)) f h paces p o o was k lt refl (omega arith) (λ quiet. omega arith)
-    ]
-pace-next {T} cap parties past told n S R b c (Begin q d) (Ran (Some e) r) f h paces f' happens p o here k = absurd happens
-pace-next {T} cap parties past told n S R b c (Step q g) (Ran e r) f h paces f' happens p o here k =
-    let s = happens.1 in
-    let mine = after_own b.busy s.o c.queue s.effects in
-    let earlier : k.first < n = elim (was-there T past (Step q g) S R n q false r f.len f.early p k) [
-      | inl at ↦ absurd (step-no-begin q p g k.call (began-here T parties past told n S R b c (Step q g) (Ran e r) f h paces p k at))
-      | inr lt ↦ lt
-    ] in
-    elim (put-cases (λ j. at_open (watched c.queue) (b.open_call j)) q p (if is_some r then None else Some mine) o (sym (ap (λ z. z p) s.calls) ∙ here)) [
-      | inl m ↦
-          let was : b.open_call p ≡ Some s.o = ap b.open_call m.0 ∙ s.in_call in
-          let is = stays-at r mine o m.1 in
-          let small = one-at-most (is_step_of {T = T} p (Step q g)) in
-          let steps : o.steps ≡ s.o.steps + 1 = ap (λ z. z.steps) (sym is) in
-          pace-on T parties past told n S R b c (Step q g) (Ran e r) f h paces p s.o o was k earlier (ap (λ z. z.call) (sym is)) (omega arith)
-          (λ quiet.
-          let others : (j : ℕ) → j ≢ p → b.open_call j ≡ None = λ j ne. none_if (b.open_call j) (λ y open_. quiet j n ne (omega arith) (omega arith) (earlier-now T past (Step q g) S R n q false r f.len f.early j n (omega arith) (f.inside j y open_))) in
-          let one : b.busy ≡ 1 = h.busy ∙ count-alone parties p b.open_call s.o (h.within p s.o was) was others in
-          let more : mine.alone ≡ s.o.alone + 1 = rw one refl in
-          let alone : o.alone ≡ mine.alone = ap (λ z. z.alone) (sym is) in
-          omega arith)
-      | inr m ↦
-          let old = at_open-cases (watched c.queue) (b.open_call p) o m.1 in
-          let zero = no-step {T = T} p (Step q g) (not-my-step T p q g (λ e. m.0 (sym e))) in
-          let steps : o.steps ≡ old.0.steps = ap (λ z. z.steps) (sym old.2) in
-          let alone : o.alone ≡ old.0.alone = ap (λ z. z.alone) (sym old.2) in
-          pace-on T parties past told n S R b c (Step q g) (Ran e r) f h paces p old.0 o old.1 k earlier (ap (λ z. z.call) (sym old.2)) (omega arith) (λ quiet. omega arith)
-    ]
+  pace-next (Begin q d) (Ran None None) f h paces f' happens p o here k =
+      elim (put-cases (λ j. at_open joined (b.open_call j)) q p (Some (begun d)) o (sym (ap (λ z. z.open_call p) happens.2) ∙ here)) [
+        | inl m ↦ elim (was-there T past (Begin q d) S R n q false None f.len f.early p k) [
+          | inl at ↦
+              let is : begun d ≡ o = let e = m.1 in cc in
+              subst (λ z. Pace (past ++ Begin q d ∷ []) S R p (n + 1) z k) is (pace-begun T parties past told n S R b c (Begin q d) (Ran None None) f h paces p d (ap (λ z. Begin z d) (sym m.0)) k at)
+          | inr lt ↦ absurd (f.outside p (ap b.open_call m.0 ∙ is_none_true (b.open_call q) (and-right (nat_lt q parties) (is_none (b.open_call q)) happens.0)) (there-before T past (Begin q d) S R n q false None f.len f.early p k lt))
+        ]
+        | inr m ↦
+            let old = at_open-cases joined (b.open_call p) o m.1 in
+            elim (was-there T past (Begin q d) S R n q false None f.len f.early p k) [
+              | inl at ↦ absurd (m.0 (begin-is q p d k.call (began-here T parties past told n S R b c (Begin q d) (Ran None None) f h paces p k at)).0)
+              | inr lt ↦
+                  let steps : o.steps ≡ old.0.steps = ap (λ z. z.steps) (sym old.2) in
+                  pace-on T parties past told n S R b c (Begin q d) (Ran None None) f h paces p old.0 o old.1 k lt (ap (λ z. z.call) (sym old.2)) (omega arith)
+                  (λ quiet. absurd (quiet q (n + 1) (λ e. m.0 (sym e)) (omega arith) (omega arith) (f'.inside q (begun d) (ap (λ z. z.open_call q) happens.2 ∙ put-same (λ j. at_open joined (b.open_call j)) q (Some (begun d))))))
+            ]
+      ]
+  pace-next (Begin q d) (Ran None (Some r)) f h paces f' happens p o here k =
+      let was : b.open_call p ≡ Some o = sym (ap (λ z. z.open_call p) happens.3) ∙ here in
+      elim (was-there T past (Begin q d) S R n q false (Some r) f.len f.early p k) [
+        | inl at ↦
+            let same = (begin-is q p d k.call (began-here T parties past told n S R b c (Begin q d) (Ran None (Some r)) f h paces p k at)).0 in
+            let free : b.open_call p ≡ None = ap b.open_call same ∙ is_none_true (b.open_call q) (and-right (nat_lt q parties) (is_none (b.open_call q)) happens.0) in
+            cc
+        | inr lt ↦ pace-on T parties past told n S R b c (Begin q d) (Ran None (Some r)) f h paces p o o was k lt refl (omega arith) (λ quiet. omega arith)
+      ]
+  pace-next (Begin q d) (Ran (Some e) r) f h paces f' happens p o here k = absurd happens
+  pace-next (Step q g) (Ran e r) f h paces f' happens p o here k =
+      let s = happens.1 in
+      let mine = after_own b.busy s.o c.queue s.effects in
+      let earlier : k.first < n = elim (was-there T past (Step q g) S R n q false r f.len f.early p k) [
+        | inl at ↦ absurd (step-no-begin q p g k.call (began-here T parties past told n S R b c (Step q g) (Ran e r) f h paces p k at))
+        | inr lt ↦ lt
+      ] in
+      elim (put-cases (λ j. at_open (watched c.queue) (b.open_call j)) q p (if is_some r then None else Some mine) o (sym (ap (λ z. z p) s.calls) ∙ here)) [
+        | inl m ↦
+            let was : b.open_call p ≡ Some s.o = ap b.open_call m.0 ∙ s.in_call in
+            let is = stays-at r mine o m.1 in
+            let small = one-at-most (is_step_of {T = T} p (Step q g)) in
+            let steps : o.steps ≡ s.o.steps + 1 = ap (λ z. z.steps) (sym is) in
+            pace-on T parties past told n S R b c (Step q g) (Ran e r) f h paces p s.o o was k earlier (ap (λ z. z.call) (sym is)) (omega arith)
+            (λ quiet.
+            let others : (j : ℕ) → j ≢ p → b.open_call j ≡ None = λ j ne. none_if (b.open_call j) (λ y open_. quiet j n ne (omega arith) (omega arith) (earlier-now T past (Step q g) S R n q false r f.len f.early j n (omega arith) (f.inside j y open_))) in
+            let one : b.busy ≡ 1 = h.busy ∙ count-alone parties p b.open_call s.o (h.within p s.o was) was others in
+            let more : mine.alone ≡ s.o.alone + 1 = rw one refl in
+            let alone : o.alone ≡ mine.alone = ap (λ z. z.alone) (sym is) in
+            omega arith)
+        | inr m ↦
+            let old = at_open-cases (watched c.queue) (b.open_call p) o m.1 in
+            let zero = no-step {T = T} p (Step q g) (not-my-step T p q g (λ e. m.0 (sym e))) in
+            let steps : o.steps ≡ old.0.steps = ap (λ z. z.steps) (sym old.2) in
+            let alone : o.alone ≡ old.0.alone = ap (λ z. z.alone) (sym old.2) in
+            pace-on T parties past told n S R b c (Step q g) (Ran e r) f h paces p old.0 o old.1 k earlier (ap (λ z. z.call) (sym old.2)) (omega arith) (λ quiet. omega arith)
+      ]
 
 -- what is known of the steps of all calls so far
 record Paced {T : Type 0} (parties : ℕ) (past : List (Event T)) (told : List (Told T)) (n : ℕ) (S : List ℕ) (R : List (ℕ × ℕ × Reply T)) (b : Book T) : Type 0 where

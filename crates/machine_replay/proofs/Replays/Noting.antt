@@ -22,25 +22,26 @@ pub record Notes {T A B : Type 0} (k : Kind) (parties : ℕ) (past : List (Event
   pub effects : l.effects.items ≡ entries_from effect_entry 0 past told
   pub skipped : l.skipped.items ≡ entries_from skipped_entry 0 past told
 
-pub notes-first : {T A B : Type 0} (k : Kind) (parties : ℕ) (l : Lists T A) (c : MachineRun T B) → IsMachineRun k parties [] [] c → l.replies.items ≡ [] → l.effects.items ≡ [] → l.skipped.items ≡ [] → Notes k parties [] l c
-notes-first k parties l c on replies effects skipped = record { told = []; on = on; replies = replies; effects = effects; skipped = skipped }
+module _ {T A B : Type 0} (k : Kind) (parties : ℕ) where
+  pub notes-first : (l : Lists T A) (c : MachineRun T B) → IsMachineRun k parties [] [] c → l.replies.items ≡ [] → l.effects.items ≡ [] → l.skipped.items ≡ [] → Notes k parties [] l c
+  notes-first l c on replies effects skipped = record { told = []; on = on; replies = replies; effects = effects; skipped = skipped }
 
-pub notes-on : {T A B : Type 0} (k : Kind) (parties : ℕ) (past : List (Event T)) (l : Lists T A) (c : MachineRun T B) → Notes k parties past l c → IsSomeMachineRun c
-notes-on k parties past l c n = (k, parties, past, n.told, n.on)
+  pub notes-on : (past : List (Event T)) (l : Lists T A) (c : MachineRun T B) → Notes k parties past l c → IsSomeMachineRun c
+  notes-on past l c n = (k, parties, past, n.told, n.on)
 
--- one event more is noted
-pub notes-next : {T A B : Type 0} (k : Kind) (parties : ℕ) (past : List (Event T)) (l m : Lists T A) (c d : MachineRun T B) (e : Event T) (t : Told T) (n p : ℕ) → Notes k parties past l c → n ≡ length past → p ≡ party_of e → Continues c e t d
-    → m.replies.items ≡ l.replies.items ++ reply_entry n p t → m.effects.items ≡ l.effects.items ++ effect_entry n p t → m.skipped.items ≡ l.skipped.items ++ skipped_entry n p t
-    → Notes k parties (past ++ e ∷ []) m d
-notes-next k parties past l m c d e t n p notes number party goes_on replies effects skipped =
-    let same = known-length k parties past notes.told (world_of c.machine) c.peak (machine_run-known k parties past notes.told c notes.on) in
-    record {
-      told = notes.told ++ t ∷ [];
-      on = goes_on k parties past notes.told notes.on;
-      replies = noted reply_entry n p past notes.told e t l.replies.items m.replies.items same number party notes.replies replies;
-      effects = noted effect_entry n p past notes.told e t l.effects.items m.effects.items same number party notes.effects effects;
-      skipped = noted skipped_entry n p past notes.told e t l.skipped.items m.skipped.items same number party notes.skipped skipped;
-    }
+  -- one event more is noted
+  pub notes-next : (past : List (Event T)) (l m : Lists T A) (c d : MachineRun T B) (e : Event T) (t : Told T) (n p : ℕ) → Notes k parties past l c → n ≡ length past → p ≡ party_of e → Continues c e t d
+      → m.replies.items ≡ l.replies.items ++ reply_entry n p t → m.effects.items ≡ l.effects.items ++ effect_entry n p t → m.skipped.items ≡ l.skipped.items ++ skipped_entry n p t
+      → Notes k parties (past ++ e ∷ []) m d
+  notes-next past l m c d e t n p notes number party goes_on replies effects skipped =
+      let same = known-length k parties past notes.told (world_of c.machine) c.peak (machine_run-known k parties past notes.told c notes.on) in
+      record {
+        told = notes.told ++ t ∷ [];
+        on = goes_on k parties past notes.told notes.on;
+        replies = noted reply_entry n p past notes.told e t l.replies.items m.replies.items same number party notes.replies replies;
+        effects = noted effect_entry n p past notes.told e t l.effects.items m.effects.items same number party notes.effects effects;
+        skipped = noted skipped_entry n p past notes.told e t l.skipped.items m.skipped.items same number party notes.skipped skipped;
+      }
 
 -- the whole run conforms
 pub notes-end : {T A : Type 0} (k : Kind) (parties : ℕ) (events : List (Event T)) (l : Lists T A) (c : MachineRun T A) (r : RunEnd T A) → Notes k parties events l c → Leaves c r

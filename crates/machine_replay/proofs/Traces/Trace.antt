@@ -103,29 +103,31 @@ opened-more cap past ys S H H' p first end end' n ext le on s =
     let lt = s.upto in
     record { step = s.step; own = step-more past ys S p s.step s.own; later = s.later; upto = omega arith; was_open = ap (λ q. q.closed) (state-late cap n s.step H H' ext (omega arith)) ∙ s.was_open }
 
-ends-more : {T : Type 0} (cap : Option ℕ) (S : List ℕ) (past ys : List (Event T)) (H H' : List (Entry T)) (R : List (ℕ × ℕ × Reply T)) (n p last q : ℕ) (r : Option (Reply T)) (x : Reply T) → Extends n H H' → last < n → EndsCall cap past S H R last q x → EndsCall cap (past ++ ys) S H' (with_reply n p r R) last q x
-ends-more cap S past ys H H' R n p last q r x ext lt a =
-    let own = own-late q a.in_call.first last n H H' ext lt in
-    record {
-      step = step-more past ys S q last a.step;
-      in_call = in-call-late past ys S R n p q last r (omega arith) a.in_call;
-      tells = rw own a.tells;
-      right = λ none. let m = a.right (sym own ∙ none) in (m.0, moment-more cap past ys S H H' q a.in_call.first (last + 1) (last + 1) n m.0 ext (omega arith) (omega arith) m.1, m.2);
-    }
+-- what is so of a reply or an effect stays so after more events
+module _ {T : Type 0} (cap : Option ℕ) (S : List ℕ) where
+  ends-more : (past ys : List (Event T)) (H H' : List (Entry T)) (R : List (ℕ × ℕ × Reply T)) (n p last q : ℕ) (r : Option (Reply T)) (x : Reply T) → Extends n H H' → last < n → EndsCall cap past S H R last q x → EndsCall cap (past ++ ys) S H' (with_reply n p r R) last q x
+  ends-more past ys H H' R n p last q r x ext lt a =
+      let own = own-late q a.in_call.first last n H H' ext lt in
+      record {
+        step = step-more past ys S q last a.step;
+        in_call = in-call-late past ys S R n p q last r (omega arith) a.in_call;
+        tells = rw own a.tells;
+        right = λ none. let m = a.right (sym own ∙ none) in (m.0, moment-more cap past ys S H H' q a.in_call.first (last + 1) (last + 1) n m.0 ext (omega arith) (omega arith) m.1, m.2);
+      }
 
-at-once-more : {T : Type 0} (cap : Option ℕ) (S : List ℕ) (past ys : List (Event T)) (H H' : List (Entry T)) (n last q : ℕ) (x : Reply T) → Extends n H H' → last < n → RepliesAtOnce cap past S H last q x → RepliesAtOnce cap (past ++ ys) S H' last q x
-at-once-more cap S past ys H H' n last q x ext lt a = record { call = a.call; begins = ran-more past ys S last (Begin q a.call) a.begins; no_steps = a.no_steps; right = rw (state-late cap n last H H' ext lt) a.right }
+  at-once-more : (past ys : List (Event T)) (H H' : List (Entry T)) (n last q : ℕ) (x : Reply T) → Extends n H H' → last < n → RepliesAtOnce cap past S H last q x → RepliesAtOnce cap (past ++ ys) S H' last q x
+  at-once-more past ys H H' n last q x ext lt a = record { call = a.call; begins = ran-more past ys S last (Begin q a.call) a.begins; no_steps = a.no_steps; right = rw (state-late cap n last H H' ext lt) a.right }
 
-answer-more : {T : Type 0} (cap : Option ℕ) (S : List ℕ) (past ys : List (Event T)) (H H' : List (Entry T)) (R : List (ℕ × ℕ × Reply T)) (n p : ℕ) (r : Option (Reply T)) (y : ℕ × ℕ × Reply T) → Extends n H H' → y.0 < n → IsAnswer cap past S H R y → IsAnswer cap (past ++ ys) S H' (with_reply n p r R) y
-answer-more cap S past ys H H' R n p r y ext lt (inl a) = inl (ends-more cap S past ys H H' R n p y.0 y.1 r y.2 ext lt a)
-answer-more cap S past ys H H' R n p r y ext lt (inr a) = inr (at-once-more cap S past ys H H' n y.0 y.1 y.2 ext lt a)
+  answer-more : (past ys : List (Event T)) (H H' : List (Entry T)) (R : List (ℕ × ℕ × Reply T)) (n p : ℕ) (r : Option (Reply T)) (y : ℕ × ℕ × Reply T) → Extends n H H' → y.0 < n → IsAnswer cap past S H R y → IsAnswer cap (past ++ ys) S H' (with_reply n p r R) y
+  answer-more past ys H H' R n p r y ext lt (inl a) = inl (ends-more past ys H H' R n p y.0 y.1 r y.2 ext lt a)
+  answer-more past ys H H' R n p r y ext lt (inr a) = inr (at-once-more past ys H H' n y.0 y.1 y.2 ext lt a)
 
-own-more : {T : Type 0} (cap : Option ℕ) (S : List ℕ) (past ys : List (Event T)) (H H' : List (Entry T)) (R : List (ℕ × ℕ × Reply T)) (n p : ℕ) (r : Option (Reply T)) (x : Entry T) → Extends n H H' → x.event < n → IsOwn cap past S H R x → IsOwn cap (past ++ ys) S H' (with_reply n p r R) x
-own-more cap S past ys H H' R n p r x ext lt o = record {
-  step = step-more past ys S x.party x.event o.step;
-  in_call = in-call-late past ys S R n p x.party x.event r (omega arith) o.in_call;
-  saw_open = λ old v is. opened-more cap past ys S H H' x.party o.in_call.first x.event x.event n ext (omega arith) (omega arith) (o.saw_open old v is);
-}
+  own-more : (past ys : List (Event T)) (H H' : List (Entry T)) (R : List (ℕ × ℕ × Reply T)) (n p : ℕ) (r : Option (Reply T)) (x : Entry T) → Extends n H H' → x.event < n → IsOwn cap past S H R x → IsOwn cap (past ++ ys) S H' (with_reply n p r R) x
+  own-more past ys H H' R n p r x ext lt o = record {
+    step = step-more past ys S x.party x.event o.step;
+    in_call = in-call-late past ys S R n p x.party x.event r (omega arith) o.in_call;
+    saw_open = λ old v is. opened-more cap past ys S H H' x.party o.in_call.first x.event x.event n ext (omega arith) (omega arith) (o.saw_open old v is);
+  }
 
 -- what a new effect and a new reply owe
 abbrev pub EntryOwes : {T : Type 0} → Option ℕ → List ℕ → List (Event T) → List (Entry T) → List (ℕ × ℕ × Reply T) → ℕ → ℕ → Option (Effect T) → Option (Entry T) → Type 0
@@ -136,44 +138,45 @@ abbrev pub ReplyOwes : {T : Type 0} → Option ℕ → List ℕ → List (Event 
 ReplyOwes cap S events H R n p None = Unit {0}
 ReplyOwes cap S events H R n p (Some r) = IsAnswer cap events S H R (n, p, r)
 
-own-added : {T : Type 0} (cap : Option ℕ) (S : List ℕ) (past ys : List (Event T)) (H : List (Entry T)) (R : List (ℕ × ℕ × Reply T)) (n p : ℕ) (e : Option (Effect T)) (r : Option (Reply T)) (f : Option (Entry T)) → AllByRecursion (λ x. x.event < n) H → AllByRecursion (IsOwn cap past S H R) H
-    → EntryOwes cap S (past ++ ys) (added n p e H) (with_reply n p r R) n p e f → AllByRecursion (IsOwn cap (past ++ ys) S (added n p e H) (with_reply n p r R)) (added n p e H)
-own-added cap S past ys H R n p None r f early all owes = each-both _ _ _ H (λ x lt o. own-more cap S past ys H H R n p r x (quiet n H) lt o) early all
-own-added cap S past ys H R n p (Some e) r f early all owes = each-more _ H _ (each-both _ _ _ H (λ x lt o. own-more cap S past ys H (added n p (Some e) H) R n p r x (loud n p e H) lt o) early all) owes.0
+module _ {T : Type 0} (cap : Option ℕ) (S : List ℕ) where
+  own-added : (past ys : List (Event T)) (H : List (Entry T)) (R : List (ℕ × ℕ × Reply T)) (n p : ℕ) (e : Option (Effect T)) (r : Option (Reply T)) (f : Option (Entry T)) → AllByRecursion (λ x. x.event < n) H → AllByRecursion (IsOwn cap past S H R) H
+      → EntryOwes cap S (past ++ ys) (added n p e H) (with_reply n p r R) n p e f → AllByRecursion (IsOwn cap (past ++ ys) S (added n p e H) (with_reply n p r R)) (added n p e H)
+  own-added past ys H R n p None r f early all owes = each-both _ _ _ H (λ x lt o. own-more cap S past ys H H R n p r x (quiet n H) lt o) early all
+  own-added past ys H R n p (Some e) r f early all owes = each-more _ H _ (each-both _ _ _ H (λ x lt o. own-more cap S past ys H (added n p (Some e) H) R n p r x (loud n p e H) lt o) early all) owes.0
 
-arrivals-added : {T : Type 0} (cap : Option ℕ) (S : List ℕ) (events : List (Event T)) (H : List (Entry T)) (R : List (ℕ × ℕ × Reply T)) (n p : ℕ) (e : Option (Effect T)) (r : Option (Reply T)) → AllByRecursion (λ x. x.event < n) H → FrontsArrive R None H
-    → EntryOwes cap S events (added n p e H) (with_reply n p r R) n p e (pending None H) → FrontsArrive (with_reply n p r R) None (added n p e H)
-arrivals-added cap S events H R n p None r early all owes = arrivals-late n p r R None H early all
-arrivals-added cap S events H R n p (Some e) r early all owes = arrivals-append (with_reply n p r R) None H (record { event = n; party = p; effect = e }) (arrivals-late n p r R None H early all) owes.1
+  arrivals-added : (events : List (Event T)) (H : List (Entry T)) (R : List (ℕ × ℕ × Reply T)) (n p : ℕ) (e : Option (Effect T)) (r : Option (Reply T)) → AllByRecursion (λ x. x.event < n) H → FrontsArrive R None H
+      → EntryOwes cap S events (added n p e H) (with_reply n p r R) n p e (pending None H) → FrontsArrive (with_reply n p r R) None (added n p e H)
+  arrivals-added events H R n p None r early all owes = arrivals-late n p r R None H early all
+  arrivals-added events H R n p (Some e) r early all owes = arrivals-append (with_reply n p r R) None H (record { event = n; party = p; effect = e }) (arrivals-late n p r R None H early all) owes.1
 
-answers-added : {T : Type 0} (cap : Option ℕ) (S : List ℕ) (past ys : List (Event T)) (H H' : List (Entry T)) (R : List (ℕ × ℕ × Reply T)) (n p : ℕ) (r : Option (Reply T)) → Extends n H H' → AllByRecursion (λ y. y.0 < n) R → AllByRecursion (IsAnswer cap past S H R) R
-    → ReplyOwes cap S (past ++ ys) H' (with_reply n p r R) n p r → AllByRecursion (IsAnswer cap (past ++ ys) S H' (with_reply n p r R)) (with_reply n p r R)
-answers-added cap S past ys H H' R n p None ext early all owes = each-both _ _ _ R (λ y lt a. answer-more cap S past ys H H' R n p None y ext lt a) early all
-answers-added cap S past ys H H' R n p (Some r) ext early all owes =
-    each-more _ R _ (each-both _ _ _ R (λ y lt a. answer-more cap S past ys H H' R n p (Some r) y ext lt a) early all) owes
+  answers-added : (past ys : List (Event T)) (H H' : List (Entry T)) (R : List (ℕ × ℕ × Reply T)) (n p : ℕ) (r : Option (Reply T)) → Extends n H H' → AllByRecursion (λ y. y.0 < n) R → AllByRecursion (IsAnswer cap past S H R) R
+      → ReplyOwes cap S (past ++ ys) H' (with_reply n p r R) n p r → AllByRecursion (IsAnswer cap (past ++ ys) S H' (with_reply n p r R)) (with_reply n p r R)
+  answers-added past ys H H' R n p None ext early all owes = each-both _ _ _ R (λ y lt a. answer-more cap S past ys H H' R n p None y ext lt a) early all
+  answers-added past ys H H' R n p (Some r) ext early all owes =
+      each-more _ R _ (each-both _ _ _ R (λ y lt a. answer-more cap S past ys H H' R n p (Some r) y ext lt a) early all) owes
 
--- after one event more
-pub trace-more : {T : Type 0} (cap : Option ℕ) (S : List ℕ) (past : List (Event T)) (told : List (Told T)) (n : ℕ) (H : List (Entry T)) (R : List (ℕ × ℕ × Reply T)) (b c : Book T) (x : Event T) (t : Told T) (e : Option (Effect T)) (r : Option (Reply T))
-    → Trace cap S past told n H R b → effect_entry n (party_of x) t ≡ kinds_in (added n (party_of x) e []) → reply_entry n (party_of x) t ≡ with_reply n (party_of x) r []
-    → FitsIf e b.queue → c.queue ≡ made_if e b.queue
-    → EntryOwes cap S (past ++ x ∷ []) (added n (party_of x) e H) (with_reply n (party_of x) r R) n (party_of x) e (pending None H)
-    → ReplyOwes cap S (past ++ x ∷ []) (added n (party_of x) e H) (with_reply n (party_of x) r R) n (party_of x) r
-    → ((p : ℕ) (o : Open T) → c.open_call p ≡ Some o → Since cap S (past ++ x ∷ []) (added n (party_of x) e H) (with_reply n (party_of x) r R) p (n + 1) o)
-    → Trace cap S (past ++ x ∷ []) (told ++ t ∷ []) (n + 1) (added n (party_of x) e H) (with_reply n (party_of x) r R) c
-trace-more cap S past told n H R b c x t e r tr kinds replies fits leads entry reply opens =
-    let p = party_of x in
-    record {
-      len = omega (arith, tr.len, length-one past x);
-      same = omega (arith, tr.same, length-one past x, length-one told t);
-      early = early-added n p e H tr.early;
-      in_order = in-order-added n p e H tr.early tr.in_order;
-      legal = legal-added cap n p e H b.queue tr.legal tr.leads fits;
-      leads = leads-added cap n p e H b.queue tr.leads ∙ sym leads;
-      kinds = kinds-added n p e H ∙ ap (λ l. kinds_in H ++ l) (sym kinds) ∙ ap (λ l. l ++ effect_entry n p t) tr.kinds ∙ sym (entries-more effect_entry 0 n past told x t tr.same (omega (arith, tr.len)));
-      replies = answered-append n p r R ∙ ap (λ l. R ++ l) (sym replies) ∙ ap (λ l. l ++ reply_entry n p t) tr.replies ∙ sym (entries-more reply_entry 0 n past told x t tr.same (omega (arith, tr.len)));
-      own = own-added cap S past (x ∷ []) H R n p e r (pending None H) tr.early tr.own entry;
-      arrivals = arrivals-added cap S (past ++ x ∷ []) H R n p e r tr.early tr.arrivals entry;
-      answers = answers-added cap S past (x ∷ []) H (added n p e H) R n p r (extends-added n p e H) tr.early_replies tr.answers reply;
-      early_replies = early-with_reply n p r R tr.early_replies;
-      open_calls = opens;
-    }
+  -- after one event more
+  pub trace-more : (past : List (Event T)) (told : List (Told T)) (n : ℕ) (H : List (Entry T)) (R : List (ℕ × ℕ × Reply T)) (b c : Book T) (x : Event T) (t : Told T) (e : Option (Effect T)) (r : Option (Reply T))
+      → Trace cap S past told n H R b → effect_entry n (party_of x) t ≡ kinds_in (added n (party_of x) e []) → reply_entry n (party_of x) t ≡ with_reply n (party_of x) r []
+      → FitsIf e b.queue → c.queue ≡ made_if e b.queue
+      → EntryOwes cap S (past ++ x ∷ []) (added n (party_of x) e H) (with_reply n (party_of x) r R) n (party_of x) e (pending None H)
+      → ReplyOwes cap S (past ++ x ∷ []) (added n (party_of x) e H) (with_reply n (party_of x) r R) n (party_of x) r
+      → ((p : ℕ) (o : Open T) → c.open_call p ≡ Some o → Since cap S (past ++ x ∷ []) (added n (party_of x) e H) (with_reply n (party_of x) r R) p (n + 1) o)
+      → Trace cap S (past ++ x ∷ []) (told ++ t ∷ []) (n + 1) (added n (party_of x) e H) (with_reply n (party_of x) r R) c
+  trace-more past told n H R b c x t e r tr kinds replies fits leads entry reply opens =
+      let p = party_of x in
+      record {
+        len = omega (arith, tr.len, length-one past x);
+        same = omega (arith, tr.same, length-one past x, length-one told t);
+        early = early-added n p e H tr.early;
+        in_order = in-order-added n p e H tr.early tr.in_order;
+        legal = legal-added cap n p e H b.queue tr.legal tr.leads fits;
+        leads = leads-added cap n p e H b.queue tr.leads ∙ sym leads;
+        kinds = kinds-added n p e H ∙ ap (λ l. kinds_in H ++ l) (sym kinds) ∙ ap (λ l. l ++ effect_entry n p t) tr.kinds ∙ sym (entries-more effect_entry 0 n past told x t tr.same (omega (arith, tr.len)));
+        replies = answered-append n p r R ∙ ap (λ l. R ++ l) (sym replies) ∙ ap (λ l. l ++ reply_entry n p t) tr.replies ∙ sym (entries-more reply_entry 0 n past told x t tr.same (omega (arith, tr.len)));
+        own = own-added past (x ∷ []) H R n p e r (pending None H) tr.early tr.own entry;
+        arrivals = arrivals-added (past ++ x ∷ []) H R n p e r tr.early tr.arrivals entry;
+        answers = answers-added past (x ∷ []) H (added n p e H) R n p r (extends-added n p e H) tr.early_replies tr.answers reply;
+        early_replies = early-with_reply n p r R tr.early_replies;
+        open_calls = opens;
+      }

@@ -25,114 +25,116 @@ record Next {T : Type 0} (cap : Option ℕ) (S : List ℕ) (past : List (Event T
   R : List (ℕ × ℕ × Reply T)
   trace : Trace cap S (past ++ x ∷ []) (told ++ t ∷ []) (n + 1) H R c
 
-skipped-next : {T : Type 0} (cap : Option ℕ) (S : List ℕ) (past : List (Event T)) (told : List (Told T)) (n : ℕ) (H : List (Entry T)) (R : List (ℕ × ℕ × Reply T)) (b c : Book T) (x : Event T) → Trace cap S past told n H R b → c ≡ b → Next cap S past told n x Skipped c
-skipped-next cap S past told n H R b c x tr same = record {
-  H = H;
-  R = R;
-  trace = trace-more cap S past told n H R b c x Skipped None None tr refl refl tt (ap (λ z. z.queue) same) tt tt
-      (λ p o open_. since-other cap S past (x ∷ []) H R n p p None None o tr.early tr.early_replies (inl refl) (inl refl) (λ f is waits. waits) (tr.open_calls p o (sym (ap (λ z. z.open_call p) same) ∙ open_)));
-}
+-- how the run goes on from the book b to c, by one event
+module _ {T : Type 0} (cap : Option ℕ) (S : List ℕ) (past : List (Event T)) (told : List (Told T)) (n : ℕ) (H : List (Entry T)) (R : List (ℕ × ℕ × Reply T)) (b c : Book T) where
+  skipped-next : (x : Event T) → Trace cap S past told n H R b → c ≡ b → Next cap S past told n x Skipped c
+  skipped-next x tr same = record {
+    H = H;
+    R = R;
+    trace = trace-more cap S past told n H R b c x Skipped None None tr refl refl tt (ap (λ z. z.queue) same) tt tt
+        (λ p o open_. since-other cap S past (x ∷ []) H R n p p None None o tr.early tr.early_replies (inl refl) (inl refl) (λ f is waits. waits) (tr.open_calls p o (sym (ap (λ z. z.open_call p) same) ∙ open_)));
+  }
 
-began-next : {T : Type 0} (cap : Option ℕ) (S : List ℕ) (past : List (Event T)) (told : List (Told T)) (n : ℕ) (H : List (Entry T)) (R : List (ℕ × ℕ × Reply T)) (b c : Book T) (p : ℕ) (k : Call T) → Trace cap S past told n H R b
-    → (Contains S n → ⊥) → c ≡ record { queue = b.queue; busy = b.busy + 1; open_call = put (λ j. at_open joined (b.open_call j)) p (Some (begun k)) } → Next cap S past told n (Begin p k) (Ran None None) c
-began-next {T} cap S past told n H R b c p k tr ran same = record {
-  H = H;
-  R = R;
-  trace = trace-more cap S past told n H R b c (Begin p k) (Ran None None) None None tr refl refl tt (ap (λ z. z.queue) same) tt tt
-      (λ j o open_. opens j o (put-cases (λ j. at_open joined (b.open_call j)) p j (Some (begun k)) o (sym (ap (λ z. z.open_call j) same) ∙ open_)));
-}
-  where
-    fresh : Since cap S (past ++ Begin p k ∷ []) H R p (n + 1) (begun k)
-    fresh = record {
-      in_call = record { first = n; call = k; begins = (event-last past n (Begin p k) tr.len, ran); before = omega arith; unanswered = each-all _ _ R (λ y lt e. inl lt) tr.early_replies };
-      same_call = refl;
-      own = own-none p n (n + 1) H tr.early;
-      moments = tt;
-      opened = λ e. cc;
-      begun = begun_none k;
-      displaces = λ old v e. cc;
-    }
+  began-next : (p : ℕ) (k : Call T) → Trace cap S past told n H R b
+      → (Contains S n → ⊥) → c ≡ record { queue = b.queue; busy = b.busy + 1; open_call = put (λ j. at_open joined (b.open_call j)) p (Some (begun k)) } → Next cap S past told n (Begin p k) (Ran None None) c
+  began-next p k tr ran same = record {
+    H = H;
+    R = R;
+    trace = trace-more cap S past told n H R b c (Begin p k) (Ran None None) None None tr refl refl tt (ap (λ z. z.queue) same) tt tt
+        (λ j o open_. opens j o (put-cases (λ j. at_open joined (b.open_call j)) p j (Some (begun k)) o (sym (ap (λ z. z.open_call j) same) ∙ open_)));
+  }
+    where
+      fresh : Since cap S (past ++ Begin p k ∷ []) H R p (n + 1) (begun k)
+      fresh = record {
+        in_call = record { first = n; call = k; begins = (event-last past n (Begin p k) tr.len, ran); before = omega arith; unanswered = each-all _ _ R (λ y lt e. inl lt) tr.early_replies };
+        same_call = refl;
+        own = own-none p n (n + 1) H tr.early;
+        moments = tt;
+        opened = λ e. cc;
+        begun = begun_none k;
+        displaces = λ old v e. cc;
+      }
 
-    opens : (j : ℕ) (o : Open T) → ((j ≡ p) × (Some (begun k) ≡ Some o)) ⊎ ((j ≢ p) × (at_open joined (b.open_call j) ≡ Some o)) → Since cap S (past ++ Begin p k ∷ []) H R j (n + 1) o
-    opens j o (inl m) =
-        let is : begun k ≡ o = let e = m.1 in cc in
-        subst (λ q. Since cap S (past ++ Begin p k ∷ []) H R q (n + 1) o) (sym m.0) (subst (λ z. Since cap S (past ++ Begin p k ∷ []) H R p (n + 1) z) is fresh)
-    opens j o (inr m) =
-        let old = at_open-cases joined (b.open_call j) o m.1 in
-        subst (λ z. Since cap S (past ++ Begin p k ∷ []) H R j (n + 1) z) old.2
-        (since-joined cap S (past ++ Begin p k ∷ []) H R j (n + 1) old.0 (since-other cap S past (Begin p k ∷ []) H R n p j None None old.0 tr.early tr.early_replies (inl refl) (inl refl) (λ f is waits. waits) (tr.open_calls j old.0 old.1)))
+      opens : (j : ℕ) (o : Open T) → ((j ≡ p) × (Some (begun k) ≡ Some o)) ⊎ ((j ≢ p) × (at_open joined (b.open_call j) ≡ Some o)) → Since cap S (past ++ Begin p k ∷ []) H R j (n + 1) o
+      opens j o (inl m) =
+          let is : begun k ≡ o = let e = m.1 in cc in
+          subst (λ q. Since cap S (past ++ Begin p k ∷ []) H R q (n + 1) o) (sym m.0) (subst (λ z. Since cap S (past ++ Begin p k ∷ []) H R p (n + 1) z) is fresh)
+      opens j o (inr m) =
+          let old = at_open-cases joined (b.open_call j) o m.1 in
+          subst (λ z. Since cap S (past ++ Begin p k ∷ []) H R j (n + 1) z) old.2
+          (since-joined cap S (past ++ Begin p k ∷ []) H R j (n + 1) old.0 (since-other cap S past (Begin p k ∷ []) H R n p j None None old.0 tr.early tr.early_replies (inl refl) (inl refl) (λ f is waits. waits) (tr.open_calls j old.0 old.1)))
 
-at-once-next : {T : Type 0} (cap : Option ℕ) (S : List ℕ) (past : List (Event T)) (told : List (Told T)) (n : ℕ) (H : List (Entry T)) (R : List (ℕ × ℕ × Reply T)) (b c : Book T) (p : ℕ) (k : Call T) (x : Reply T) → Trace cap S past told n H R b
-    → (Contains S n → ⊥) → b.open_call p ≡ None → has_steps cap k ≡ false → IsRightAt b.queue k x → c ≡ b → Next cap S past told n (Begin p k) (Ran None (Some x)) c
-at-once-next {T} cap S past told n H R b c p k x tr ran free no_steps right same = record {
-  H = H;
-  R = R ++ (n, p, x) ∷ [];
-  trace = trace-more cap S past told n H R b c (Begin p k) (Ran None (Some x)) None (Some x) tr refl refl tt (ap (λ z. z.queue) same) tt (inr answer)
-      (λ j o open_. let was = sym (ap (λ z. z.open_call j) same) ∙ open_ in
-      since-other cap S past (Begin p k ∷ []) H R n p j None (Some x) o tr.early tr.early_replies (inl refl) (inr (λ e. let f : b.open_call j ≡ None = ap b.open_call e ∙ free in let g = was in cc)) (λ f is waits. waits) (tr.open_calls j o was));
-}
-  where
-    answer : RepliesAtOnce cap (past ++ Begin p k ∷ []) S H n p x
-    answer = record {
-      call = k;
-      begins = (event-last past n (Begin p k) tr.len, ran);
-      no_steps = no_steps;
-      right = rw (state-last cap n n H tr.early (omega arith) ∙ tr.leads) right;
-    }
+  at-once-next : (p : ℕ) (k : Call T) (x : Reply T) → Trace cap S past told n H R b
+      → (Contains S n → ⊥) → b.open_call p ≡ None → has_steps cap k ≡ false → IsRightAt b.queue k x → c ≡ b → Next cap S past told n (Begin p k) (Ran None (Some x)) c
+  at-once-next p k x tr ran free no_steps right same = record {
+    H = H;
+    R = R ++ (n, p, x) ∷ [];
+    trace = trace-more cap S past told n H R b c (Begin p k) (Ran None (Some x)) None (Some x) tr refl refl tt (ap (λ z. z.queue) same) tt (inr answer)
+        (λ j o open_. let was = sym (ap (λ z. z.open_call j) same) ∙ open_ in
+        since-other cap S past (Begin p k ∷ []) H R n p j None (Some x) o tr.early tr.early_replies (inl refl) (inr (λ e. let f : b.open_call j ≡ None = ap b.open_call e ∙ free in let g = was in cc)) (λ f is waits. waits) (tr.open_calls j o was));
+  }
+    where
+      answer : RepliesAtOnce cap (past ++ Begin p k ∷ []) S H n p x
+      answer = record {
+        call = k;
+        begins = (event-last past n (Begin p k) tr.len, ran);
+        no_steps = no_steps;
+        right = rw (state-last cap n n H tr.early (omega arith) ∙ tr.leads) right;
+      }
 
-step-next : {T : Type 0} (cap : Option ℕ) (S : List ℕ) (past : List (Event T)) (told : List (Told T)) (n : ℕ) (H : List (Entry T)) (R : List (ℕ × ℕ × Reply T)) (b c : Book T) (p : ℕ) (granted : Bool) (k : Option EffectKind) (r : Option (Reply T)) → Trace cap S past told n H R b
-    → (Contains S n → ⊥) → Steps b p k r c → Next cap S past told n (Step p granted) (Ran k r) c
-step-next {T} cap S past told n H R b c p granted k r tr ran s = record {
-  H = added n p does.e H;
-  R = with_reply n p r R;
-  trace = trace-more cap S past told n H R b c (Step p granted) (Ran k r) does.e r tr (does.entry n p r) (replied r) does.fits does.leads
-      (entry-owes T cap S past H R n p granted tr.len ran tr.early tr.early_replies s.o since does.e r b.busy c.queue s.effects is does.effects s.goes does.may)
-      (reply-owes r refl s.goes)
-      (λ j o open_. opens j o (put-cases (λ j. at_open (watched c.queue) (b.open_call j)) p j (if is_some r then None else Some mine) o (sym (ap (λ z. z j) s.calls) ∙ open_)));
-}
-  where
-    does : Does b.queue s.o k c.queue s.effects
-    does = moves-does b.queue s.o k c.queue s.effects s.moves
+  step-next : (p : ℕ) (granted : Bool) (k : Option EffectKind) (r : Option (Reply T)) → Trace cap S past told n H R b
+      → (Contains S n → ⊥) → Steps b p k r c → Next cap S past told n (Step p granted) (Ran k r) c
+  step-next p granted k r tr ran s = record {
+    H = added n p does.e H;
+    R = with_reply n p r R;
+    trace = trace-more cap S past told n H R b c (Step p granted) (Ran k r) does.e r tr (does.entry n p r) (replied r) does.fits does.leads
+        (entry-owes T cap S past H R n p granted tr.len ran tr.early tr.early_replies s.o since does.e r b.busy c.queue s.effects is does.effects s.goes does.may)
+        (reply-owes r refl s.goes)
+        (λ j o open_. opens j o (put-cases (λ j. at_open (watched c.queue) (b.open_call j)) p j (if is_some r then None else Some mine) o (sym (ap (λ z. z j) s.calls) ∙ open_)));
+  }
+    where
+      does : Does b.queue s.o k c.queue s.effects
+      does = moves-does b.queue s.o k c.queue s.effects s.moves
 
-    since : Since cap S past H R p n s.o
-    since = tr.open_calls p s.o s.in_call
+      since : Since cap S past H R p n s.o
+      since = tr.open_calls p s.o s.in_call
 
-    mine : Open T
-    mine = after_own b.busy s.o c.queue s.effects
+      mine : Open T
+      mine = after_own b.busy s.o c.queue s.effects
 
-    early-now : (e : Option (Effect T)) → AllByRecursion (λ x. x.event < n + 1) (added n p e H)
-    early-now None = each-all _ _ H (λ x lt. omega arith) tr.early
-    early-now (Some e) = each-more _ H _ (each-all _ _ H (λ x lt. omega arith) tr.early) (omega arith)
+      early-now : (e : Option (Effect T)) → AllByRecursion (λ x. x.event < n + 1) (added n p e H)
+      early-now None = each-all _ _ H (λ x lt. omega arith) tr.early
+      early-now (Some e) = each-more _ H _ (each-all _ _ H (λ x lt. omega arith) tr.early) (omega arith)
 
-    is : c.queue ≡ state_after cap (added n p does.e H) n
-    is = does.leads ∙ sym (leads-added cap n p does.e H b.queue tr.leads) ∙ sym (state-last cap (n + 1) n (added n p does.e H) (early-now does.e) (omega arith))
+      is : c.queue ≡ state_after cap (added n p does.e H) n
+      is = does.leads ∙ sym (leads-added cap n p does.e H b.queue tr.leads) ∙ sym (state-last cap (n + 1) n (added n p does.e H) (early-now does.e) (omega arith))
 
-    waits : (j : ℕ) → j ≢ p → (f : Entry T) → f.party ≡ j → pending None H ≡ Some f → pending None (added n p does.e H) ≡ Some f
-    waits = others-wait T cap S past H R n p granted tr.len ran tr.early tr.early_replies s.o since does.e r b.busy c.queue s.effects is does.effects s.goes (subst (FitsIf does.e) (sym tr.leads) does.fits)
+      waits : (j : ℕ) → j ≢ p → (f : Entry T) → f.party ≡ j → pending None H ≡ Some f → pending None (added n p does.e H) ≡ Some f
+      waits = others-wait T cap S past H R n p granted tr.len ran tr.early tr.early_replies s.o since does.e r b.busy c.queue s.effects is does.effects s.goes (subst (FitsIf does.e) (sym tr.leads) does.fits)
 
-    replied : (y : Option (Reply T)) → reply_entry n p (Ran k y) ≡ with_reply n p y []
-    replied None = refl
-    replied (Some y) = refl
+      replied : (y : Option (Reply T)) → reply_entry n p (Ran k y) ≡ with_reply n p y []
+      replied None = refl
+      replied (Some y) = refl
 
-    reply-owes : (y : Option (Reply T)) → r ≡ y → GoesOn mine y → ReplyOwes cap S (past ++ Step p granted ∷ []) (added n p does.e H) (with_reply n p r R) n p r
-    reply-owes None e goes = rw e tt
-    reply-owes (Some y) e goes = answer-own T cap S past H R n p granted tr.len ran tr.early tr.early_replies s.o since does.e r b.busy c.queue s.effects is does.effects s.goes y goes e
+      reply-owes : (y : Option (Reply T)) → r ≡ y → GoesOn mine y → ReplyOwes cap S (past ++ Step p granted ∷ []) (added n p does.e H) (with_reply n p r R) n p r
+      reply-owes None e goes = rw e tt
+      reply-owes (Some y) e goes = answer-own T cap S past H R n p granted tr.len ran tr.early tr.early_replies s.o since does.e r b.busy c.queue s.effects is does.effects s.goes y goes e
 
-    own-open : (y : Option (Reply T)) → r ≡ y → GoesOn mine y → (o : Open T) → (if is_some y then None else Some mine) ≡ Some o → Since cap S (past ++ Step p granted ∷ []) (added n p does.e H) (with_reply n p r R) p (n + 1) o
-    own-open None e goes o some =
-        let same : mine ≡ o = cc in
-        subst (λ z. Since cap S (past ++ Step p granted ∷ []) (added n p does.e H) (with_reply n p r R) p (n + 1) z) same
-        (since-own T cap S past H R n p granted tr.len ran tr.early tr.early_replies s.o since does.e r b.busy c.queue s.effects is does.effects s.goes e)
-    own-open (Some y) e goes o some = cc
+      own-open : (y : Option (Reply T)) → r ≡ y → GoesOn mine y → (o : Open T) → (if is_some y then None else Some mine) ≡ Some o → Since cap S (past ++ Step p granted ∷ []) (added n p does.e H) (with_reply n p r R) p (n + 1) o
+      own-open None e goes o some =
+          let same : mine ≡ o = cc in
+          subst (λ z. Since cap S (past ++ Step p granted ∷ []) (added n p does.e H) (with_reply n p r R) p (n + 1) z) same
+          (since-own T cap S past H R n p granted tr.len ran tr.early tr.early_replies s.o since does.e r b.busy c.queue s.effects is does.effects s.goes e)
+      own-open (Some y) e goes o some = cc
 
-    opens : (j : ℕ) (o : Open T) → ((j ≡ p) × ((if is_some r then None else Some mine) ≡ Some o)) ⊎ ((j ≢ p) × (at_open (watched c.queue) (b.open_call j) ≡ Some o))
-        → Since cap S (past ++ Step p granted ∷ []) (added n p does.e H) (with_reply n p r R) j (n + 1) o
-    opens j o (inl m) = subst (λ q. Since cap S (past ++ Step p granted ∷ []) (added n p does.e H) (with_reply n p r R) q (n + 1) o) (sym m.0) (own-open r refl s.goes o m.1)
-    opens j o (inr m) =
-        let old = at_open-cases (watched c.queue) (b.open_call j) o m.1 in
-        subst (λ z. Since cap S (past ++ Step p granted ∷ []) (added n p does.e H) (with_reply n p r R) j (n + 1) z) old.2
-        (since-watched cap S (past ++ Step p granted ∷ []) (added n p does.e H) (with_reply n p r R) j n c.queue old.0 is
-        (since-other cap S past (Step p granted ∷ []) H R n p j does.e r old.0 tr.early tr.early_replies (inr m.0) (inr m.0) (waits j m.0) (tr.open_calls j old.0 old.1)))
+      opens : (j : ℕ) (o : Open T) → ((j ≡ p) × ((if is_some r then None else Some mine) ≡ Some o)) ⊎ ((j ≢ p) × (at_open (watched c.queue) (b.open_call j) ≡ Some o))
+          → Since cap S (past ++ Step p granted ∷ []) (added n p does.e H) (with_reply n p r R) j (n + 1) o
+      opens j o (inl m) = subst (λ q. Since cap S (past ++ Step p granted ∷ []) (added n p does.e H) (with_reply n p r R) q (n + 1) o) (sym m.0) (own-open r refl s.goes o m.1)
+      opens j o (inr m) =
+          let old = at_open-cases (watched c.queue) (b.open_call j) o m.1 in
+          subst (λ z. Since cap S (past ++ Step p granted ∷ []) (added n p does.e H) (with_reply n p r R) j (n + 1) z) old.2
+          (since-watched cap S (past ++ Step p granted ∷ []) (added n p does.e H) (with_reply n p r R) j n c.queue old.0 is
+          (since-other cap S past (Step p granted ∷ []) H R n p j does.e r old.0 tr.early tr.early_replies (inr m.0) (inr m.0) (waits j m.0) (tr.open_calls j old.0 old.1)))
 
 -- where the event n ran, it is none of these
 abbrev RanIf : {T : Type 0} → List ℕ → ℕ → Told T → Type 0
