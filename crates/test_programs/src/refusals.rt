@@ -1,10 +1,10 @@
 //! Runs of which each request for memory is refused in turn.
+use crate::asserts::is_in;
 use crate::runs::{Program, run};
 use std::process::Abort;
 use std::sync::Wait;
 use std::thread::Threads;
 use test_support::allocators::{Refusal, Refusing};
-use test_support::asserts::is_in;
 use test_support::runs::{End, SOUND};
 
 /// More requests than any of these runs makes.

@@ -1,11 +1,11 @@
 //! Runs of the two programs: what they are given, how they are to end, and what they are to write.
+use crate::asserts::is_in;
 use app_command::command::command;
 use app_explore::command::command as explore;
 use std::alloc::Allocator;
 use std::process::Abort;
 use std::sync::Wait;
 use std::thread::Threads;
-use test_support::asserts::is_in;
 use test_support::runs::{End, Outcome, Streams, words};
 use test_support::streams::{Reader, Writer};
 

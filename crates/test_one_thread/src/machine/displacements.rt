@@ -1,4 +1,5 @@
 //! Runs on a ring of two slots, with calls that go on within each other.
+use crate::asserts::is;
 use crate::machine::script::{Fact, Run, StoryLine, Sweep, events_of};
 use machine_replay::types::EffectKind;
 use machine_replay::words::{QueueWords, words_after};
@@ -7,7 +8,6 @@ use queue_steps::model::{Call, Reply};
 use queue_steps::steps::Kind;
 use std::alloc::Global;
 use std::process::Abort;
-use test_support::asserts::is;
 
 const RING: Kind = Kind::Bounded(2);
 

@@ -1,4 +1,5 @@
 //! The end of the program: the arguments as the system gives them, and the status.
+use crate::asserts::is_in;
 use app_command::program::program;
 use std::env::Args;
 use std::io;
@@ -6,7 +7,6 @@ use std::io::ErrorKind;
 use std::process::Abort;
 use std::sync::Wait;
 use std::thread::Threads;
-use test_support::asserts::is_in;
 use test_support::runs::words;
 
 /// An input of one line.

@@ -1,4 +1,5 @@
 //! What outcomes and schedules are printed as.
+use crate::asserts::is_in;
 use app_explore::outcomes::{write_outcome, write_outcome_line};
 use app_explore::reading::read_program;
 use app_explore::schedules::write_schedule;
@@ -9,7 +10,6 @@ use queue_steps::model::Reply;
 use queue_steps::steps::Kind;
 use std::alloc::Global;
 use std::process::Abort;
-use test_support::asserts::is_in;
 
 /// The replies to the calls of a party.
 fn replies(rt: &impl Abort, alloc: Global, made: &[Reply<u64>]) -> Sequence<Reply<u64>, Global> {

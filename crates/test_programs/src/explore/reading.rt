@@ -1,4 +1,5 @@
 //! What the lines of programs, and the words of requests, are read as.
+use crate::asserts::is_so;
 use app_explore::args::{Request, Wanted, parse_request};
 use app_explore::read_faults::{LineFault, ReadFault};
 use app_explore::reading::read_program;
@@ -7,7 +8,6 @@ use app_text::usage::UsageFault;
 use machine_explore::program::Program;
 use std::alloc::Global;
 use std::process::Abort;
-use test_support::asserts::is_so;
 use test_support::runs::words;
 
 /// What reading finds: how many calls there are before, and of each party; or the number of the line that is wrong, and why.

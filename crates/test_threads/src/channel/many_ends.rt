@@ -2,13 +2,13 @@
 ghost use Rattle.concurrent_queue.specs.Shared.{IsPartyOf};
 ghost use Rattle.counted_channel.specs.Channel.{IsEndOf};
 
+use crate::asserts::is_in;
 use crate::channel::ends::AnyEnd;
 use crate::channel::opening::{left, opened_surely};
 use concurrent_queue::Party;
 use counted_channel::Channel;
 use std::alloc::Global;
 use std::process::Abort;
-use test_support::asserts::is_in;
 
 /// When an end of each side that are parted off end: before those that are parted off later, or after them.
 enum Turn {

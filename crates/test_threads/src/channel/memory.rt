@@ -2,6 +2,7 @@
 ghost use Rattle.concurrent_queue.specs.Shared.{IsPartyOf};
 ghost use Rattle.counted_channel.specs.Channel.{IsEndOf};
 
+use crate::asserts::is;
 use crate::channel::opening::{Sent, end_both, opened};
 use crate::opening::open_surely;
 use concurrent_queue::{ConcurrentQueue, Party};
@@ -10,7 +11,6 @@ use std::alloc::Global;
 use std::process::Abort;
 use std::sync::Wait;
 use test_support::allocators::{Heap, Refusal};
-use test_support::asserts::is;
 
 /// Whether a channel was made, the item that its queue has still, and whether that has one owner again. Then nothing of the channel is left but the queue.
 type Made = (bool, Option<u64>, bool);

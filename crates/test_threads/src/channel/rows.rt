@@ -3,6 +3,7 @@ ghost use Rattle.std.specs.Prelude.{◌≡◌};
 ghost use Rattle.concurrent_queue.specs.Shared.{IsPartyOf};
 ghost use Rattle.counted_channel.specs.Channel.{IsEndOf};
 
+use crate::asserts::is;
 use crate::channel::ends::AnyEnd;
 use crate::channel::ends::Call::{
     Capacity, Close, End, EndOneOfTwo, ForceSend, IsClosed, Items, Len, Recv, Send, TryRecv,
@@ -17,7 +18,6 @@ use counted_channel::{Channel, Disconnected, Receiver, SendError};
 use std::alloc::Global;
 use std::fmt::{Debug, Display};
 use std::process::Abort;
-use test_support::asserts::is;
 
 static STORIES: [Story; 11] = [
     Story {

@@ -3,6 +3,7 @@ ghost use Rattle.std.specs.Prelude.{IfSome};
 ghost use Rattle.concurrent_queue.specs.Shared.{IsPartyOf};
 ghost use Rattle.counted_channel.specs.Channel.{IsEndOf};
 
+use crate::asserts::is_in;
 use crate::channel::ends::Call;
 use crate::channel::opening::{Left, left, opened_surely};
 use concurrent_queue::Party;
@@ -10,7 +11,6 @@ use counted_channel::{Channel, Receiver, Sender};
 use std::alloc::Global;
 use std::process::Abort;
 use std::sync::Wait;
-use test_support::asserts::is_in;
 
 /// A line of a story: who calls, and what it is answered.
 pub enum Line {

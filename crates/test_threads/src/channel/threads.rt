@@ -2,6 +2,7 @@
 ghost use Rattle.concurrent_queue.specs.Shared.{IsPartyOf};
 ghost use Rattle.counted_channel.specs.Channel.{IsEndOf};
 
+use crate::asserts::{is, is_in};
 use crate::channel::ends::AnyEnd;
 use crate::channel::opening::{Left, left, opened_surely};
 use callers_channel::gather;
@@ -11,7 +12,6 @@ use std::alloc::Global;
 use std::process::Abort;
 use std::sync::Wait;
 use std::thread::{Threads, join};
-use test_support::asserts::{is, is_in};
 
 /// Sends 0, 1, .. up to 99, and ends. Gives its party, how many were sent, and whether each other one was answered that the channel is closed.
 fn send_hundred<R: Wait>(

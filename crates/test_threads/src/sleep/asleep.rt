@@ -1,4 +1,5 @@
 //! Two threads that take turns, and sleep until the other gives an item: each that is seen asleep before, and as fast as they wake.
+use crate::asserts::is;
 use crate::sleep::watched::Watched;
 use event_count::EventCount;
 use std::process::Abort;
@@ -6,7 +7,6 @@ use std::sync::Wait;
 use std::sync::atomic::AtomicU64;
 use std::sync::atomic::Ordering::SeqCst;
 use std::thread::{Threads, join};
-use test_support::asserts::is;
 
 /// Items for one thread, which sleeps where there is none.
 #[derive(Drop)]

@@ -1,7 +1,7 @@
 //! An end that waits for a second takes next to no processor time.
+use crate::asserts::is_in;
 use crate::channel::ends::Call;
 use crate::sleep::waking::{ITEM, Sleep, Who, woken};
-use test_support::asserts::is_in;
 
 /// How many hundredths of a second of processor time a wait of a second may take.
 const MOST: u64 = 1;

@@ -5,6 +5,7 @@
 ghost use Rattle.concurrent_queue.specs.Shared.{IsPartyOf};
 ghost use denote.Param.Send.{IsSync};
 
+use crate::asserts::is_in;
 use crate::channel::opening::Came;
 use crate::opening::{open_surely, part};
 use crate::sleep::watched::Watched;
@@ -17,7 +18,6 @@ use std::alloc::Global;
 use std::process::Abort;
 use std::sync::Wait;
 use std::thread::{Threads, join};
-use test_support::asserts::is_in;
 
 /// Receives once, and is looked at.
 fn receive<R: Wait + Abort>(

@@ -1,6 +1,7 @@
 //! Two threads hand a number to and fro over two channels, and each sleeps until it comes.
 ghost use Rattle.counted_channel.specs.Channel.{IsEndOf};
 
+use crate::asserts::is;
 use crate::channel::opening::opened_surely;
 use crate::sleep::watched::Watched;
 use counted_channel::{Channel, Receiver, Sender};
@@ -8,7 +9,6 @@ use std::alloc::Global;
 use std::process::Abort;
 use std::sync::Wait;
 use std::thread::{Threads, join};
-use test_support::asserts::is;
 
 /// How many numbers go there and back.
 const TURNS: u64 = 20_000;

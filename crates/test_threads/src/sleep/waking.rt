@@ -2,6 +2,7 @@
 ghost use Rattle.counted_channel.specs.Channel.{IsEndOf};
 ghost use denote.Param.Send.{IsSync};
 
+use crate::asserts::is_in;
 use crate::channel::ends::{AnyEnd, Call};
 use crate::channel::opening::opened_surely;
 use crate::sleep::watched::{OWN, Watched, time};
@@ -11,7 +12,6 @@ use std::process::Abort;
 use std::sync::Wait;
 use std::thread::{Threads, join, sleep};
 use std::time::Duration;
-use test_support::asserts::is_in;
 
 /// What an end sends, or is to send.
 pub(crate) const ITEM: u64 = 7;

@@ -3,21 +3,16 @@ use std::fmt::Debug;
 use std::process::Abort;
 
 /// Asserts that this was found.
-pub fn is<T: PartialEq + Debug + Drop>(rt: &impl Abort, found: T, wanted: T) {
+pub(crate) fn is<T: PartialEq + Debug + Drop>(rt: &impl Abort, found: T, wanted: T) {
     is_in(rt, (), found, wanted);
 }
 
 /// Asserts that this was found in this case, which a failure names.
-pub fn is_in<T: PartialEq + Debug + Drop, C: Debug + Drop>(
+pub(crate) fn is_in<T: PartialEq + Debug + Drop, C: Debug + Drop>(
     rt: &impl Abort,
     case: C,
     found: T,
     wanted: T,
 ) {
     assert_eq!(rt; found, wanted, "{case:?}");
-}
-
-/// Asserts that what was found in this case, which a failure names, is what is wanted.
-pub fn is_so(rt: &impl Abort, case: &str, is_wanted: bool) {
-    assert!(rt; is_wanted, "{case:?}");
 }
