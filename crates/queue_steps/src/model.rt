@@ -88,7 +88,7 @@ impl<T> Call<T> {
 
 impl<T> Reply<T> {
     /// The reply of this kind with the value that the call ended with, which is there exactly where the kind tells of one.
-    // Each case is here, and none is handed to a `FillReply`: handed on, a value of 64 bytes is copied, which takes 34 to 83 instructions a pair of calls.
+    // Each case is here, and none is handed to a `FillReply`: handed on, a value of 64 bytes is copied, which takes 36 to 80 instructions a pair more.
     #[inline(always)]
     pub fn fill(kind: ReplyKind, carried: Option<T>) -> Reply<T>
         requires { IsSome (filled kind carried) }
