@@ -1,0 +1,7 @@
+use Rattle.mem_blocks.specs.Seats.{Same}
+use Rattle.test_support.specs.ClosingRule.{Keeps}
+use Rattle.test_shared.proofs.blocks.threads.sees_it_closed.Given as goal
+
+-- the seat is the one that it was
+abbrev pub invariant-loop : goal.invariant-loop
+invariant-loop l = Same l.party l.fn.party × Keeps l.fn.party.sitter l.party.sitter

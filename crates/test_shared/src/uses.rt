@@ -1,0 +1,5 @@
+//! Uses of shared queues.
+pub mod crews;
+pub mod jobs;
+pub mod polls;
+pub mod tasks;
