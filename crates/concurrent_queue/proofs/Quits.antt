@@ -29,7 +29,8 @@ use Rattle.concurrent_queue.specs.declared.party.SeatPlace.TheVariants as place
 use Rattle.concurrent_queue.specs.Begun.{Begun}
 use Rattle.concurrent_queue.specs.SawMore.{SawMore}
 use Rattle.concurrent_queue.specs.Shared.{PartyView, IsHeld, Calls, party_view_of}
-use Rattle.concurrent_queue.proofs.Stops.{first_seat, StopsHere, comes_back}
+use Rattle.concurrent_queue.specs.Pending.{StopsHere}
+use Rattle.concurrent_queue.proofs.Stops.{first_seat, comes_back}
 use Rattle.concurrent_queue.proofs.StopsIn.{first_asking, StopsInside, comes_back_in}
 
 module _ {T : Type 0} where

@@ -26,7 +26,7 @@ use Rattle.concurrent_queue.specs.declared.party.SeatPlace.TheVariants as place
 use Rattle.concurrent_queue.specs.Shared.{QueueId, QueueName, at_table, PartyView, party_view, IsHeld, Calls, party_view_of}
 use Rattle.concurrent_queue.specs.Begun.{Begun}
 use Rattle.shared_calls.specs.Pausing.{IsStep}
-use Rattle.concurrent_queue.specs.Pending.{begun_by, IsStoppedAt}
+use Rattle.concurrent_queue.specs.Pending.{begun_by, IsStoppedAt, StopsHere}
 use Rattle.concurrent_queue.proofs.TableCalls.{table_ends}
 use Rattle.shared_calls.proofs.Steps.{at_step, at_its}
 
@@ -50,28 +50,24 @@ module _ {T : Type 0} (K : ℕ → TableOf T) (t : TableId) where
   abbrev pub first_seat : Seat (Option T) (CallState T) → Seat (Option T) (CallState T)
   first_seat s = let c = its_call s.me.0 in record s { me = (idle (party cap c.since c.before c.share), []) }
 
-  -- the seat's call stands at this table, and is that of v
-  abbrev pub StopsHere : Seat (Option T) (CallState T) → Left T ℕ → Begun T → Type 0
-  StopsHere s l v = (s.table_id ≡ t) × IsStoppedAt (K t.slots) s l × (begun_by (at_table t) cap s.me.0 ≡ v)
-
   -- what is so of it at the seat's own table
   abbrev pub StopsThere : Seat (Option T) (CallState T) → Left T ℕ → Begun T → Type 0
   StopsThere s l v = IsStoppedAt (K s.table_id.slots) s l × (begun_by (at_table s.table_id) (cap_of (K s.table_id.slots).calls) s.me.0 ≡ v)
 
-  pub come_here : (s : Seat (Option T) (CallState T)) (l : Left T ℕ) (v : Begun T) → s.table_id ≡ t → StopsThere s l v → StopsHere s l v
+  pub come_here : (s : Seat (Option T) (CallState T)) (l : Left T ℕ) (v : Begun T) → s.table_id ≡ t → StopsThere s l v → StopsHere K t s l v
   come_here s l v here h =
       let h' = subst (λ (z : TableId). IsStoppedAt (K z.slots) s l × (begun_by (at_table z) (cap_of (K z.slots).calls) s.me.0 ≡ v)) here h in
       (here, h'.0, h'.1)
 
-  pub go_there : (s : Seat (Option T) (CallState T)) (l : Left T ℕ) (v : Begun T) → StopsHere s l v → StopsThere s l v
+  pub go_there : (s : Seat (Option T) (CallState T)) (l : Left T ℕ) (v : Begun T) → StopsHere K t s l v → StopsThere s l v
   go_there s l v h = subst (λ (z : TableId). IsStoppedAt (K z.slots) s l × (begun_by (at_table z) (cap_of (K z.slots).calls) s.me.0 ≡ v)) (sym h.0) (h.1, h.2)
 
   -- its next step is one
-  pub own_step : (s : Seat (Option T) (CallState T)) (l : Left T ℕ) (v : Begun T) → StopsHere s l v → IsStep (next_of l.kind l.progress.local l.progress.answer)
+  pub own_step : (s : Seat (Option T) (CallState T)) (l : Left T ℕ) (v : Begun T) → StopsHere K t s l v → IsStep (next_of l.kind l.progress.local l.progress.answer)
   own_step s l v h = subst (λ (k : Kind). IsStep (next_of k l.progress.local l.progress.answer)) (sym h.1.kind) h.1.step
 
   -- where a call stands, it may be taken up
-  pub taken_up : (n : ℕ) (s : Seat (Option T) (CallState T)) (l : Left T ℕ) (v : Begun T) → StopsHere s l v
+  pub taken_up : (n : ℕ) (s : Seat (Option T) (CallState T)) (l : Left T ℕ) (v : Begun T) → StopsHere K t s l v
       → TableStands K n t (at (first_seat s)) (its_call s.me.0).call l.progress.local l.progress.answer (at s) l.carried
   taken_up n s l v h = (h.0, (its_call s.me.0, refl, refl, h.1.can, h.1.after))
 
@@ -103,7 +99,7 @@ module _ {T : Type 0} (K : ℕ → TableOf T) (t : TableId) where
   -- so does one that the party v began
   pub started : (n : ℕ) (a : SeatPlace T) (s q : Seat (Option T) (CallState T)) (l : Left T ℕ) (v : PartyView T) (c : Call T) → a ≡ place.Table s → IsHeld a → party_view_of a ≡ v → v.queue ≡ record { name = at_table t; cap = cap }
       → l.kind ≡ (K t.slots).calls.kind → l.call ≡ call_kind c → TableStands K n t (at s) c l.progress.local l.progress.answer (at q) l.carried → IsStep (next_of l.kind l.progress.local l.progress.answer)
-      → StopsHere q l (record { party = v; call = c })
+      → StopsHere K t q l (record { party = v; call = c })
   started n a s q l v c sits is is_v queue kind call stands step =
       let is_v' : party_view_of (place.Table s) ≡ v = subst (λ (p : SeatPlace T). party_view_of p ≡ v) sits is_v in
       let cap_is : s.me.0.known.cap ≡ cap = ap (λ (z : PartyView T). z.queue.cap) is_v' ∙ ap (λ (z : QueueId). z.cap) queue in
@@ -111,21 +107,21 @@ module _ {T : Type 0} (K : ℕ → TableOf T) (t : TableId) where
       (h.0, h.1, begun_is (at_table t) cap q.me.0 v c queue (h.2 ∙ ap (λ (z : PartyView T). z.view) is_v') h.3)
 
   -- and one that was taken up
-  pub went_on : (n : ℕ) (s q : Seat (Option T) (CallState T)) (l m : Left T ℕ) (v : Begun T) → StopsHere s l v → m.kind ≡ (K t.slots).calls.kind → m.call ≡ call_kind (its_call s.me.0).call
-      → TableStands K n t (at (first_seat s)) (its_call s.me.0).call m.progress.local m.progress.answer (at q) m.carried → IsStep (next_of m.kind m.progress.local m.progress.answer) → StopsHere q m v
+  pub went_on : (n : ℕ) (s q : Seat (Option T) (CallState T)) (l m : Left T ℕ) (v : Begun T) → StopsHere K t s l v → m.kind ≡ (K t.slots).calls.kind → m.call ≡ call_kind (its_call s.me.0).call
+      → TableStands K n t (at (first_seat s)) (its_call s.me.0).call m.progress.local m.progress.answer (at q) m.carried → IsStep (next_of m.kind m.progress.local m.progress.answer) → StopsHere K t q m v
   went_on n s q l m v old kind call stands step =
       let h = stops n (at (first_seat s)) (its_call s.me.0).call q m old.1.view kind call stands step in
       (h.0, h.1, (λ i. record { party = record { queue = record { name = at_table t; cap = cap }; view = h.2 i }; call = h.3 i }) ∙ old.2)
 
   -- a call of its party that has ended
-  pub comes_back : (s q : Seat (Option T) (CallState T)) (l : Left T ℕ) (v : Begun T) (k : Call T) (y : Reply T) → StopsHere s l v → Ended cap t (at (first_seat s)) k y (at q)
+  pub comes_back : (s q : Seat (Option T) (CallState T)) (l : Left T ℕ) (v : Begun T) (k : Call T) (y : Reply T) → StopsHere K t s l v → Ended cap t (at (first_seat s)) k y (at q)
       → IsHeld (place.Table q) × Calls v.party k y (party_view_of (place.Table q))
   comes_back s q l v k y old e =
       let is_v : party_view_of (place.Table (first_seat s)) ≡ v.party = ap (λ (z : TableId). party_view (at_table z) (first_seat s).me.0) old.0 ∙ ap (λ (z : Begun T). z.party) old.2 in
       table_ends (place.Table (first_seat s)) (first_seat s) cap t refl ((refl, old.1.view), refl) q (place.Table q) v.party k y y refl refl is_v (ap (λ (z : Begun T). z.party.queue.cap) (sym old.2)) (sym old.0) e
 
   -- a call that was taken up and has ended
-  pub ended : (s q : Seat (Option T) (CallState T)) (l : Left T ℕ) (v : Begun T) (y : Reply T) → StopsHere s l v → Ended cap t (at (first_seat s)) (its_call s.me.0).call y (at q)
+  pub ended : (s q : Seat (Option T) (CallState T)) (l : Left T ℕ) (v : Begun T) (y : Reply T) → StopsHere K t s l v → Ended cap t (at (first_seat s)) (its_call s.me.0).call y (at q)
       → IsHeld (place.Table q) × Calls v.party v.call y (party_view_of (place.Table q))
   ended s q l v y old e =
       let h = comes_back s q l v (its_call s.me.0).call y old e in

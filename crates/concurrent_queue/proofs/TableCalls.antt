@@ -7,8 +7,11 @@ use Rattle.queue_steps.specs.declared.model.Reply.{Reply}
 use Rattle.queue_steps.specs.Effect.{IsHistory}
 use Rattle.shared_parties.specs.declared.known.CallState.{CallState}
 use Rattle.shared_tables.specs.AtTable.{TableSeat, IsAt, Ended}
+use Rattle.shared_parties.specs.Calling.{cap_of}
+use Rattle.shared_tables.specs.TableRule.{TableOf}
 use Rattle.concurrent_queue.specs.declared.party.SeatPlace.{SeatPlace}
 use Rattle.concurrent_queue.specs.declared.party.SeatPlace.TheVariants as place
+use Rattle.concurrent_queue.specs.Calling.{IsHeldAt}
 use Rattle.concurrent_queue.specs.Shared.{QueueId, at_table, PartyView, IsHeld, Calls, party_view_of}
 use Rattle.concurrent_queue.proofs.PartyViews.{ended_party_view, ended_calls}
 
@@ -57,3 +60,7 @@ module _ {T : Type 0} (a : SeatPlace T) (s : Seat (Option T) (CallState T)) (cap
 
   pub ends_here : (q : Seat (Option T) (CallState T)) (b : SeatPlace T) (c : Call T) (r z : Reply T) → b ≡ place.Table q → z ≡ r → Ended cap t (s.table_id, s.me) c r (q.table_id, q.me) → IsHeld b × Calls v c z (party_view_of b)
   ends_here q b c r z sat same e = table_ends a s cap t sits is q b v c r z sat same is_v (ap (λ (z : QueueId). z.cap) of) (sym here) e
+
+-- it is held at that table
+pub held_here : {T : Type 0} (K : ℕ → TableOf T) (t : TableId) (a : SeatPlace T) (s : Seat (Option T) (CallState T)) (v : PartyView T) → a ≡ place.Table s → IsHeld a → party_view_of a ≡ v → v.queue ≡ queue_at t (cap_of (K t.slots).calls) → IsHeldAt K t s
+held_here K t a s v sits is is_v of = (subst IsHeld sits is, ap (λ (p : PartyView _). p.queue) (subst (λ p. party_view_of p ≡ v) sits is_v) ∙ of)

@@ -1,5 +1,5 @@
 -- A party whose call was tried: it is held again, and the call was made or has done nothing.
-use Rattle.std.proofs.Common.{◌≡◌, ℕ, Option, None, Continue, Break, refl, sym, ap, subst}
+use Rattle.std.proofs.Common.{◌≡◌, ℕ, Option, None, Continue, Break, refl, sym, ap, subst, ◌∙◌}
 use Rattle.std.specs.ControlFlow.{MatchControlFlow}
 use Rattle.std.specs.declared.ops.ControlFlow.{ControlFlow}
 use Rattle.atomic_table.specs.Seated.{TableId}
@@ -53,6 +53,14 @@ told_here a s cap t v sits is is_v of q b c x sat h = told_table a s cap t sits 
 pub tells : {T X Y : Type 0} (asks : X → Call T) (Tells : PartyView T → X → Y → PartyView T → Type 0) (v : PartyView T) (b : SeatPlace T) (given : X) (c : Call T) (told : ControlFlow (Reply T) (Option T)) (y z : Y)
     → IsHeld b × Tries v c told (party_view_of b) → c ≡ asks given → ((v w : PartyView T) (x : X) → Tries v (asks x) told w → Tells v x y w) → z ≡ y → IsHeld b × Tells v given z (party_view_of b)
 tells asks Tells v b given c told y z h asked tell same = (h.0, subst (λ r. Tells v given r (party_view_of b)) (sym same) (tell v (party_view_of b) given (subst (λ k. Tries v k told (party_view_of b)) asked h.1)))
+
+-- the same of a call that a seat's own function has made
+pub tells_where : {T X Y : Type 0} (Tells : PartyView T → X → Y → PartyView T → Type 0) (a s b q : SeatPlace T) (v : PartyView T) (given : X) (y z : Y) → a ≡ s → party_view_of a ≡ v → b ≡ q → z ≡ y
+    → IsHeld q × Tells (party_view_of s) given y (party_view_of q) → IsHeld b × Tells v given z (party_view_of b)
+tells_where Tells a s b q v given y z sits is_v sat same h = (
+  subst IsHeld (sym sat) h.0,
+  subst (λ p. Tells v given z (party_view_of p)) (sym sat) (subst (λ u. Tells v given u (party_view_of q)) (sym same) (subst (λ p. Tells p given y (party_view_of q)) (ap party_view_of (sym sits) ∙ is_v) h.1)),
+)
 
 -- what follows of each way that a call was told
 pub told_map : {R V : Type 0} {P Q : V → Type 0} {E F : R → Type 0} → ((v : V) → P v → Q v) → ((r : R) → E r → F r) → (x : ControlFlow R V) → MatchControlFlow x P E → MatchControlFlow x Q F

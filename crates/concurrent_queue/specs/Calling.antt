@@ -2,6 +2,7 @@
 use Rattle.std.specs.Prelude.{◌≡◌, ℕ, Option}
 use Rattle.atomic_table.specs.declared.shared.Seat.{Seat}
 use Rattle.queue_steps.specs.declared.model.Call.{Call}
+use Rattle.queue_steps.specs.declared.model.Reply.{Reply}
 use Rattle.call_driver.specs.declared.site.Site.{Ghosts}
 use Rattle.shared_parties.specs.declared.known.CallState.{CallState}
 use Rattle.shared_calls.specs.Leaving.{IsLeft}
@@ -9,7 +10,19 @@ use Rattle.shared_site.specs.declared.left.Left.{Left}
 use Rattle.concurrent_queue.specs.declared.party.SeatPlace.{SeatPlace}
 use Rattle.concurrent_queue.specs.declared.party.SeatPlace.TheVariants as place
 use Rattle.concurrent_queue.specs.declared.shared.Form.{Form}
-use Rattle.concurrent_queue.specs.Shared.{IsPartyOf, IsHeld, form_id, party_view_of}
+use Rattle.atomic_table.specs.Seated.{TableId}
+use Rattle.shared_parties.specs.Calling.{cap_of}
+use Rattle.shared_tables.specs.TableRule.{TableOf}
+use Rattle.concurrent_queue.specs.Begun.{Begun}
+use Rattle.concurrent_queue.specs.Shared.{IsPartyOf, IsHeld, Calls, at_table, form_id, party_view_of}
+
+-- the seat is that of a party of the queue at this table, between its calls
+abbrev pub IsHeldAt : {T : Type 0} → (ℕ → TableOf T) → TableId → Seat (Option T) (CallState T) → Type 0
+IsHeldAt K t s = IsHeld (place.Table s) × IsPartyOf (party_view_of (place.Table s)) (record { name = at_table t; cap = cap_of (K t.slots).calls })
+
+-- the call of v has ended with this reply, and its party has this seat
+abbrev pub HasEnded : {T : Type 0} → Begun T → Reply T → Seat (Option T) (CallState T) → Type 0
+HasEnded v r s = IsHeld (place.Table s) × Calls v.party v.call r (party_view_of (place.Table s))
 
 -- the seat is that of a party of this queue, between its calls
 abbrev pub IsHeldIn : {T A : Type 0} → Form T A → SeatPlace T → Type 0

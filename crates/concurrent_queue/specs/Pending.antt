@@ -2,6 +2,7 @@
 use Rattle.std.specs.Prelude.{◌≡◌, ◌≤◌, ℕ, Option, Some, None}
 use Rattle.atomic_table.specs.declared.shared.Seat.{Seat}
 use Rattle.mem_blocks.specs.declared.block.BlockPtr.{BlockPtr as Link}
+use Rattle.queue_steps.specs.declared.model.Call.{Call}
 use Rattle.queue_steps.specs.declared.steps.types.Answer.{Answer}
 use Rattle.queue_steps.specs.declared.steps.types.Kind.TheVariants as queue
 use Rattle.queue_steps.specs.declared.steps.types.Local.{Local}
@@ -23,7 +24,9 @@ use Rattle.shared_site.specs.declared.chain.Asking.{Asking}
 use Rattle.shared_site.specs.declared.left.Left.{Left}
 use Rattle.concurrent_queue.specs.declared.shared.pending.CallPlace.{CallPlace}
 use Rattle.concurrent_queue.specs.declared.shared.pending.CallPlace.TheVariants as place
-use Rattle.concurrent_queue.specs.Shared.{QueueName, at_table, in_web}
+use Rattle.atomic_table.specs.Seated.{TableId}
+use Rattle.concurrent_queue.specs.declared.party.SeatPlace.TheVariants as seat
+use Rattle.concurrent_queue.specs.Shared.{QueueName, at_table, in_web, party_view_of}
 use Rattle.concurrent_queue.specs.Begun.{Begun}
 use Rattle.shared_calls.specs.Pausing.{IsStep}
 
@@ -54,6 +57,14 @@ pub record IsStoppedIn {T A Q : Type 0} (s : Asking T A Q) (l : Left T (Link T))
   pub can : CanNext queue.Unbounded local answer
   pub after : chain.After (its_call s.seat.sitter.view) l.carried (next_of queue.Unbounded local answer) s.seat.sitter
   pub step : IsStep (next_of queue.Unbounded l.progress.local l.progress.answer)
+
+-- the call c of the party with this seat at a table
+abbrev pub begun_with : {T : Type 0} → Seat (Option T) (CallState T) → Call T → Begun T
+begun_with s c = record { party = party_view_of (seat.Table s); call = c }
+
+-- the seat's call stands at this table, and is that of v
+abbrev pub StopsHere : {T : Type 0} → (ℕ → TableOf T) → TableId → Seat (Option T) (CallState T) → Left T ℕ → Begun T → Type 0
+StopsHere K t s l v = (s.table_id ≡ t) × IsStoppedAt (K t.slots) s l × (begun_by (at_table t) (cap_of (K t.slots).calls) s.me.0 ≡ v)
 
 module _ {T A : Type 0} where
   abbrev pub begun_of : CallPlace T A → Begun T

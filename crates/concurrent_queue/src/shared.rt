@@ -12,7 +12,6 @@ ghost use Rattle.concurrent_queue.specs.Shared.{IsPartyOf, Calls};
 
 pub use crate::party::Party;
 use crate::party::SeatPlace;
-use call_driver::fast::Short;
 use call_driver::gate::{Gate, Open};
 use call_steps::{shown_len, shows_closed};
 use exclusive_queue::text::write_queue;
@@ -21,7 +20,7 @@ use queue_steps::errors::{ForcePushError, PopError, PushError};
 use queue_steps::model::{Call, Reply};
 use queue_steps::steps::Kind;
 use shared_calls::chain;
-use shared_calls::waiting::{run_either, run_fast, run_slow};
+use shared_calls::waiting::{run_either, run_slow};
 use shared_chain::source::{Granting, Refusing, Source};
 use shared_chain::web::ChainWeb;
 use shared_site::allocated_chain::AllocatedChain;
@@ -43,6 +42,7 @@ pub mod pending;
 mod trying;
 mod wait_free;
 
+use calling::run_short;
 pub use iter::TryIter;
 pub use pending::{Outcome, Pending};
 
@@ -231,9 +231,7 @@ impl<T, A: Allocator> ConcurrentQueue<T, A> {
         // In place, as in `pop`: each function that may wait costs a test behind its call. And by form, so that what a ring leaves is put together for a ring.
         let reply = match (&self.form, &mut party.place) {
             (Form::Single(slot), SeatPlace::Table(seat)) => {
-                match run_fast::<SharedTable<T, Slots, A>, Open, Short<Pushes>>(
-                    slot, &Open, seat, call,
-                ) {
+                match run_short::<SharedTable<T, Slots, A>, Open, Pushes>(slot, &Open, seat, call) {
                     ControlFlow::Break(reply) => reply,
                     ControlFlow::Continue(left) => run_slow::<SharedTable<T, Slots, A>, Open, R>(
                         slot, rt, &Open, seat, left,

@@ -7,6 +7,7 @@ ghost use Rattle.shared_parties.specs.declared.known.CallState.{CallState as Spe
 ghost use Rattle.concurrent_queue.specs.declared.party.SeatPlace.TheVariants as place;
 ghost use Rattle.concurrent_queue.specs.declared.shared.Form.TheVariants as form;
 ghost use Rattle.concurrent_queue.specs.Shared.{Calls, IsHeld, party_view_of};
+ghost use Rattle.shared_calls.specs.Leaving.{IsLeft};
 ghost use Rattle.concurrent_queue.specs.Calling.{IsHeldIn, HasLeft};
 
 use super::Form;
@@ -25,6 +26,20 @@ use std::alloc::Allocator;
 use std::ops::ControlFlow;
 use std::sync::Wait;
 
+/// Begins a call and takes its fast steps, by the short row.
+#[inline(always)]
+pub(crate) fn run_short<M: Site, G: Gate, W>(
+    site: &M::Shared,
+    gate: &G,
+    seat: &mut M::Seat,
+    call: Call<M::Item>,
+) -> ControlFlow<Reply<M::Item>, Left<M::Item, M::Block>>
+    requires { M.rests site.now seat.old }
+    ensures { MatchControlFlow result (λ left. IsLeft M.Site site.now seat.old call left seat.new) (λ reply. M.ended site.now seat.old call reply seat.new) }
+{
+    run_fast::<M, G, Short<W>>(site, gate, seat, call)
+}
+
 impl<T, A: Allocator> Form<T, A> {
     /// Begins a call at a table and takes its fast steps. It does not wait.
     #[inline(always)]
@@ -39,7 +54,7 @@ impl<T, A: Allocator> Form<T, A> {
     {
         match self {
             Form::Single(slot) => {
-                run_fast::<SharedTable<T, Slots, A>, G, Short<W>>(slot, gate, seat, call)
+                run_short::<SharedTable<T, Slots, A>, G, W>(slot, gate, seat, call)
             }
             Form::Ring(ring) => {
                 let is_masked = ring.slots().is_power_of_two();

@@ -1,6 +1,10 @@
 //! Calls that never wait: one that meets another call half done is handed back as it stands, and taken up again later.
 ghost use Rattle.std.specs.Prelude.{◌≡◌, None};
-ghost use Rattle.queue_steps.specs.declared.model.Call.{Call as SpecCall};
+ghost use Rattle.std.specs.ControlFlow.{MatchControlFlow};
+ghost use Rattle.shared_calls.specs.Pausing.{IsPaused};
+ghost use Rattle.concurrent_queue.specs.Begun.{Begun as SpecBegun};
+ghost use Rattle.concurrent_queue.specs.Calling.{IsHeldAt, HasEnded};
+ghost use Rattle.concurrent_queue.specs.Pending.{StopsHere, begun_with};
 ghost use Rattle.concurrent_queue.specs.OneHeap.{IsOneHeap};
 ghost use Rattle.concurrent_queue.specs.Shared.{IsPartyOf};
 
@@ -10,6 +14,7 @@ use crate::shared::ConcurrentQueue;
 use atomic_table::Seat;
 use call_driver::fast::{Short, Usual};
 use call_driver::gate::Open;
+use call_driver::site::Site;
 use mem_blocks::item::Place;
 use mem_blocks::null_testable::NullTestable;
 use queue_steps::model::{Call, Reply};
@@ -18,9 +23,7 @@ use shared_parties::known::CallState;
 use shared_pauses::parts::{set_out, take_up};
 use shared_site::chain::Asking;
 use shared_site::left::Left;
-use shared_tables::ring::Rings;
-use shared_tables::slot::Slots;
-use shared_tables::table::SharedTable;
+use shared_tables::table::{SharedTable, TableSteps};
 use std::alloc::{Allocator, Global};
 use std::marker::Model;
 use std::ops::ControlFlow;
@@ -103,6 +106,51 @@ impl<T, A: Allocator> Pending<T, A> {
     }
 }
 
+/// Sets out on a call, with the short row of fast steps first or the usual one.
+#[inline(always)]
+fn set_out_by<M: Site>(
+    is_short: bool,
+    site: &M::Shared,
+    seat: &mut M::Seat,
+    call: Call<M::Item>,
+) -> ControlFlow<Reply<M::Item>, Left<M::Item, M::Block>>
+    requires { M.rests site.now seat.old }
+    ensures { MatchControlFlow result (λ paused. IsPaused M.Site site.now seat.old call paused seat.new) (λ reply. M.ended site.now seat.old call reply seat.new) }
+{
+    if is_short {
+        set_out::<M, Open, Short<Begins>>(site, &Open, seat, call)
+    } else {
+        set_out::<M, Open, Usual<Begins>>(site, &Open, seat, call)
+    }
+}
+
+/// The same at a table of any kind.
+#[inline(always)]
+fn set_out_at<T, K: TableSteps<T>, A: Allocator>(
+    is_short: bool,
+    table: &SharedTable<T, K, A>,
+    seat: &mut Seat<Option<T>, CallState<T>>,
+    call: Call<T>,
+) -> ControlFlow<Reply<T>, Left<T, usize>>
+    requires { IsHeldAt K.layout table.now.table.shared.table_id seat.old }
+    ensures { MatchControlFlow result (λ left. StopsHere K.layout table.now.table.shared.table_id seat.new left (begun_with seat.old call)) (λ reply. HasEnded (begun_with seat.old call) reply seat.new) }
+{
+    set_out_by::<SharedTable<T, K, A>>(is_short, table, seat, call)
+}
+
+/// Takes up a call at a table of any kind.
+#[inline(always)]
+fn take_up_at<T, K: TableSteps<T>, A: Allocator>(
+    table: &SharedTable<T, K, A>,
+    seat: &mut Seat<Option<T>, CallState<T>>,
+    left: Left<T, usize>,
+) -> ControlFlow<Reply<T>, Left<T, usize>>
+    requires { (v : SpecBegun T) × StopsHere K.layout table.now.table.shared.table_id seat.old left v }
+    ensures { (v : SpecBegun T) → StopsHere K.layout table.now.table.shared.table_id seat.old left v → MatchControlFlow result (λ paused. StopsHere K.layout table.now.table.shared.table_id seat.new paused v) (λ reply. HasEnded v reply seat.new) }
+{
+    take_up::<SharedTable<T, K, A>, Open>(table, &Open, seat, left)
+}
+
 impl<T, A: NullTestable> ConcurrentQueue<T, A> {
     ghost use Rattle.concurrent_queue.specs.Comes.{Comes};
 
@@ -113,9 +161,7 @@ impl<T, A: NullTestable> ConcurrentQueue<T, A> {
     {
         match (&self.form, party.place) {
             (Form::Single(slot), SeatPlace::Table(mut seat)) => {
-                match set_out::<SharedTable<T, Slots, A>, Open, Short<Begins>>(
-                    slot, &Open, &mut seat, call,
-                ) {
+                match set_out_at(true, slot, &mut seat, call) {
                     ControlFlow::Break(reply) => {
                         Outcome::Done(Party::at(SeatPlace::Table(seat)), reply)
                     }
@@ -125,9 +171,7 @@ impl<T, A: NullTestable> ConcurrentQueue<T, A> {
                 }
             }
             (Form::Ring(ring), SeatPlace::Table(mut seat)) => {
-                match set_out::<SharedTable<T, Rings, A>, Open, Usual<Begins>>(
-                    ring, &Open, &mut seat, call,
-                ) {
+                match set_out_at(false, ring, &mut seat, call) {
                     ControlFlow::Break(reply) => {
                         Outcome::Done(Party::at(SeatPlace::Table(seat)), reply)
                     }
@@ -138,12 +182,7 @@ impl<T, A: NullTestable> ConcurrentQueue<T, A> {
             }
             (Form::Chain(queue), SeatPlace::Web(mut rested)) => {
                 let mut asking: Asking<T, A, Granting> = Asking::wake(&queue.chain, &mut rested);
-                match set_out::<Asking<T, A, Granting>, Open, Usual<Begins>>(
-                    queue,
-                    &Open,
-                    &mut asking,
-                    call,
-                ) {
+                match set_out_by::<Asking<T, A, Granting>>(false, queue, &mut asking, call) {
                     ControlFlow::Break(reply) => {
                         Outcome::Done(Party::at(SeatPlace::Web(asking.rests())), reply)
                     }
@@ -166,9 +205,7 @@ impl<T, A: NullTestable> ConcurrentQueue<T, A> {
         let place = pending.into_place();
         match place {
             CallPlace::Slot(mut seat, left) => match &self.form {
-                Form::Single(slot) => match take_up::<SharedTable<T, Slots, A>, Open>(
-                    slot, &Open, &mut seat, left,
-                ) {
+                Form::Single(slot) => match take_up_at(slot, &mut seat, left) {
                     ControlFlow::Break(reply) => {
                         Outcome::Done(Party::at(SeatPlace::Table(seat)), reply)
                     }
@@ -180,9 +217,7 @@ impl<T, A: NullTestable> ConcurrentQueue<T, A> {
                 Form::Chain(_) => unreachable!(),
             },
             CallPlace::Ring(mut seat, left) => match &self.form {
-                Form::Ring(ring) => match take_up::<SharedTable<T, Rings, A>, Open>(
-                    ring, &Open, &mut seat, left,
-                ) {
+                Form::Ring(ring) => match take_up_at(ring, &mut seat, left) {
                     ControlFlow::Break(reply) => {
                         Outcome::Done(Party::at(SeatPlace::Table(seat)), reply)
                     }

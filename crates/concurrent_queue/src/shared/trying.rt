@@ -7,22 +7,26 @@ ghost use Rattle.law_chain.specs.ChainEarly.{IsPush};
 ghost use Rattle.shared_parties.specs.Calling.{cap_of};
 ghost use Rattle.shared_calls.specs.Settling.{MayWait};
 ghost use Rattle.shared_calls.specs.Trying.{SomeLeft, EndsOrQuits};
-ghost use Rattle.concurrent_queue.specs.Shared.{IsPartyOf, PartyView};
+ghost use Rattle.std.specs.ControlFlow.{MatchControlFlow};
+ghost use Rattle.shared_calls.specs.Leaving.{IsLeft};
+ghost use Rattle.concurrent_queue.specs.declared.party.SeatPlace.TheVariants as place;
+ghost use Rattle.concurrent_queue.specs.Calling.{IsHeldAt};
+ghost use Rattle.concurrent_queue.specs.Shared.{IsPartyOf, IsHeld, PartyView, party_view_of};
 ghost use Rattle.concurrent_queue.specs.Tries.{Tries, TriesPush, TriesForcePush, TriesPop};
 
 use super::Form;
+use super::calling::run_short;
 use crate::party::{Party, SeatPlace};
 use crate::shared::ConcurrentQueue;
 use crate::try_errors::{TryForcePushError, TryPopError, TryPushError};
 use atomic_table::Seat;
-use call_driver::fast::Short;
 use call_driver::gate::Open;
 use call_driver::site::Site;
 use mem_blocks::null_testable::NullTestable;
 use queue_steps::errors::{ForcePushError, PopError, PushError};
 use queue_steps::model::{Call, Reply};
 use shared_calls::attempts::{attempt_in, end_or_quit_at, retold};
-use shared_calls::waiting::{run_either, run_fast};
+use shared_calls::waiting::run_either;
 use shared_parties::known::CallState;
 use shared_site::left::Left;
 use shared_tables::ring::Rings;
@@ -174,34 +178,70 @@ fn end_or_quit<T, K: TableSteps<T>, A: Allocator>(
     retold(end_or_quit_at(table, seat, left.apart()))
 }
 
+/// Which row of fast steps a call at a table takes.
+enum FastRow {
+    /// The short one.
+    Short,
+    /// The usual one, in the copy for a capacity that is a power of two or in the other.
+    Usual { is_masked: bool },
+}
+
+/// Begins a call and takes its fast steps.
+#[inline(always)]
+fn run_row<M: Site, W>(
+    row: FastRow,
+    site: &M::Shared,
+    seat: &mut M::Seat,
+    call: Call<M::Item>,
+) -> ControlFlow<Reply<M::Item>, Left<M::Item, M::Block>>
+    requires { M.rests site.now seat.old }
+    ensures { MatchControlFlow result (λ left. IsLeft M.Site site.now seat.old call left seat.new) (λ reply. M.ended site.now seat.old call reply seat.new) }
+{
+    match row {
+        FastRow::Short => run_short::<M, Open, W>(site, &Open, seat, call),
+        FastRow::Usual { is_masked } => run_either::<M, Open, W>(
+            is_masked, site, &Open, seat, call,
+        ),
+    }
+}
+
+/// Makes a call at a table which gives up where it would wait. Each way out makes what the caller is told in place, so that the compiler knows there what the call was answered.
+#[inline(always)]
+fn attempt_at<T, K: TableSteps<T>, A: Allocator, W: Attempt<T>>(
+    row: FastRow,
+    table: &SharedTable<T, K, A>,
+    seat: &mut Seat<Option<T>, CallState<T>>,
+    given: W::Given,
+) -> W::Told
+    requires held { IsHeldAt K.layout table.now.table.shared.table_id seat.old }
+    requires ends { (todo : SpecNext ℕ) → ¬ (MayWait (K.layout table.now.table.shared.table_id.slots).calls.kind todo) }
+    ensures { IsHeld (place.Table seat.new) × W.tells (party_view_of (place.Table seat.old)) given result (party_view_of (place.Table seat.new)) }
+{
+    let call = W::ask(given);
+    match run_row::<SharedTable<T, K, A>, W>(row, table, seat, call) {
+        ControlFlow::Break(reply) => W::tell(ControlFlow::Break(reply)),
+        ControlFlow::Continue(left) => W::tell(end_or_quit(table, seat, left)),
+    }
+}
+
 impl<T, A: NullTestable> ConcurrentQueue<T, A> {
-    /// Makes a call which gives up where it would wait. Each way out makes what the caller is told in place, so that the compiler knows there what the call was answered.
+    /// Makes a call which gives up where it would wait.
     #[inline(always)]
     fn attempt<W: Attempt<T>>(&self, party: &mut Party<T>, given: W::Given) -> W::Told
         requires of { IsPartyOf party.old self.now }
         requires pushes { self.now.cap ≡ None → IsPush (W.asks given) }
         ensures { W.tells party.old given result party.new }
     {
-        let call = W::ask(given);
         match (&self.form, &mut party.place) {
             (Form::Single(slot), SeatPlace::Table(seat)) => {
-                match run_fast::<SharedTable<T, Slots, A>, Open, Short<W>>(
-                    slot, &Open, seat, call,
-                ) {
-                    ControlFlow::Break(reply) => W::tell(ControlFlow::Break(reply)),
-                    ControlFlow::Continue(left) => W::tell(end_or_quit(slot, seat, left)),
-                }
+                attempt_at::<T, Slots, A, W>(FastRow::Short, slot, seat, given)
             }
             (Form::Ring(ring), SeatPlace::Table(seat)) => {
                 let is_masked = ring.slots().is_power_of_two();
-                match run_either::<SharedTable<T, Rings, A>, Open, W>(
-                    is_masked, ring, &Open, seat, call,
-                ) {
-                    ControlFlow::Break(reply) => W::tell(ControlFlow::Break(reply)),
-                    ControlFlow::Continue(left) => W::tell(end_or_quit(ring, seat, left)),
-                }
+                attempt_at::<T, Rings, A, W>(FastRow::Usual { is_masked }, ring, seat, given)
             }
             (Form::Chain(queue), SeatPlace::Web(rested)) => {
+                let call = W::ask(given);
                 W::tell(attempt_in::<T, A, W>(queue, rested, call))
             }
             _ => unreachable!(),

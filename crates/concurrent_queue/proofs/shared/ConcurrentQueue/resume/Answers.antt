@@ -1,24 +1,23 @@
-use Rattle.std.proofs.Common.{◌≡◌, ◌-◌, ◌≤◌, ◌∙◌, sym, ap, subst}
+use Rattle.std.proofs.Common.{◌≡◌, ◌≤◌, ◌∙◌, sym, ap, subst}
 use Rattle.atomic_table.specs.Seated.{TableId}
-use Rattle.queue_steps.specs.declared.sizes.TheConstants.{SOLO_STEPS}
 use Rattle.shared_tables.specs.SlotTable.{slot_table}
 use Rattle.shared_tables.specs.RingTable.{ring_table}
 use Rattle.concurrent_queue.specs.Begun.{Begun}
 use Rattle.concurrent_queue.specs.Pending.{begun_of, IsStopped}
 use Rattle.shared_parties.specs.Quitting.{its_call}
 use Rattle.concurrent_queue.specs.Shared.{QueueId, Calls, form_id}
-use Rattle.concurrent_queue.proofs.Stops.{first_seat, come_here, go_there, own_step, taken_up, went_on, ended, not_one}
+use Rattle.concurrent_queue.proofs.Stops.{come_here, go_there, not_one}
 use Rattle.concurrent_queue.proofs.TableCalls.{same_table}
 use Rattle.concurrent_queue.proofs.StopsIn.{first_asking, StopsInside, own_step_in, taken_up_in, went_on_in, ended_in, same_web}
 use Rattle.concurrent_queue.proofs.shared.ConcurrentQueue.resume.Goals as goal
 
-pub take_up-requires : goal.take_up-requires
-take_up-requires g c =
+pub take_up_at-requires : goal.take_up_at-requires
+take_up_at-requires g c =
     let b = c.in-Slot in let v = c.args.pending in let t = c.in-Single.slot.table.shared.table_id in let s = b.seat in
     let there = subst (λ p. IsStopped p × (begun_of p ≡ v)) b.is (c.into_place-place.ensures.stops, c.into_place-place.ensures.begun) in
     let same = same_table s.table_id t (ap (λ (z : Begun _). z.party.queue.name) there.1 ∙ ap (λ (z : QueueId). z.name) (c.requires.of ∙ (sym c.self.view_is ∙ ap form_id c.in-Single.is))) in
     let h = come_here (λ _. slot_table) t s b.left v same there in
-    ((its_call s.me.0).call, first_seat (λ _. slot_table) t s, (((h.1.kind, h.1.call), taken_up (λ _. slot_table) t (SOLO_STEPS - 1) s b.left v h), own_step (λ _. slot_table) t s b.left v h))
+    (v, h)
 
 pub at-requires : goal.at-requires
 at-requires g c =
@@ -26,7 +25,7 @@ at-requires g c =
     let there = subst (λ p. IsStopped p × (begun_of p ≡ v)) b.is (c.into_place-place.ensures.stops, c.into_place-place.ensures.begun) in
     let same = same_table s.table_id t (ap (λ (z : Begun _). z.party.queue.name) there.1 ∙ ap (λ (z : QueueId). z.name) (c.requires.of ∙ (sym c.self.view_is ∙ ap form_id c.in-Single.is))) in
     let h = come_here (λ _. slot_table) t s b.left v same there in
-    (ended (λ _. slot_table) t s c.take_up.new.seat b.left v c.in-Break.reply h (c.in-Break.ensures (its_call s.me.0).call (first_seat (λ _. slot_table) t s) (((h.1.kind, h.1.call), taken_up (λ _. slot_table) t (SOLO_STEPS - 1) s b.left v h), own_step (λ _. slot_table) t s b.left v h))).0
+    (c.in-Break.ensures v h).0
 
 pub returns-in-Break : goal.returns-in-Break
 returns-in-Break g c =
@@ -34,7 +33,7 @@ returns-in-Break g c =
     let there = subst (λ p. IsStopped p × (begun_of p ≡ v)) b.is (c.into_place-place.ensures.stops, c.into_place-place.ensures.begun) in
     let same = same_table s.table_id t (ap (λ (z : Begun _). z.party.queue.name) there.1 ∙ ap (λ (z : QueueId). z.name) (c.requires.of ∙ (sym c.self.view_is ∙ ap form_id c.in-Single.is))) in
     let h = come_here (λ _. slot_table) t s b.left v same there in
-    subst (λ p. Calls v.party v.call c.in-Break.reply p) (sym c.at.ensures) (ended (λ _. slot_table) t s c.take_up.new.seat b.left v c.in-Break.reply h (c.in-Break.ensures (its_call s.me.0).call (first_seat (λ _. slot_table) t s) (((h.1.kind, h.1.call), taken_up (λ _. slot_table) t (SOLO_STEPS - 1) s b.left v h), own_step (λ _. slot_table) t s b.left v h))).1
+    subst (λ p. Calls v.party v.call c.in-Break.reply p) (sym c.at.ensures) (c.in-Break.ensures v h).1
 
 pub at-requires-in-Continue : goal.at-requires-in-Continue
 at-requires-in-Continue g c =
@@ -42,9 +41,7 @@ at-requires-in-Continue g c =
     let there = subst (λ p. IsStopped p × (begun_of p ≡ v)) b.is (c.into_place-place.ensures.stops, c.into_place-place.ensures.begun) in
     let same = same_table s.table_id t (ap (λ (z : Begun _). z.party.queue.name) there.1 ∙ ap (λ (z : QueueId). z.name) (c.requires.of ∙ (sym c.self.view_is ∙ ap form_id c.in-Single.is))) in
     let h = come_here (λ _. slot_table) t s b.left v same there in
-    let e = (c.in-Continue.ensures (its_call s.me.0).call (first_seat (λ _. slot_table) t s) (((h.1.kind, h.1.call), taken_up (λ _. slot_table) t (SOLO_STEPS - 1) s b.left v h), own_step (λ _. slot_table) t s b.left v h)) in
-    let after = went_on (λ _. slot_table) t (SOLO_STEPS - 1) s c.take_up.new.seat b.left c.in-Continue.left v h e.0.0.0 e.0.0.1 e.0.1 e.1 in
-    after.1
+    (c.in-Continue.ensures v h).1
 
 pub returns-in-Continue : goal.returns-in-Continue
 returns-in-Continue g c =
@@ -52,56 +49,51 @@ returns-in-Continue g c =
     let there = subst (λ p. IsStopped p × (begun_of p ≡ v)) b.is (c.into_place-place.ensures.stops, c.into_place-place.ensures.begun) in
     let same = same_table s.table_id t (ap (λ (z : Begun _). z.party.queue.name) there.1 ∙ ap (λ (z : QueueId). z.name) (c.requires.of ∙ (sym c.self.view_is ∙ ap form_id c.in-Single.is))) in
     let h = come_here (λ _. slot_table) t s b.left v same there in
-    let e = (c.in-Continue.ensures (its_call s.me.0).call (first_seat (λ _. slot_table) t s) (((h.1.kind, h.1.call), taken_up (λ _. slot_table) t (SOLO_STEPS - 1) s b.left v h), own_step (λ _. slot_table) t s b.left v h)) in
-    let after = went_on (λ _. slot_table) t (SOLO_STEPS - 1) s c.take_up.new.seat b.left c.in-Continue.left v h e.0.0.0 e.0.0.1 e.0.1 e.1 in
-    c.at-in-Continue.ensures ∙ (go_there (λ _. slot_table) t c.take_up.new.seat c.in-Continue.left v after).1
+    c.at-in-Continue.ensures ∙ (go_there (λ _. slot_table) t c.take_up_at.new.seat c.in-Continue.left v (c.in-Continue.ensures v h)).1
 
-pub take_up-requires-in-Ring-form-2 : goal.take_up-requires-in-Ring-form-2
-take_up-requires-in-Ring-form-2 g c =
+pub take_up_at-requires-in-Ring-form-2 : goal.take_up_at-requires-in-Ring-form-2
+take_up_at-requires-in-Ring-form-2 g c =
     let b = c.in-Ring in let v = c.args.pending in let t = c.in-Ring-form-2.ring.table.shared.table_id in let s = b.seat in
     let there = subst (λ p. IsStopped p × (begun_of p ≡ v)) b.is (c.into_place-place.ensures.stops, c.into_place-place.ensures.begun) in
     let same = same_table s.table_id t (ap (λ (z : Begun _). z.party.queue.name) there.1 ∙ ap (λ (z : QueueId). z.name) (c.requires.of ∙ (sym c.self.view_is ∙ ap form_id c.in-Ring-form-2.is))) in
     let h = come_here ring_table t s b.left v same (there.0.1, there.1) in
-    ((its_call s.me.0).call, first_seat ring_table t s, (((h.1.kind, h.1.call), taken_up ring_table t (SOLO_STEPS - 1) s b.left v h), own_step ring_table t s b.left v h))
+    (v, h)
 
-pub at-requires-in-Break-take_up : goal.at-requires-in-Break-take_up
-at-requires-in-Break-take_up g c =
+pub at-requires-in-Break-take_up_at : goal.at-requires-in-Break-take_up_at
+at-requires-in-Break-take_up_at g c =
     let b = c.in-Ring in let v = c.args.pending in let t = c.in-Ring-form-2.ring.table.shared.table_id in let s = b.seat in
     let there = subst (λ p. IsStopped p × (begun_of p ≡ v)) b.is (c.into_place-place.ensures.stops, c.into_place-place.ensures.begun) in
     let same = same_table s.table_id t (ap (λ (z : Begun _). z.party.queue.name) there.1 ∙ ap (λ (z : QueueId). z.name) (c.requires.of ∙ (sym c.self.view_is ∙ ap form_id c.in-Ring-form-2.is))) in
     let h = come_here ring_table t s b.left v same (there.0.1, there.1) in
-    (ended ring_table t s c.take_up-in-Ring-form-2.new.seat b.left v c.in-Break-take_up.reply h (c.in-Break-take_up.ensures (its_call s.me.0).call (first_seat ring_table t s) (((h.1.kind, h.1.call), taken_up ring_table t (SOLO_STEPS - 1) s b.left v h), own_step ring_table t s b.left v h))).0
+    (c.in-Break-take_up_at.ensures v h).0
 
-pub returns-in-Break-take_up : goal.returns-in-Break-take_up
-returns-in-Break-take_up g c =
+pub returns-in-Break-take_up_at : goal.returns-in-Break-take_up_at
+returns-in-Break-take_up_at g c =
     let b = c.in-Ring in let v = c.args.pending in let t = c.in-Ring-form-2.ring.table.shared.table_id in let s = b.seat in
     let there = subst (λ p. IsStopped p × (begun_of p ≡ v)) b.is (c.into_place-place.ensures.stops, c.into_place-place.ensures.begun) in
     let same = same_table s.table_id t (ap (λ (z : Begun _). z.party.queue.name) there.1 ∙ ap (λ (z : QueueId). z.name) (c.requires.of ∙ (sym c.self.view_is ∙ ap form_id c.in-Ring-form-2.is))) in
     let h = come_here ring_table t s b.left v same (there.0.1, there.1) in
-    subst (λ p. Calls v.party v.call c.in-Break-take_up.reply p) (sym c.at-in-Break-take_up.ensures) (ended ring_table t s c.take_up-in-Ring-form-2.new.seat b.left v c.in-Break-take_up.reply h (c.in-Break-take_up.ensures (its_call s.me.0).call (first_seat ring_table t s) (((h.1.kind, h.1.call), taken_up ring_table t (SOLO_STEPS - 1) s b.left v h), own_step ring_table t s b.left v h))).1
+    subst (λ p. Calls v.party v.call c.in-Break-take_up_at.reply p) (sym c.at-in-Break-take_up_at.ensures) (c.in-Break-take_up_at.ensures v h).1
 
-pub at-requires-in-Continue-take_up : goal.at-requires-in-Continue-take_up
-at-requires-in-Continue-take_up g c =
+pub at-requires-in-Continue-take_up_at : goal.at-requires-in-Continue-take_up_at
+at-requires-in-Continue-take_up_at g c =
     let b = c.in-Ring in let v = c.args.pending in let t = c.in-Ring-form-2.ring.table.shared.table_id in let s = b.seat in
     let there = subst (λ p. IsStopped p × (begun_of p ≡ v)) b.is (c.into_place-place.ensures.stops, c.into_place-place.ensures.begun) in
     let same = same_table s.table_id t (ap (λ (z : Begun _). z.party.queue.name) there.1 ∙ ap (λ (z : QueueId). z.name) (c.requires.of ∙ (sym c.self.view_is ∙ ap form_id c.in-Ring-form-2.is))) in
     let h = come_here ring_table t s b.left v same (there.0.1, there.1) in
-    let e = (c.in-Continue-take_up.ensures (its_call s.me.0).call (first_seat ring_table t s) (((h.1.kind, h.1.call), taken_up ring_table t (SOLO_STEPS - 1) s b.left v h), own_step ring_table t s b.left v h)) in
-    let after = went_on ring_table t (SOLO_STEPS - 1) s c.take_up-in-Ring-form-2.new.seat b.left c.in-Continue-take_up.left v h e.0.0.0 e.0.0.1 e.0.1 e.1 in
-    (subst (λ (z : TableId). 2 ≤ z.slots) (sym after.0) c.in-Ring-form-2.ring.sized.2, (go_there ring_table t c.take_up-in-Ring-form-2.new.seat c.in-Continue-take_up.left v after).0)
+    let after = c.in-Continue-take_up_at.ensures v h in
+    (subst (λ (z : TableId). 2 ≤ z.slots) (sym after.0) c.in-Ring-form-2.ring.sized.2, (go_there ring_table t c.take_up_at-in-Ring-form-2.new.seat c.in-Continue-take_up_at.left v after).0)
 
-pub returns-in-Continue-take_up : goal.returns-in-Continue-take_up
-returns-in-Continue-take_up g c =
+pub returns-in-Continue-take_up_at : goal.returns-in-Continue-take_up_at
+returns-in-Continue-take_up_at g c =
     let b = c.in-Ring in let v = c.args.pending in let t = c.in-Ring-form-2.ring.table.shared.table_id in let s = b.seat in
     let there = subst (λ p. IsStopped p × (begun_of p ≡ v)) b.is (c.into_place-place.ensures.stops, c.into_place-place.ensures.begun) in
     let same = same_table s.table_id t (ap (λ (z : Begun _). z.party.queue.name) there.1 ∙ ap (λ (z : QueueId). z.name) (c.requires.of ∙ (sym c.self.view_is ∙ ap form_id c.in-Ring-form-2.is))) in
     let h = come_here ring_table t s b.left v same (there.0.1, there.1) in
-    let e = (c.in-Continue-take_up.ensures (its_call s.me.0).call (first_seat ring_table t s) (((h.1.kind, h.1.call), taken_up ring_table t (SOLO_STEPS - 1) s b.left v h), own_step ring_table t s b.left v h)) in
-    let after = went_on ring_table t (SOLO_STEPS - 1) s c.take_up-in-Ring-form-2.new.seat b.left c.in-Continue-take_up.left v h e.0.0.0 e.0.0.1 e.0.1 e.1 in
-    c.at-in-Continue-take_up.ensures ∙ (go_there ring_table t c.take_up-in-Ring-form-2.new.seat c.in-Continue-take_up.left v after).1
+    c.at-in-Continue-take_up_at.ensures ∙ (go_there ring_table t c.take_up_at-in-Ring-form-2.new.seat c.in-Continue-take_up_at.left v (c.in-Continue-take_up_at.ensures v h)).1
 
-pub take_up-requires-in-Chain-form-3 : goal.take_up-requires-in-Chain-form-3
-take_up-requires-in-Chain-form-3 g c =
+pub take_up-requires : goal.take_up-requires
+take_up-requires g c =
     let b = c.in-Chain in let v = c.args.pending in let w = c.in-Chain-form-3.queue.chain in let s = b.asking in
     let there = subst (λ p. IsStopped p × (begun_of p ≡ v)) b.is (c.into_place-place.ensures.stops, c.into_place-place.ensures.begun) in
     let same = same_web s.seat.web w.web.id (ap (λ (z : Begun _). z.party.queue.name) there.1 ∙ ap (λ (z : QueueId). z.name) (c.requires.of ∙ (sym c.self.view_is ∙ ap form_id c.in-Chain-form-3.is))) in
@@ -114,42 +106,42 @@ rests-requires g c =
     let there = subst (λ p. IsStopped p × (begun_of p ≡ v)) b.is (c.into_place-place.ensures.stops, c.into_place-place.ensures.begun) in
     let same = same_web s.seat.web w.web.id (ap (λ (z : Begun _). z.party.queue.name) there.1 ∙ ap (λ (z : QueueId). z.name) (c.requires.of ∙ (sym c.self.view_is ∙ ap form_id c.in-Chain-form-3.is))) in
     let h : StopsInside w s b.left v = ((same, c.requires.heap (ap (λ (z : QueueId). z.cap) (sym c.self.view_is ∙ ap form_id c.in-Chain-form-3.is)) s.seat.heap w.web.heap), there.0, there.1) in
-    let e = (c.in-Break-take_up-2.ensures (its_call s.seat.sitter.view).call (first_asking w s) (((h.1.kind, h.1.call), taken_up_in w s b.left v h), own_step_in w s b.left v h)) in
+    let e = (c.in-Break-take_up.ensures (its_call s.seat.sitter.view).call (first_asking w s) (((h.1.kind, h.1.call), taken_up_in w s b.left v h), own_step_in w s b.left v h)) in
     (e.0.1.0, e.0.1.1)
 
-pub at-requires-in-Break-take_up-2 : goal.at-requires-in-Break-take_up-2
-at-requires-in-Break-take_up-2 g c =
+pub at-requires-in-Break-take_up : goal.at-requires-in-Break-take_up
+at-requires-in-Break-take_up g c =
     let b = c.in-Chain in let v = c.args.pending in let w = c.in-Chain-form-3.queue.chain in let s = b.asking in
     let there = subst (λ p. IsStopped p × (begun_of p ≡ v)) b.is (c.into_place-place.ensures.stops, c.into_place-place.ensures.begun) in
     let same = same_web s.seat.web w.web.id (ap (λ (z : Begun _). z.party.queue.name) there.1 ∙ ap (λ (z : QueueId). z.name) (c.requires.of ∙ (sym c.self.view_is ∙ ap form_id c.in-Chain-form-3.is))) in
     let h : StopsInside w s b.left v = ((same, c.requires.heap (ap (λ (z : QueueId). z.cap) (sym c.self.view_is ∙ ap form_id c.in-Chain-form-3.is)) s.seat.heap w.web.heap), there.0, there.1) in
-    (ended_in w s c.take_up-in-Chain-form-3.new.seat b.left v c.in-Break-take_up-2.reply c.rests.result h (c.in-Break-take_up-2.ensures (its_call s.seat.sitter.view).call (first_asking w s) (((h.1.kind, h.1.call), taken_up_in w s b.left v h), own_step_in w s b.left v h)) c.rests.ensures.0 c.rests.ensures.1 c.rests.ensures.2).0
+    (ended_in w s c.take_up.new.seat b.left v c.in-Break-take_up.reply c.rests.result h (c.in-Break-take_up.ensures (its_call s.seat.sitter.view).call (first_asking w s) (((h.1.kind, h.1.call), taken_up_in w s b.left v h), own_step_in w s b.left v h)) c.rests.ensures.0 c.rests.ensures.1 c.rests.ensures.2).0
 
-pub returns-in-Break-take_up-2 : goal.returns-in-Break-take_up-2
-returns-in-Break-take_up-2 g c =
+pub returns-in-Break-take_up : goal.returns-in-Break-take_up
+returns-in-Break-take_up g c =
     let b = c.in-Chain in let v = c.args.pending in let w = c.in-Chain-form-3.queue.chain in let s = b.asking in
     let there = subst (λ p. IsStopped p × (begun_of p ≡ v)) b.is (c.into_place-place.ensures.stops, c.into_place-place.ensures.begun) in
     let same = same_web s.seat.web w.web.id (ap (λ (z : Begun _). z.party.queue.name) there.1 ∙ ap (λ (z : QueueId). z.name) (c.requires.of ∙ (sym c.self.view_is ∙ ap form_id c.in-Chain-form-3.is))) in
     let h : StopsInside w s b.left v = ((same, c.requires.heap (ap (λ (z : QueueId). z.cap) (sym c.self.view_is ∙ ap form_id c.in-Chain-form-3.is)) s.seat.heap w.web.heap), there.0, there.1) in
-    subst (λ p. Calls v.party v.call c.in-Break-take_up-2.reply p) (sym c.at-in-Break-take_up-2.ensures) (ended_in w s c.take_up-in-Chain-form-3.new.seat b.left v c.in-Break-take_up-2.reply c.rests.result h (c.in-Break-take_up-2.ensures (its_call s.seat.sitter.view).call (first_asking w s) (((h.1.kind, h.1.call), taken_up_in w s b.left v h), own_step_in w s b.left v h)) c.rests.ensures.0 c.rests.ensures.1 c.rests.ensures.2).1
+    subst (λ p. Calls v.party v.call c.in-Break-take_up.reply p) (sym c.at-in-Break-take_up.ensures) (ended_in w s c.take_up.new.seat b.left v c.in-Break-take_up.reply c.rests.result h (c.in-Break-take_up.ensures (its_call s.seat.sitter.view).call (first_asking w s) (((h.1.kind, h.1.call), taken_up_in w s b.left v h), own_step_in w s b.left v h)) c.rests.ensures.0 c.rests.ensures.1 c.rests.ensures.2).1
 
-pub at-requires-in-Continue-take_up-2 : goal.at-requires-in-Continue-take_up-2
-at-requires-in-Continue-take_up-2 g c =
+pub at-requires-in-Continue-take_up : goal.at-requires-in-Continue-take_up
+at-requires-in-Continue-take_up g c =
     let b = c.in-Chain in let v = c.args.pending in let w = c.in-Chain-form-3.queue.chain in let s = b.asking in
     let there = subst (λ p. IsStopped p × (begun_of p ≡ v)) b.is (c.into_place-place.ensures.stops, c.into_place-place.ensures.begun) in
     let same = same_web s.seat.web w.web.id (ap (λ (z : Begun _). z.party.queue.name) there.1 ∙ ap (λ (z : QueueId). z.name) (c.requires.of ∙ (sym c.self.view_is ∙ ap form_id c.in-Chain-form-3.is))) in
     let h : StopsInside w s b.left v = ((same, c.requires.heap (ap (λ (z : QueueId). z.cap) (sym c.self.view_is ∙ ap form_id c.in-Chain-form-3.is)) s.seat.heap w.web.heap), there.0, there.1) in
-    let e = (c.in-Continue-take_up-2.ensures (its_call s.seat.sitter.view).call (first_asking w s) (((h.1.kind, h.1.call), taken_up_in w s b.left v h), own_step_in w s b.left v h)) in
-    (went_on_in w s c.take_up-in-Chain-form-3.new.seat b.left c.in-Continue-take_up-2.left v h e.0.0.0 e.0.0.1 e.0.1 e.1).1
+    let e = (c.in-Continue-take_up.ensures (its_call s.seat.sitter.view).call (first_asking w s) (((h.1.kind, h.1.call), taken_up_in w s b.left v h), own_step_in w s b.left v h)) in
+    (went_on_in w s c.take_up.new.seat b.left c.in-Continue-take_up.left v h e.0.0.0 e.0.0.1 e.0.1 e.1).1
 
-pub returns-in-Continue-take_up-2 : goal.returns-in-Continue-take_up-2
-returns-in-Continue-take_up-2 g c =
+pub returns-in-Continue-take_up : goal.returns-in-Continue-take_up
+returns-in-Continue-take_up g c =
     let b = c.in-Chain in let v = c.args.pending in let w = c.in-Chain-form-3.queue.chain in let s = b.asking in
     let there = subst (λ p. IsStopped p × (begun_of p ≡ v)) b.is (c.into_place-place.ensures.stops, c.into_place-place.ensures.begun) in
     let same = same_web s.seat.web w.web.id (ap (λ (z : Begun _). z.party.queue.name) there.1 ∙ ap (λ (z : QueueId). z.name) (c.requires.of ∙ (sym c.self.view_is ∙ ap form_id c.in-Chain-form-3.is))) in
     let h : StopsInside w s b.left v = ((same, c.requires.heap (ap (λ (z : QueueId). z.cap) (sym c.self.view_is ∙ ap form_id c.in-Chain-form-3.is)) s.seat.heap w.web.heap), there.0, there.1) in
-    let e = (c.in-Continue-take_up-2.ensures (its_call s.seat.sitter.view).call (first_asking w s) (((h.1.kind, h.1.call), taken_up_in w s b.left v h), own_step_in w s b.left v h)) in
-    c.at-in-Continue-take_up-2.ensures ∙ (went_on_in w s c.take_up-in-Chain-form-3.new.seat b.left c.in-Continue-take_up-2.left v h e.0.0.0 e.0.0.1 e.0.1 e.1).2
+    let e = (c.in-Continue-take_up.ensures (its_call s.seat.sitter.view).call (first_asking w s) (((h.1.kind, h.1.call), taken_up_in w s b.left v h), own_step_in w s b.left v h)) in
+    c.at-in-Continue-take_up.ensures ∙ (went_on_in w s c.take_up.new.seat b.left c.in-Continue-take_up.left v h e.0.0.0 e.0.0.1 e.0.1 e.1).2
 
 pub unreachable-requires : goal.unreachable-requires
 unreachable-requires g c =

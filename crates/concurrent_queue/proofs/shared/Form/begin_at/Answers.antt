@@ -8,7 +8,7 @@ use Rattle.concurrent_queue.proofs.shared.Form.begin_at.Goals as goal
 
 pub returns-in-Single : goal.returns-in-Single
 returns-in-Single g c =
-    let b = c.in-Single in let p = c.args.seat.now in let q = c.run_fast.new.seat in
+    let b = c.in-Single in let p = c.args.seat.now in let q = c.run_short.new.seat in
     told_map
     (λ l left. (
       c.requires,
@@ -16,7 +16,7 @@ returns-in-Single g c =
       λ r e. let h : form.Single b.slot ≡ form.Ring r = sym b.is ∙ e in absurd cc,
     ))
     (λ r ended. ends_here (place.Table p) p _ _ _ refl c.requires.0 refl (c.requires.1 ∙ ap form_id b.is) q (place.Table q) c.args.call r r refl refl ended)
-    c.run_fast.result c.run_fast.ensures
+    c.run_short.result c.run_short.ensures
 
 pub returns-in-Ring : goal.returns-in-Ring
 returns-in-Ring g c =
