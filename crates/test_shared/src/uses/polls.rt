@@ -8,7 +8,7 @@ static VALUES: [u64; 8] = [3, 1, 4, 1, 5, 9, 2, 6];
 fn values_come_in_their_order(rt: HostRuntime) {
     for cap in [1, 2, 3, 100] {
         let passed = pass_on(&rt, cap, &VALUES).expect(&rt, "memory");
-        is_in(&rt, cap, passed.came.as_slice() == &VALUES, true);
+        is_in(&rt, cap, passed.came.as_slice() == VALUES.as_slice(), true);
         is_in(&rt, cap, passed.ended, true);
     }
 }
