@@ -27,7 +27,7 @@ pub struct Passed {
 ///
 /// # Errors
 ///
-/// There was no memory, or `block_on` had no random numbers.
+/// There was no memory, or `block_on` failed.
 pub fn pass_on<R: Wait + RandomSource + AllocGlobal>(
     rt: &R,
     cap: usize,
