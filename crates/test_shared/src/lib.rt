@@ -1,14 +1,10 @@
-//! Tests of what parties share: stories of one thread, threads, calls that are held between their steps, calls that never wait, channels, ends that sleep, crews and tasks, and webs of raw blocks.
+//! Tests of queues that parties share: stories of one thread, threads, calls that are held between their steps, and calls that never wait.
 #![tactic(auto)]
 
 #[cfg(test)]
 mod asserts;
 #[cfg(test)]
-mod blocks;
-#[cfg(test)]
 mod calls;
-#[cfg(test)]
-mod channel;
 #[cfg(test)]
 mod crew;
 #[cfg(test)]
@@ -23,7 +19,3 @@ mod opening;
 mod pending;
 #[cfg(test)]
 mod shared;
-#[cfg(test)]
-mod sleep;
-#[cfg(test)]
-mod uses;

@@ -1,5 +1,5 @@
 use Rattle.counted_channel.specs.Channel.{IsEndOf}
-use Rattle.test_shared.proofs.sleep.turns.echo.Given as goal
+use Rattle.test_threads.proofs.sleep.turns.echo.Given as goal
 
 -- each end is still one of its channel
 abbrev pub invariant-loop : goal.invariant-loop

@@ -1,4 +1,4 @@
-use Rattle.test_shared.proofs.channel.many_ends.+end_all.Given as goal
+use Rattle.test_threads.proofs.channel.many_ends.+end_all.Given as goal
 
 -- a turn fewer is left
 abbrev pub decreases-end_all : goal.decreases-end_all

@@ -1,6 +1,6 @@
 use Rattle.mem_blocks.specs.Seats.{Same}
 use Rattle.test_support.specs.ClosingRule.{Keeps}
-use Rattle.test_shared.proofs.blocks.threads.sees_it_closed.Given as goal
+use Rattle.test_threads.proofs.blocks.threads.sees_it_closed.Given as goal
 
 -- the seat is the one that it was
 abbrev pub invariant-loop : goal.invariant-loop

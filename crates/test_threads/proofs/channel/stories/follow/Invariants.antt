@@ -1,7 +1,7 @@
 use Rattle.std.specs.Option.{IfSome}
 use Rattle.concurrent_queue.specs.Shared.{IsPartyOf}
 use Rattle.counted_channel.specs.Channel.{IsEndOf}
-use Rattle.test_shared.proofs.channel.stories.follow.Given as goal
+use Rattle.test_threads.proofs.channel.stories.follow.Given as goal
 
 -- the ends are still those of the channel, and so is the party of those that have ended
 abbrev pub invariant-loop-line : goal.invariant-loop-line

@@ -1,0 +1,15 @@
+//! Tests of what threads use: channels, ends that sleep, crews and tasks, and webs of raw blocks.
+#![tactic(auto)]
+
+#[cfg(test)]
+mod asserts;
+#[cfg(test)]
+mod blocks;
+#[cfg(test)]
+mod channel;
+#[cfg(test)]
+mod opening;
+#[cfg(test)]
+mod sleep;
+#[cfg(test)]
+mod uses;
