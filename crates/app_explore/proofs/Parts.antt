@@ -1,5 +1,5 @@
 -- Texts cut at semicolons.
-use Rattle.std.proofs.Common.{◌≡◌, ◌≢◌, ℕ, ◌+◌, ◌-◌, ◌<◌, ◌≤◌, List, [], ◌∷◌, ◌++◌, length, map, take, drop, Bool, true, false, cond, ◌==◌, nat_lt, Some, None, refl, sym, ◌∙◌, ap, subst, arith, append_assoc, length-append, Option, MatchOption, Bor}
+use Rattle.std.proofs.Common.{◌≡◌, ◌≢◌, ℕ, ◌+◌, ◌-◌, ◌<◌, ◌≤◌, List, [], ◌∷◌, ◌++◌, length, map, take, drop, Bool, true, false, cond, if◌then◌else◌, ◌==◌, nat_lt, Some, None, refl, sym, ◌∙◌, ap, subst, arith, append_assoc, length-append, Option, MatchOption, Bor}
 use Rattle.std.proofs.lemmas.List.{take_rest, map-append, length-map, append-nil}
 use Rattle.std.proofs.lemmas.List.Splits.{slice_split_first, join_with_byte-slice_split, length-slice_split}
 use Rattle.std.proofs.lemmas.Option.{cond_some}
@@ -62,17 +62,23 @@ digits_other : (ds : List ℕ) → AllDigits 10 ds → AllOther ds
 digits_other [] h = tt
 digits_other (d ∷ ds) h = let digit = digit_at (d ∷ ds) 0 h (omega arith) in (ne_eqb d 59 (λ e. omega arith), digits_other ds h.1)
 
+has_none : List ℕ → Bool
+has_none [] = true
+has_none (b ∷ bs) = if b == 59 then false else has_none bs
+
+all_other : (bs : List ℕ) → has_none bs ≡ true → AllOther bs
+all_other [] h = tt
+all_other (b ∷ bs) h = by_byte (b == 59) refl h
+  where
+    by_byte : (t : Bool) → (b == 59) ≡ t → (if t then false else has_none bs) ≡ true → AllOther (b ∷ bs)
+    by_byte true e h = cc
+    by_byte false e h = (e, all_other bs h)
+
 -- no call has a semicolon
 call_other : (c : Call ℕ) → IsCallOfWord c → AllOther (spaced_call c)
 call_other (call.Push n) is = (refl, (refl, (refl, (refl, (refl, (refl, digits_other (decimal n) (digits_decimal model n is)))))))
 call_other (call.ForcePush n) is = (refl, (refl, (refl, (refl, (refl, (refl, (refl, digits_other (decimal n) (digits_decimal model n is))))))))
-call_other call.Pop is = (refl, (refl, (refl, (refl, tt))))
-call_other call.Close is = (refl, (refl, (refl, (refl, (refl, (refl, tt))))))
-call_other call.IsClosed is = (refl, (refl, (refl, (refl, (refl, (refl, (refl, (refl, (refl, (refl, tt))))))))))
-call_other call.IsEmpty is = (refl, (refl, (refl, (refl, (refl, (refl, (refl, (refl, (refl, tt)))))))))
-call_other call.IsFull is = (refl, (refl, (refl, (refl, (refl, (refl, (refl, (refl, tt))))))))
-call_other call.Len is = (refl, (refl, (refl, (refl, tt))))
-call_other call.Capacity is = (refl, (refl, (refl, (refl, (refl, (refl, (refl, (refl, (refl, tt)))))))))
+call_other c is = all_other (spaced_call c) refl
 
 -- the parts of the text of calls are the calls
 calls_cut : (c : Call ℕ) (cs : List (Call ℕ)) → IsCallOfWord c → AllByRecursion IsCallOfWord cs → parts_of (calls_text (c ∷ cs)) ≡ map spaced_call (c ∷ cs)

@@ -3,7 +3,8 @@ ghost use Rattle.std.specs.Prelude.{◌≡◌, ◌++◌, [], ◌∷◌, if◌the
 ghost use Rattle.app_explore.specs.Lanes.{cell_text, column, head_text, lanes_text, move_text, row_text, rows_text, told_text, widest};
 
 use crate::labels::label;
-use crate::schedules::{ShownCall, party_of};
+use crate::schedules::party_of;
+use app_text::calls::ShownCall;
 use app_text::effects::ShownEffect;
 use app_text::items::write_items;
 use app_text::replies::ReplyText;

@@ -1,16 +1,15 @@
 //! How a schedule is printed, as the lines of a replay.
-ghost use Rattle.std.specs.Prelude.{◌≡◌, ◌++◌, [], ◌∷◌, ◌<◌, ◌≤◌, drop, length, MatchOption, OnOk, Some, string_bytes};
+ghost use Rattle.std.specs.Prelude.{◌≡◌, ◌++◌, [], ◌∷◌, ◌<◌, ◌≤◌, drop, length, MatchOption, OnOk, string_bytes};
 ghost use Rattle.app_text.specs.Actions.{replay_line_text};
-ghost use Rattle.app_text.specs.Calls.{call_text};
 ghost use Rattle.app_explore.specs.Schedules.{MakeAll, before_lines, ends_call, is_step_of, lines_text, move_lines, party_of, plain_line, row_length, schedule_text};
 
 use app_text::actions::{Action, ReplayLine};
+use app_text::calls::ShownCall;
 use machine_explore::trace::TraceEntry;
 use machine_replay::types::{Event, Told};
 use queue_steps::model::Call;
 use queue_steps::sizes::SOLO_STEPS;
 use std::alloc::{AllocError, Allocator};
-use std::fmt;
 
 /// Appends the lines of a schedule: each of the calls before the parties begin is begun by party 0 and run to its end, and then
 /// come the moves. Two or more steps in a row that end a call are one line.
@@ -143,27 +142,5 @@ fn write_line<A: Allocator>(line: ReplayLine, text: &mut String<A>) -> Result<()
         Action::Step => writeln!(text, "{party} step"),
         Action::Refuse => writeln!(text, "{party} refuse"),
         Action::Run => writeln!(text, "{party} run"),
-    }
-}
-
-// A call as it is printed.
-#[derive(Clone, Copy)]
-pub(crate) struct ShownCall(pub(crate) Call<u64>);
-
-impl fmt::Display for ShownCall {
-    ghost output = { λ shown. Some (call_text shown.0) };
-
-    fn fmt<W: fmt::Write>(&self, f: &mut fmt::Formatter<W>) -> fmt::Result {
-        match self.0 {
-            Call::Push(value) => write!(f, "push {value}"),
-            Call::ForcePush(value) => write!(f, "force {value}"),
-            Call::Pop => f.write_str("pop"),
-            Call::Close => f.write_str("close"),
-            Call::IsClosed => f.write_str("is_closed"),
-            Call::IsEmpty => f.write_str("is_empty"),
-            Call::IsFull => f.write_str("is_full"),
-            Call::Len => f.write_str("len"),
-            Call::Capacity => f.write_str("capacity"),
-        }
     }
 }

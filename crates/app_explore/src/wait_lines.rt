@@ -4,7 +4,7 @@ ghost use Rattle.machine_explore.specs.Waiting.{wait_of};
 ghost use Rattle.app_explore.specs.WaitLines.{party_call_text, side_text, wait_line, waits_text};
 
 use crate::labels::label;
-use crate::schedules::ShownCall;
+use app_text::calls::ShownCall;
 use machine_explore::waiting::{Side, Wait};
 use queue_steps::model::Call;
 use std::alloc::{AllocError, Allocator};

@@ -1,5 +1,5 @@
 -- The texts of calls are read back.
-use Rattle.std.proofs.Common.{◌≢◌, ℕ, List, refl, subst, codes, IsUtf8}
+use Rattle.std.proofs.Common.{◌≢◌, ℕ, List, refl, subst, IsUtf8}
 use Rattle.queue_steps.specs.declared.model.Call.{Call}
 use Rattle.queue_steps.specs.declared.model.Call.TheVariants as call
 use Rattle.app_text.specs.Calls.{call_text, IsPlainCall}
@@ -9,13 +9,7 @@ IsUtf8-plain : (c : Call ℕ) → IsPlainCall c → IsUtf8 (call_text c)
 unfolding lib.Utf8.encode
 IsUtf8-plain (call.Push n) h = absurd h
 IsUtf8-plain (call.ForcePush n) h = absurd h
-IsUtf8-plain call.Pop h = (codes "pop", (refl, refl))
-IsUtf8-plain call.Close h = (codes "close", (refl, refl))
-IsUtf8-plain call.IsClosed h = (codes "is_closed", (refl, refl))
-IsUtf8-plain call.IsEmpty h = (codes "is_empty", (refl, refl))
-IsUtf8-plain call.IsFull h = (codes "is_full", (refl, refl))
-IsUtf8-plain call.Len h = (codes "len", (refl, refl))
-IsUtf8-plain call.Capacity h = (codes "capacity", (refl, refl))
+IsUtf8-plain c h = (call_text c, (refl, refl))
 
 -- what is no text is no such call
 pub no_plain_call : (line : List ℕ) → (IsUtf8 line → ⊥) → (c : Call ℕ) → IsPlainCall c → call_text c ≢ line

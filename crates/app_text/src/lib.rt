@@ -3,7 +3,7 @@
 
 pub mod actions;
 pub mod args;
-mod calls;
+pub mod calls;
 pub mod effects;
 pub mod faults;
 pub mod items;

@@ -1,20 +1,16 @@
 -- What a call may be answered without effect it may be answered in the settled history.
 use Rattle.std.proofs.Common.{◌≡◌, false, List, [], ◌∷◌, ◌++◌, length, None, Err, refl, ap, sym, ◌∙◌, subst, inl, inr, arith, append-nil}
 use mathlib.Core.List.{IsPrefix}
-use Rattle.queue_steps.specs.State.{State, start, fills}
+use Rattle.queue_steps.specs.State.{State, start}
 use Rattle.law_common.specs.Vocabulary.{Call, Reply, Effect, PopError, PushError, ForcePushError}
 use Rattle.queue_steps.specs.Effect.{made, Runs, after}
-use Rattle.queue_steps.specs.Replies.{IsRightAt, LacksMemory, Allows, is_empty}
+use Rattle.queue_steps.specs.Replies.{IsRightAt, LacksMemory, Allows}
+use Rattle.queue_steps.proofs.LookLaws.{look_there}
 use Rattle.law_moments.specs.Moments.{RunsAtOnce, AtOnceIsLegal, IsGlance, settled, DisplacesAtOnce}
 use Rattle.law_moments.proofs.Closed.{many, Agrees, arrived_none}
 use Rattle.law_moments.proofs.Settling.{Sound, many_none, full_none, sound_start, sound_after, open_settles, goes_on}
 
 module _ {T : Type 0} where
-  same_empty : (xs ys : List T) → length xs ≡ length ys → is_empty xs ≡ is_empty ys
-  same_empty [] (y ∷ ys) is = absurd (omega arith)
-  same_empty (x ∷ xs) [] is = absurd (omega arith)
-  same_empty xs ys is = refl
-
   no_items : (xs : List T) → length xs ≡ 0 → xs ≡ []
   no_items [] is = refl
   no_items (x ∷ xs) is = absurd (omega arith)
@@ -35,12 +31,11 @@ module _ {T : Type 0} where
       subst (λ (R : State T). IsRightAt R Call.Pop (Reply.Pop (Err PopError.Empty))) (itself next Q S a h.2 h.1) h
   right_there next Q S s a Call.Pop (Reply.Pop (Err PopError.Closed)) h calm = (no_items S.items (as_many next Q S a h.1 ∙ ap length h.0), a.coming, a.closed ∙ h.2)
   right_there next Q S s a Call.Close (Reply.Close false) h calm = a.closed ∙ h
-  right_there next Q S s a Call.IsClosed (Reply.IsClosed b) h calm = h ∙ sym a.closed
-  right_there next Q S s a Call.IsEmpty (Reply.IsEmpty b) h calm = h ∙ same_empty Q.items S.items (sym (as_many next Q S a (calm tt)))
-  right_there next Q S s a Call.IsFull (Reply.IsFull b) h calm = h ∙ (λ i. fills (sym a.cap i) (sym (as_many next Q S a (calm tt)) i))
-  right_there next Q S s a Call.Len (Reply.Len n) h calm = h ∙ sym (as_many next Q S a (calm tt))
-  right_there next Q S s a Call.Capacity (Reply.Capacity c) h calm = h ∙ sym a.cap
-  right_there next Q S s a _ _ h calm = absurd h
+  right_there next Q S s a (Call.Push v) _ h calm = absurd h
+  right_there next Q S s a (Call.ForcePush v) _ h calm = absurd h
+  right_there next Q S s a Call.Pop _ h calm = absurd h
+  right_there next Q S s a Call.Close _ h calm = absurd h
+  right_there next Q S s a look r h calm = look_there Q S look r tt (sym a.cap) (sym a.closed) (λ glance. sym (as_many next Q S a (calm glance))) h
 
   lacks_there : (next : List (Effect T)) (Q S : State T) → Sound Q → Agrees next Q S → (c : Call T) (r : Reply T) → LacksMemory Q c r → LacksMemory S c r
   lacks_there next Q S s a (Call.Push v) (Reply.Push (Err (PushError.NoMemory w))) h =

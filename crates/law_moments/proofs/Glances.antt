@@ -9,10 +9,13 @@ cases_before k n = grind arith
 
 module _ {T : Type 0} where
   glance_or : (c : Call T) → IsGlance c ⊎ (IsGlance c → ⊥)
-  glance_or Call.Len = inl tt
-  glance_or Call.IsEmpty = inl tt
-  glance_or Call.IsFull = inl tt
-  glance_or c = inr (λ h. h)
+  glance_or (Call.Push v) = inr (λ h. h)
+  glance_or (Call.ForcePush v) = inr (λ h. h)
+  glance_or Call.Pop = inr (λ h. h)
+  glance_or Call.Close = inr (λ h. h)
+  glance_or Call.IsClosed = inr (λ h. h)
+  glance_or Call.Capacity = inr (λ h. h)
+  glance_or c = inl tt
 
   coming_or : (o : Option T) → (o ≡ None) ⊎ ((v : T) × (o ≡ Some v))
   coming_or None = inl refl

@@ -5,7 +5,9 @@ use Rattle.std.proofs.lemmas.Bool.Decides.{eqb_tells}
 use Rattle.queue_steps.specs.State.{State, is_full}
 use Rattle.queue_steps.specs.Replies.{is_empty}
 use Rattle.queue_steps.specs.Words.{position_of, is_shut, tail_of}
-use Rattle.queue_steps.specs.BoundedNext.{loads, ends}
+use Rattle.queue_steps.specs.BoundedNext.{loads, ends, bounded_begin}
+use Rattle.queue_steps.specs.Kinds.{call_kind}
+use Rattle.queue_steps.specs.Looks.{IsLook}
 use Rattle.law_common.specs.Vocabulary.{Call, Reply, Effect, Word, Op, Local, MARK}
 use Rattle.queue_steps.specs.declared.steps.bounded.BoundedLocal.TheVariants as ring
 use Rattle.law_common.proofs.Tails.{position_tail, shut_tail}
@@ -13,7 +15,7 @@ use Rattle.law_common.specs.Moments.{HasItems, HeadWas, SeenIn}
 use Rattle.law_common.proofs.Moments.{seen_map}
 use Rattle.law_ring.specs.RingShared.{Shared}
 use Rattle.law_ring.specs.RingCells.{Ring, queue_of, RingOk, HoldsNone}
-use Rattle.law_ring.specs.RingAt.{HasRoom, SawEmpty, SawFull, len_tail, len_head, len_again, empty_tail, full_head}
+use Rattle.law_ring.specs.RingAt.{HasRoom, SawEmpty, SawFull, Begun, len_tail, len_head, len_again, empty_head, empty_tail, full_tail, full_head, closed_tail}
 use Rattle.law_ring.specs.RingWords.{Codes}
 use Rattle.law_ring.proofs.RingWords.{head_small}
 use Rattle.law_ring.proofs.RingRanks.{pick}
@@ -27,6 +29,18 @@ no_items (x ∷ xs) e = absurd (omega arith)
 some_items : {A : Type 0} (xs : List A) → 0 < length xs → is_empty xs ≡ false
 some_items [] e = absurd (omega arith)
 some_items (x ∷ xs) e = refl
+
+-- where a call that changes nothing begins
+pub look_first : {A : Type 0} (cap : ℕ) (r : Ring A) (who : ℕ) (c : Call A) → IsLook c → HoldsNone r.cells who → Begun cap r who c (bounded_begin cap (call_kind c))
+look_first cap r who (Call.Push v) is none = absurd is
+look_first cap r who (Call.ForcePush v) is none = absurd is
+look_first cap r who Call.Pop is none = absurd is
+look_first cap r who Call.Close is none = absurd is
+look_first cap r who Call.IsClosed is none = closed_tail none
+look_first cap r who Call.IsEmpty is none = empty_head none
+look_first cap r who Call.IsFull is none = full_tail none
+look_first cap r who Call.Len is none = len_tail none
+look_first cap r who Call.Capacity is none = tt
 
 module _ {A : Type 0} {cap : ℕ} {r : Ring A} {who : ℕ} {s : Shared A} {ms : List (State A)} {was : Bool} (ok : RingOk cap r) (codes : Codes cap r s) where
   pub good_len_tail : HoldsNone r.cells who

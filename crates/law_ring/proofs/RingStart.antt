@@ -10,6 +10,7 @@ use Rattle.law_common.specs.Operations.{OnWord}
 use Rattle.law_ring.specs.RingShared.{HasPlace}
 use Rattle.law_ring.specs.RingCells.{Coming, Ring, CellOk, RingOk, owner, HoldsNone}
 use Rattle.law_ring.proofs.RingCells.{wraps}
+use Rattle.law_ring.proofs.RingLook.{look_first}
 use Rattle.law_ring.proofs.RingTransitions.{in_ring}
 use Rattle.law_common.specs.Effects.{IsBetween, Touches}
 use Rattle.law_ring.specs.RingAt.{At, push_tail, push_stamp, claiming, filling, push_head, displacing, arriving, swapping, spending, pop_head, pop_stamp, taking, emptying, pop_tail, len_tail, len_head, len_again, empty_head, empty_tail, full_tail, full_head, closing, closed_tail, Begun}
@@ -19,11 +20,7 @@ at_first cap r who (Call.Push v) none = push_tail PushKind.Push v none
 at_first cap r who (Call.ForcePush v) none = push_tail PushKind.Force v none
 at_first cap r who Call.Pop none = pop_head none
 at_first cap r who Call.Close none = closing none
-at_first cap r who Call.IsClosed none = closed_tail none
-at_first cap r who Call.IsEmpty none = empty_head none
-at_first cap r who Call.IsFull none = full_tail none
-at_first cap r who Call.Len none = len_tail none
-at_first cap r who Call.Capacity none = tt
+at_first cap r who look none = look_first cap r who look tt none
 
 -- a call that has had no effect holds no slot
 pub holds_none : {A : Type 0} {cap : ℕ} {r : Ring A} {who : ℕ} {ms : List (State A)} {was : Bool} {c : Stand A} → At cap r who ms was c → c.effects ≡ [] → HoldsNone r.cells who

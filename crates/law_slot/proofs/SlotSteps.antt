@@ -2,13 +2,13 @@
 use Rattle.std.proofs.Common.{◌≡◌, ℕ, ◌+◌, Bool, true, false, not, Option, Some, None, Err, List, [], ◌∷◌, length, bit_or, if◌then◌else◌, refl, inl, inr}
 use Rattle.queue_steps.specs.State.{State, is_full}
 use Rattle.queue_steps.specs.Replies.{is_empty, IsRightAt, Tells}
-use Rattle.queue_steps.specs.SingleNext.{is_marked, is_pushed}
+use Rattle.queue_steps.specs.SingleNext.{is_marked, is_pushed, call_of_look, seen_reply}
 use Rattle.law_common.specs.Vocabulary.{Call, Reply, Effect, PopError, PushError, ForcePushError, Op, Look, Local, PushKind, LOCKED, PUSHED, CLOSED}
 use Rattle.queue_steps.specs.declared.steps.single.SingleLocal.TheVariants.{Pushing, Forcing, Popping, Closing, Looking}
 use Rattle.queue_steps.specs.declared.steps.types.Word.TheVariants.{Lock}
 use Rattle.law_common.specs.Stand.{Stand, empty_handed, brings}
 use Rattle.law_slot.specs.SlotHolder.{SlotHolder, Nobody, Filling, Swapping, Taking}
-use Rattle.law_slot.specs.SlotRows.{Codes, free_empty, free_full, filling, swapping, taking, code, asks, At, push_try, push_put, force_try_empty, force_try_full, force_put_empty, force_put_full, pop_try, pop_take, close_try, look_at, Share, idle, fills, swaps, takes, stays, changes, single, StepOk}
+use Rattle.law_slot.specs.SlotRows.{Codes, free_empty, free_full, filling, swapping, taking, code, At, push_try, push_put, force_try_empty, force_try_full, force_put_empty, force_put_full, pop_try, pop_take, close_try, look_at, Share, idle, fills, swaps, takes, stays, changes, single, StepOk}
 use Rattle.law_common.specs.Moments.{SeenIn}
 
 -- a reply without effect that is right now
@@ -100,11 +100,14 @@ reads (swapping true old y) = (refl, refl, refl, refl)
 reads (taking true x) = (refl, refl, refl, refl)
 reads x = (refl, refl, refl, refl)
 
-look_step : {T : Type 0} {word : ℕ} {slot : Option T} {h : SlotHolder T} {items : List T} {c : Bool} (l : Look) → Codes word slot h items c → Row word slot Nobody h items c (empty_handed (Local.Single (Looking l)) (Op.Load Lock) (asks l))
+look_step : {T : Type 0} {word : ℕ} {slot : Option T} {h : SlotHolder T} {items : List T} {c : Bool} (l : Look) → Codes word slot h items c → Row word slot Nobody h items c (empty_handed (Local.Single (Looking l)) (Op.Load Lock) (call_of_look l))
 look_step {word = word} {slot = slot} {h = h} {items = items} {c = c} Look.IsClosed st n ms = record { word' = word; slot' = slot; items' = items; c' = c; n' = n; e = None; own' = Nobody; h' = h; leaves = refl; stands = st; told = refl; makes = refl; lands = right_now (single items c n) ms Call.IsClosed (Reply.IsClosed (is_marked word)) refl (reads st).0; passes = stays Nobody h }
-look_step {word = word} {slot = slot} {h = h} {items = items} {c = c} Look.IsEmpty st n ms = record { word' = word; slot' = slot; items' = items; c' = c; n' = n; e = None; own' = Nobody; h' = h; leaves = refl; stands = st; told = refl; makes = refl; lands = right_now (single items c n) ms Call.IsEmpty (Reply.IsEmpty (not (is_pushed word))) refl (reads st).1; passes = stays Nobody h }
-look_step {word = word} {slot = slot} {h = h} {items = items} {c = c} Look.IsFull st n ms = record { word' = word; slot' = slot; items' = items; c' = c; n' = n; e = None; own' = Nobody; h' = h; leaves = refl; stands = st; told = refl; makes = refl; lands = right_now (single items c n) ms Call.IsFull (Reply.IsFull (is_pushed word)) refl (reads st).2; passes = stays Nobody h }
-look_step {word = word} {slot = slot} {h = h} {items = items} {c = c} Look.Len st n ms = record { word' = word; slot' = slot; items' = items; c' = c; n' = n; e = None; own' = Nobody; h' = h; leaves = refl; stands = st; told = refl; makes = refl; lands = right_now (single items c n) ms Call.Len (Reply.Len (if is_pushed word then 1 else 0)) refl (reads st).3; passes = stays Nobody h }
+look_step {word = word} {slot = slot} {h = h} {items = items} {c = c} look st n ms =
+    let shows = reads st in
+    let empty = shows.1 in
+    let full = shows.2 in
+    let many = shows.3 in
+    record { word' = word; slot' = slot; items' = items; c' = c; n' = n; e = None; own' = Nobody; h' = h; leaves = refl; stands = st; told = refl; makes = refl; lands = right_now (single items c n) ms (call_of_look look) (seen_reply look word) refl assumption; passes = stays Nobody h }
 
 -- each step of a call, wherever it stands, is a step of the queue
 pub step_good : {T : Type 0} {x : Stand T} {word : ℕ} {slot : Option T} {own h : SlotHolder T} {items : List T} {c : Bool}

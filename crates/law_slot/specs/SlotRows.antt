@@ -4,7 +4,7 @@ use Rattle.queue_steps.specs.State.{State}
 use Rattle.queue_steps.specs.Kinds.{filled}
 use Rattle.queue_steps.specs.Next.{next_of}
 use Rattle.queue_steps.specs.Replies.{IsRightAt, Tells}
-use Rattle.queue_steps.specs.SingleNext.{is_marked}
+use Rattle.queue_steps.specs.SingleNext.{is_marked, call_of_look}
 use Rattle.law_common.specs.Vocabulary.{Call, Reply, Effect, Kind, Op, Touch, Answer, Look, Local, SingleLocal, PushKind, Next, LOCKED, PUSHED, CLOSED, UNLOCKED}
 use Rattle.queue_steps.specs.declared.steps.single.SingleLocal.TheVariants.{Pushing, Pushed, Forcing, Forced, Popping, Popped, Closing, Looking}
 use Rattle.queue_steps.specs.declared.steps.types.Word.TheVariants.{Lock}
@@ -33,12 +33,6 @@ pub data Codes {T : Type 0} : ℕ → Option T → SlotHolder T → List T → B
   swapping : (c : Bool) (old v : T) → Codes (code true true c) (Some old) (Swapping old v) (v ∷ []) c
   taking : (c : Bool) (x : T) → Codes (code true false c) (Some x) (Taking x) [] c
 
-abbrev pub asks : {T : Type 0} → Look → Call T
-asks Look.IsClosed = Call.IsClosed
-asks Look.IsEmpty = Call.IsEmpty
-asks Look.IsFull = Call.IsFull
-asks Look.Len = Call.Len
-
 -- a call that touches the slot, and then unlocks it
 abbrev pub unlocks : {T : Type 0} → SingleLocal → (ℕ → Touch) → Option T → Call T → List (Effect T) → Stand T
 unlocks l touch v k es = stand (Local.Single l) (touch 0) (Op.And Lock UNLOCKED) v k es
@@ -54,7 +48,7 @@ pub data At {T : Type 0} : Stand T → SlotHolder T → Type 0 where
   pop_try : (d : Bool) → At (empty_handed (Local.Single (Popping (code false true d))) (Op.Exchange Lock (code false true d) (code true false d)) Call.Pop) Nobody
   pop_take : (x : T) → At (unlocks Popped Touch.Take None Call.Pop (Effect.Take x ∷ [])) (Taking x)
   close_try : At (empty_handed (Local.Single Closing) (Op.Or Lock CLOSED) Call.Close) Nobody
-  look_at : (l : Look) → At (empty_handed (Local.Single (Looking l)) (Op.Load Lock) (asks l)) Nobody
+  look_at : (l : Look) → At (empty_handed (Local.Single (Looking l)) (Op.Load Lock) (call_of_look l)) Nobody
 
 -- what a party has of the lock: all that is held, or nothing
 pub data Share {T : Type 0} : SlotHolder T → SlotHolder T → Type 0 where

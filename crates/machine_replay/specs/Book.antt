@@ -6,7 +6,7 @@ use Rattle.queue_steps.specs.State.{State, start}
 use Rattle.queue_steps.specs.Effect.{Fits, made}
 use Rattle.queue_steps.specs.Replies.{IsRightAt, Tells}
 pub use Rattle.queue_steps.specs.Replies.{Allows}
-pub use Rattle.queue_steps.specs.WaitFree.{is_wait_free}
+pub use Rattle.queue_steps.specs.Looks.{is_wait_free, has_steps}
 
 -- an effect without its values
 abbrev pub kind_of : {T : Type 0} → Effect T → EffectKind
@@ -74,12 +74,6 @@ put f p o k = if k == p then o else f k
 abbrev pub fits : {T : Type 0} → ℕ → Book T → Event T → Bool
 fits parties b (Begin p c) = nat_lt p parties && is_none (b.open_call p)
 fits parties b (Step p granted) = nat_lt p parties && is_some (b.open_call p)
-
--- whether a call has steps on a queue of this capacity: `capacity` never has, and `is_full` has none without a capacity
-abbrev pub has_steps : {T : Type 0} → Option ℕ → Call T → Bool
-has_steps cap Call.Capacity = false
-has_steps None Call.IsFull = false
-has_steps cap _ = true
 
 -- a front may leave by a displacing call only once the call has seen the queue open, at a step before
 abbrev pub MayMake : {T : Type 0} → EffectKind → Open T → Type 0

@@ -25,6 +25,17 @@ fn reply_to<T, S: Sealed<T>, W: FillReply>(store: &mut S, call: Call<T>) -> Repl
     W::fill(reply, carried)
 }
 
+/// Runs any call to its end, and puts its reply together.
+pub fn answer<T, S: Sealed<T>>(store: &mut S, call: Call<T>) -> Reply<T>
+    requires { S.idle store.old }
+    ensures idle { S.idle store.new }
+    ensures sequential { Sequential (S.owned store.old) call result (S.owned store.new) }
+{
+    let (call, mut carried) = call.split();
+    let reply = store.settle::<()>(call, &mut carried);
+    Reply::fill(reply, carried)
+}
+
 /// A queue with one owner, whichever way it keeps its items: `Exclusive`, and each of its three forms.
 ///
 /// A contract sees the abstract queue and the number of blocks that it holds, `owned`, and whether no call is on its way, `idle`, which is so

@@ -1,13 +1,13 @@
 //! A party with its share in keeping the queue.
-ghost use Rattle.std.specs.Prelude.{◌≡◌, ◌<◌, true, None, Some, IfOk};
+ghost use Rattle.std.specs.Prelude.{◌≡◌, ◌<◌, None, Some, IfOk};
 ghost use Rattle.std.specs.Arc.{arc_value};
-ghost use Rattle.queue_steps.specs.WaitFree.{is_wait_free as wait_free_call};
-ghost use Rattle.concurrent_queue.specs.Shared.{IsPartyOf, Calls};
+ghost use Rattle.concurrent_queue.specs.Shared.{IsPartyOf};
 ghost use Rattle.queue_c.specs.Fits.{Fits};
 
 use crate::answers::Answer;
+use call_driver::gate::Open;
 use concurrent_queue::{ConcurrentQueue, Outcome, Party, Pending};
-use queue_steps::model::{Call, Reply};
+use queue_steps::model::Call;
 use std::alloc::{AllocError, Global};
 use std::sync::Arc;
 
@@ -50,32 +50,6 @@ pub(crate) enum Finished {
     Shared(End),
     /// A call is pending.
     Busy(End),
-}
-
-fn is_wait_free(call: Call<u64>) -> bool
-    ensures { result ≡ wait_free_call call }
-{
-    match call {
-        Call::Close | Call::IsClosed | Call::IsEmpty | Call::IsFull => true,
-        Call::Push(_) | Call::ForcePush(_) | Call::Pop | Call::Len | Call::Capacity => false,
-    }
-}
-
-/// Runs a wait-free call to its end.
-fn answer(queue: &ConcurrentQueue<u64>, party: &mut Party<u64>, call: Call<u64>) -> Reply<u64>
-    requires of { IsPartyOf party.old queue.now }
-    requires wait_free { wait_free_call call ≡ true }
-    ensures { Calls party.old call result party.new }
-{
-    match call {
-        Call::Close => Reply::Close(queue.close(party)),
-        Call::IsClosed => Reply::IsClosed(queue.is_closed(party)),
-        Call::IsEmpty => Reply::IsEmpty(queue.is_empty(party)),
-        Call::IsFull => Reply::IsFull(queue.is_full(party)),
-        Call::Push(_) | Call::ForcePush(_) | Call::Pop | Call::Len | Call::Capacity => {
-            unreachable!()
-        }
-    }
 }
 
 impl End {
@@ -126,8 +100,8 @@ impl End {
             }
         };
         let shared: &ConcurrentQueue<u64> = &queue;
-        if is_wait_free(call) {
-            let reply = answer(shared, &mut party, call);
+        if call.is_wait_free() {
+            let reply = shared.answer_wait_free(&Open, &mut party, call);
             let turn = Turn::Resting(party);
             return (End { queue, turn }, Answer::Reply(reply));
         }

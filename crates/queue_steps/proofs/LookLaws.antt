@@ -1,9 +1,8 @@
 -- Which replies a call that changes nothing may have: it has no effect, and answers what the state shows.
-use Rattle.std.specs.Prelude.{◌≡◌, List, []}
-use Rattle.std.proofs.Common.{refl, sym, ap, subst}
+use Rattle.std.proofs.Common.{◌≡◌, List, [], ◌∷◌, length, refl, sym, ap, ◌∙◌, subst, arith}
 use Rattle.queue_steps.specs.State.{State}
-use Rattle.queue_steps.specs.Replies.{IsRightAt, Tells}
-use Rattle.queue_steps.specs.Looks.{IsLook, look_reply}
+use Rattle.queue_steps.specs.Replies.{is_empty, IsRightAt, Tells}
+use Rattle.queue_steps.specs.Looks.{IsLook, IsGlance, look_reply}
 use Rattle.queue_steps.specs.declared.model.Call.{Call}
 use Rattle.queue_steps.specs.declared.model.Call.TheVariants as call
 use Rattle.queue_steps.specs.declared.model.Reply.{Reply}
@@ -17,12 +16,7 @@ module _ {T : Type 0} where
   look_tells (call.ForcePush v) r es is tells = absurd is
   look_tells call.Pop r es is tells = absurd is
   look_tells call.Close r es is tells = absurd is
-  look_tells call.IsClosed (reply.IsClosed b) es is tells = tells
-  look_tells call.IsEmpty (reply.IsEmpty b) es is tells = tells
-  look_tells call.IsFull (reply.IsFull b) es is tells = tells
-  look_tells call.Len (reply.Len n) es is tells = tells
-  look_tells call.Capacity (reply.Capacity n) es is tells = tells
-  look_tells look r es is tells = absurd tells
+  look_tells look r es is tells = first_of (assumption, cc)
 
   -- a reply that is right is what the state shows
   pub look_right : (Q : State T) (c : Call T) (r : Reply T) → IsLook c → IsRightAt Q c r → r ≡ look_reply Q c
@@ -30,12 +24,7 @@ module _ {T : Type 0} where
   look_right Q (call.ForcePush v) r is right = absurd is
   look_right Q call.Pop r is right = absurd is
   look_right Q call.Close r is right = absurd is
-  look_right Q call.IsClosed (reply.IsClosed b) is right = ap reply.IsClosed right
-  look_right Q call.IsEmpty (reply.IsEmpty b) is right = ap reply.IsEmpty right
-  look_right Q call.IsFull (reply.IsFull b) is right = ap reply.IsFull right
-  look_right Q call.Len (reply.Len n) is right = ap reply.Len right
-  look_right Q call.Capacity (reply.Capacity n) is right = ap reply.Capacity right
-  look_right Q look r is right = absurd right
+  look_right Q look r is right = cc
 
   -- and what the state shows is right, and stands for no effect
   pub look_shows : (Q : State T) (c : Call T) → IsLook c → IsRightAt Q c (look_reply Q c) × Tells c (look_reply Q c) []
@@ -47,3 +36,24 @@ module _ {T : Type 0} where
 
   pub look_right_tells : (Q : State T) (c : Call T) (r : Reply T) → IsLook c → IsRightAt Q c r → Tells c r []
   look_right_tells Q c r is right = subst (λ x. Tells c x []) (sym (look_right Q c r is right)) (look_shows Q c is).1
+
+  same_empty : (xs ys : List T) → length xs ≡ length ys → is_empty xs ≡ is_empty ys
+  same_empty [] [] is = refl
+  same_empty [] (y ∷ ys) is = absurd (omega arith)
+  same_empty (x ∷ xs) [] is = absurd (omega arith)
+  same_empty (x ∷ xs) (y ∷ ys) is = refl
+
+  -- two states show the same to a look if they agree in the capacity and the flag, and for one that looks at the list in how many items they have
+  look_same : (Q S : State T) (c : Call T) → IsLook c → Q.cap ≡ S.cap → Q.closed ≡ S.closed → (IsGlance c → length Q.items ≡ length S.items) → look_reply {R = T} Q c ≡ look_reply S c
+  look_same Q S (call.Push v) is cap closed many = absurd is
+  look_same Q S (call.ForcePush v) is cap closed many = absurd is
+  look_same Q S call.Pop is cap closed many = absurd is
+  look_same Q S call.Close is cap closed many = absurd is
+  look_same Q S call.IsClosed is cap closed many = ap reply.IsClosed closed
+  look_same Q S call.Capacity is cap closed many = ap reply.Capacity cap
+  look_same Q S call.IsEmpty is cap closed many = ap reply.IsEmpty (same_empty Q.items S.items (many tt))
+  look_same Q S look is cap closed many = let same = many tt in cc
+
+  -- so a reply that is right at the one is right at the other
+  pub look_there : (Q S : State T) (c : Call T) (r : Reply T) → IsLook c → Q.cap ≡ S.cap → Q.closed ≡ S.closed → (IsGlance c → length Q.items ≡ length S.items) → IsRightAt Q c r → IsRightAt S c r
+  look_there Q S c r is cap closed many right = subst (λ x. IsRightAt S c x) (sym (look_right Q c r is right ∙ look_same Q S c is cap closed many)) (look_shows S c is).0

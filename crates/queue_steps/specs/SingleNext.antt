@@ -65,8 +65,15 @@ single_begin call.IsFull = looks look.IsFull
 single_begin call.Len = looks look.Len
 single_begin call.Capacity = ends (reply.Capacity (Some 1))
 
+-- the call that takes this look
+abbrev pub call_of_look : {T : Type 0} → Look → Call T
+call_of_look look.IsClosed = call.IsClosed
+call_of_look look.IsEmpty = call.IsEmpty
+call_of_look look.IsFull = call.IsFull
+call_of_look look.Len = call.Len
+
 -- what one look at the word answers
-abbrev pub seen_reply : Look → ℕ → Reply Unit
+abbrev pub seen_reply : {R : Type 0} → Look → ℕ → Reply R
 seen_reply look.IsClosed word = reply.IsClosed (is_marked word)
 seen_reply look.IsEmpty word = reply.IsEmpty (not (is_pushed word))
 seen_reply look.IsFull word = reply.IsFull (is_pushed word)

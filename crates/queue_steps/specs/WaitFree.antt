@@ -1,21 +1,14 @@
--- The calls that end by their second step, whatever other parties do in between.
-use Rattle.std.specs.Prelude.{ℕ, zero, suc, ◌+◌, Bool, true, false}
+-- What it is that a call ends by its second step, whatever other parties do in between.
+use Rattle.std.specs.Prelude.{ℕ, zero, suc, ◌+◌}
 use Rattle.queue_steps.specs.declared.sizes.TheConstants.{WAIT_FREE_STEPS}
 use Rattle.queue_steps.specs.declared.model.Call.{Call}
-use Rattle.queue_steps.specs.declared.model.Call.TheVariants as call
 use Rattle.queue_steps.specs.declared.steps.types.Kind.{Kind}
 use Rattle.queue_steps.specs.declared.steps.types.Answer.{Answer}
 use Rattle.queue_steps.specs.declared.steps.types.Answer.TheVariants as answer
 use Rattle.queue_steps.specs.declared.steps.types.Next.{Next}
 use Rattle.queue_steps.specs.declared.steps.types.Next.TheVariants as next
 use Rattle.queue_steps.specs.Next.{CanNext, next_of, first_local}
-
-abbrev pub is_wait_free : {T : Type 0} → Call T → Bool
-is_wait_free call.Close = true
-is_wait_free call.IsClosed = true
-is_wait_free call.IsEmpty = true
-is_wait_free call.IsFull = true
-is_wait_free _ = false
+pub use Rattle.queue_steps.specs.Looks.{is_wait_free}
 
 -- the reply comes before n more steps, whatever they answer
 abbrev pub EndsBefore : {B : Type 0} → ℕ → Kind → Next B → Type 0

@@ -1,6 +1,7 @@
 //! The calls of a queue, their replies and their effects, of which the abstract queue in `specs/` speaks.
 ghost use Rattle.std.specs.Prelude.{◌≡◌, IsSome};
 ghost use Rattle.queue_steps.specs.Kinds.{call_kind, call_value, filled};
+ghost use Rattle.queue_steps.specs.Looks.{is_wait_free};
 
 use crate::errors::{ForcePushError, PopError, PushError};
 
@@ -82,6 +83,16 @@ impl<T> Call<T> {
             Call::IsFull => (Call::IsFull, None),
             Call::Len => (Call::Len, None),
             Call::Capacity => (Call::Capacity, None),
+        }
+    }
+
+    /// Whether the call ends by its second step, whatever other parties do in between.
+    pub fn is_wait_free(&self) -> bool
+        ensures { result ≡ is_wait_free self.now }
+    {
+        match self {
+            Call::Close | Call::IsClosed | Call::IsEmpty | Call::IsFull => true,
+            Call::Push(_) | Call::ForcePush(_) | Call::Pop | Call::Len | Call::Capacity => false,
         }
     }
 }

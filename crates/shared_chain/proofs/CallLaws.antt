@@ -1,7 +1,6 @@
 -- What a shared chain owes of its calls: no step of another party takes away what a call knows, and where each call begins.
-use Rattle.std.proofs.Common.{ℕ, ◌%◌, ◌≡◌, ◌≢◌, ◌∙◌, inl, inr, true, false, List, [], ◌∷◌, Option, Some, None, refl, sym, ap}
-use Rattle.law_common.specs.Vocabulary.{Call, Reply, Kind, Op, Local, BLOCK_SLOTS}
-use Rattle.queue_steps.specs.declared.steps.unbounded.UnboundedLocal.TheVariants as chain
+use Rattle.std.proofs.Common.{ℕ, ◌%◌, ◌≡◌, ◌≢◌, ◌∙◌, inl, inr, true, false, List, [], ◌∷◌, Option, Some, None, refl, sym, ap, subst}
+use Rattle.law_common.specs.Vocabulary.{Call, Kind, Op, Local, Next, BLOCK_SLOTS}
 use Rattle.queue_steps.specs.State.{State}
 use Rattle.queue_steps.specs.ChainWords.{offset_at, offset_of}
 use Rattle.law_common.specs.Effects.{IsBetween}
@@ -14,9 +13,9 @@ use Rattle.law_chain.proofs.ChainFacts.{holds_stays}
 use Rattle.law_chain.proofs.ChainAnswers.{head_offset}
 use Rattle.law_chain.specs.ChainAt.{Only, At, push_tail, writing, reading, beginning}
 use Rattle.law_chain.proofs.ChainAt.{at_stays}
-use Rattle.law_chain.specs.ChainPasses.{spare_in}
+use Rattle.law_chain.specs.ChainPasses.{Spares, spare_in}
 use Rattle.law_chain.proofs.ChainGiven.{spares_stay}
-use Rattle.law_chain.proofs.ChainStart.{at_begun}
+use Rattle.law_chain.proofs.ChainStart.{Begins, OnPosition, at_begun}
 use Rattle.shared_parties.specs.Calling.{CallLaws, HasTouched, first_of, Opens}
 use Rattle.shared_chain.specs.ChainCalls.{OutChain, HasOut, Out, ChainLent, ChainIdle, SlotsAs, PassesOut, chain_calls}
 
@@ -117,7 +116,13 @@ module _ {T : Type 0} where
   no_slots : (g : OutChain T) (j : ℕ) (l : Local ℕ) → ChainIdle g j → SlotsAs g j l
   no_slots g j l idle n e = absurd (idle.0 (Read n) (ap reader_of e))
 
+  on_blocks : (o : Op ℕ) → OnPosition o → OnBlocks o
+  on_blocks Op.Ask on = on
+  on_blocks o on = tt
+
+  opens : (c : Call T) (n : Next ℕ) → Begins c n → Opens {T = T} chain_calls OnBlocks c n
+  opens c (Next.Step l t o) (steps, touch, light, on, here) = (touch, on_blocks o on, λ g j idle. (here g.chain j [] idle.0, subst (λ s. Spares g.chain j s) (sym light) idle.1, no_slots g j l idle))
+  opens c (Next.Reply x spare) (steps, none, right) = (none, right)
+
   pub chain_opens : (c : Call T) → Opens {T = T} chain_calls OnBlocks c (first_of Kind.Unbounded c)
-  chain_opens Call.IsFull = (refl, (Reply.IsFull false, refl, refl, λ m open_ended. rw open_ended refl))
-  chain_opens Call.Capacity = (refl, (Reply.Capacity None, refl, refl, λ m open_ended. sym open_ended))
-  chain_opens c = (refl, tt, λ g j idle. (at_begun g.chain j [] c idle.0, idle.1, no_slots g j (Local.Unbounded chain.PopHead) idle))
+  chain_opens c = opens c (first_of Kind.Unbounded c) (at_begun c)

@@ -1,14 +1,16 @@
 -- The laws of a party's driver on a shared chain: what a step told leads on, and so does what a call does first.
-use Rattle.std.proofs.Common.{ℕ, ◌≡◌, ◌∙◌, false, Option, Some, None, List, [], refl, sym, ap, subst, inl, inr}
-use Rattle.law_common.specs.Vocabulary.{Call, Reply, Kind, Op, Touch, Answer, Local, Next}
+use Rattle.std.proofs.Common.{ℕ, ◌≡◌, ◌∙◌, Option, Some, None, List, [], refl, sym, ap, subst, inl, inr}
+use Rattle.law_common.specs.Vocabulary.{Call, Reply, Kind, Op, Touch, Word, Answer, Local, Next}
 use Rattle.queue_steps.specs.Effect.{after}
 use Rattle.queue_steps.specs.Kinds.{call_kind, call_value}
 use Rattle.queue_steps.specs.Next.{CanNext, next_of, first_local}
 use Rattle.queue_steps.specs.Parties.{View, SharedCall}
+use Rattle.queue_steps.specs.UnboundedNext.{unbounded_begin}
 use Rattle.queue_steps.specs.Replies.{Tells, IsRightAt}
 use Rattle.queue_steps.specs.State.{State}
 use Rattle.law_common.proofs.Runs.{cap_after}
 use Rattle.law_chain.specs.ChainPasses.{spare_in}
+use Rattle.law_chain.proofs.ChainStart.{Begins, OnPosition, at_begun}
 use Rattle.mem_blocks.specs.Web.{Sitter, sitter}
 use Rattle.mem_blocks.specs.Seats.{Sits}
 use Rattle.mem_blocks.specs.declared.block.BlockPtr.{BlockPtr as Place}
@@ -28,7 +30,7 @@ use Rattle.shared_chain.specs.Names.{link_of, name_map, local_map, op_map, next_
 use Rattle.shared_chain.specs.Steps.{HoldsBy, HoldsFor, MayDo, MayStep, After, carried_by}
 use Rattle.shared_chain.specs.Turning.{unnamed, call_at, CanDo, Operated, Carries, IsFree, ChainStands, ChainRests, ChainEnded, GaveUp, ChainLeads}
 use Rattle.shared_chain.proofs.Steps.Turns.{sits_still}
-use Rattle.shared_chain.proofs.Frames.Renamed.{can_next_map, next_of_map}
+use Rattle.shared_chain.proofs.Frames.Renamed.{can_next_map, next_of_map, unbounded_begin_map}
 
 module _ {T A : Type 0} (w : ChainWeb T A) where
   -- a block that a reply gives up is carried by its place too
@@ -118,9 +120,23 @@ module _ {T A : Type 0} (w : ChainWeb T A) where
       let at = subst (λ (m : Sitter T (CallState T)). IsFree m × SharedCall None (view_of k) (view_of m.view.known) c y) (sym gave.1) done in
       ((sits_still w.web p q gave.0 rests.0, at.0), at.1)
 
+  may_do : (l : Local ℕ) (o : Op ℕ) → OnPosition o → MayDo {T = T} l o []
+  may_do l (Op.Load Word.Head) on = tt
+  may_do l (Op.Load Word.Tail) on = tt
+  may_do l (Op.Or Word.Tail x) on = tt
+  may_do l o on = absurd on
+
+  -- whatever a call begins with, which is the same with any names, leads on
+  begins_so : (p : Seat T (CallState T) A) (c : Call T) (n : Next ℕ) → ChainRests w p → Begins c n → next_map unnamed (next_map (link_of {T = T}) n) ≡ n → first_of Kind.Unbounded c ≡ n → ChainLeads w p c (next_map link_of n) p (call_value c)
+  begins_so p c (Next.Step l t o) rests (steps, touch, light, on, here) same first =
+      subst (λ u. ChainLeads w p c (next_map link_of (Next.Step l u o)) p (call_value c)) (sym touch) (begins_step p c l o rests cc cc light (may_do l o on) (first ∙ ap (λ u. Next.Step l u o) touch))
+  begins_so p c (Next.Reply x None) rests (steps, none, (y, fill, tells, right)) same first = (rests.1.1, (y, fill, begins_reply p c y rests tells right))
+  begins_so p c (Next.Reply x (Some f)) rests (steps, none, right) same first = cc
+
   -- a call that begins leads on
   pub chain_begins : (p : Seat T (CallState T) A) (c : Call T) → ChainRests w p
       → CanNext Kind.Unbounded (first_local {B = Place T} (call_kind c)) Answer.Start × ChainLeads w p c (next_of Kind.Unbounded (first_local (call_kind c)) Answer.Start) p (call_value c)
-  chain_begins p Call.IsFull rests = (tt, (rests.1.1, (Reply.IsFull false, refl, begins_reply p Call.IsFull (Reply.IsFull false) rests refl (λ m open_ended. rw open_ended refl))))
-  chain_begins p Call.Capacity rests = (tt, (rests.1.1, (Reply.Capacity None, refl, begins_reply p Call.Capacity (Reply.Capacity None) rests refl (λ m open_ended. sym open_ended))))
-  chain_begins p c rests = (tt, begins_step p c _ _ rests refl refl refl tt refl)
+  chain_begins p c rests =
+      let named : unbounded_begin (call_kind c) ≡ next_map (link_of {T = T}) (unbounded_begin (call_kind c)) = unbounded_begin_map link_of (call_kind c) in
+      let same = sym (unbounded_begin_map unnamed (call_kind c) ∙ ap (next_map unnamed) named) in
+      (tt, subst (λ n. ChainLeads w p c n p (call_value c)) (sym named) (begins_so p c (unbounded_begin (call_kind c)) rests (at_begun c) same refl))

@@ -18,9 +18,9 @@ use shared_tables::table::SharedTable;
 use std::alloc::Allocator;
 
 impl<T, A: Allocator> ConcurrentQueue<T, A> {
-    /// Runs a wait-free call to its end.
+    /// Runs a wait-free call to its end, each of its steps at the gate.
     #[inline(always)]
-    fn answer_wait_free<G: Gate>(&self, gate: &G, party: &mut Party<T>, call: Call<T>) -> Reply<T>
+    pub fn answer_wait_free<G: Gate>(&self, gate: &G, party: &mut Party<T>, call: Call<T>) -> Reply<T>
         requires of { IsPartyOf party.old self.now }
         requires wait_free { is_wait_free call ≡ true }
         ensures { Calls party.old call result party.new }

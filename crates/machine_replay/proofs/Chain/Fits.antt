@@ -1,7 +1,8 @@
 -- Where a call on a chain stands in the machine, by the laws of the chain, and where it stands after each step: nothing here knows a cell.
 use Rattle.std.proofs.Common.{ℕ, ◌≡◌, ◌≢◌, true, Option, None, List, [], ◌∷◌, refl, sym, subst, arith}
 use Rattle.queue_steps.specs.State.{State}
-use Rattle.queue_steps.specs.UnboundedNext.{unbounded_next}
+use Rattle.queue_steps.specs.Kinds.{call_kind, call_value}
+use Rattle.queue_steps.specs.UnboundedNext.{unbounded_begin, unbounded_next}
 use Rattle.machine_replay.specs.Vocabulary.{Call, Reply, Effect, Kind, Answer, Next, Running}
 use Rattle.law_common.specs.Effects.{with_effect}
 use Rattle.machine_replay.proofs.Engine.StandOf.{stand_of}
@@ -12,7 +13,7 @@ use Rattle.law_chain.specs.ChainAt.{At}
 use Rattle.law_chain.proofs.ChainAt.{at_stays}
 use Rattle.law_chain.specs.ChainAnswers.{Answers}
 use Rattle.law_chain.specs.ChainAfter.{chain_of, after_of, carried_of, left_by}
-use Rattle.law_chain.proofs.ChainStart.{at_begun}
+use Rattle.law_chain.proofs.ChainStart.{Begins, at_begun}
 use Rattle.law_chain.proofs.ChainGiven.{spares_stay}
 use Rattle.law_chain.proofs.ChainRight.{NextOkSpares, step_right}
 use Rattle.law_chain.proofs.ChainRanks.{rank, longest, rank_small, rank_some, Falls}
@@ -100,6 +101,8 @@ fresh s Q g p k x here spares busy = record {
 
 pub chain_begins : {A : Type 0} (Stands : Shared A → State A → Chain A → Type 0) (s : Shared A) (Q : State A) (g : Chain A) (p : ℕ) (k : Call A) → Q.cap ≡ None → ChainIdle g p
     → ChainBegins A Stands s Q g p k (start_of Kind.Unbounded k).call (start_of Kind.Unbounded k).reply
-chain_begins Stands s Q g p Call.IsFull open_ended idle = (refl, rw open_ended refl)
-chain_begins Stands s Q g p Call.Capacity open_ended idle = (refl, sym open_ended)
-chain_begins Stands s Q g p k open_ended idle = (refl, fresh s Q g p k _ (at_begun g p [] k idle.0) idle.1)
+chain_begins {A} Stands s Q g p k open_ended idle = by (unbounded_begin (call_kind k)) (at_begun k)
+  where
+    by : (n : Next ℕ) → Begins k n → ChainBegins A Stands s Q g p k (running_after n (call_value k)) (reply_after n (call_value k))
+    by (Next.Step l t o) (steps, touch, light, on, here) = (steps, fresh s Q g p k _ (here g p [] idle.0) (subst (λ f. Spares g p f) (sym light) idle.1))
+    by (Next.Reply x spare) (none, given, (y, fill, tells, right)) = rw fill (none, right Q open_ended)

@@ -13,6 +13,7 @@ use Rattle.queue_steps.specs.declared.steps.types.Touch.TheVariants as touch
 use Rattle.queue_steps.specs.declared.steps.bounded.TheConstants.{MARK}
 use Rattle.queue_steps.specs.declared.steps.bounded.PushKind.TheVariants as push_kind
 use Rattle.queue_steps.specs.declared.steps.unbounded.UnboundedLocal.TheVariants as chain
+use Rattle.queue_steps.specs.Looks.{look_reply}
 use Rattle.queue_steps.specs.Replies.{is_empty}
 use Rattle.queue_steps.specs.Words.{position_of, is_shut}
 use Rattle.queue_steps.specs.ChainWords.{offset_at, over_end}
@@ -83,9 +84,8 @@ own_chain_answers r call.Pop i = (tt, pop-answers r i)
 own_chain_answers r call.Close i = close-answers r i
 own_chain_answers r call.IsClosed i = is_closed-answers r i
 own_chain_answers r call.IsEmpty i = is_empty-answers r i
-own_chain_answers r call.IsFull i = (tt, (i, (reply.IsFull false, refl, sequential r r call.IsFull (reply.IsFull false) i refl refl (λ x. refl))))
 own_chain_answers r call.Len i = len-answers r i
-own_chain_answers r call.Capacity i = (tt, (i, (reply.Capacity None, refl, sequential r r call.Capacity (reply.Capacity None) i refl refl (λ x. refl))))
+own_chain_answers r look i = (tt, (i, (look_reply (own_chain_queue r) look, refl, sequential r r look (look_reply (own_chain_queue r) look) i refl refl (λ x. refl))))
 
 pub own_chain_stays : {T : Type 0} (r : OwnChain T) (o : Op (Name T)) (carried : Option T) → own_chain_touches r touch.Nothing o carried r carried
 own_chain_stays r o carried = refl

@@ -33,10 +33,7 @@ ends_next l ends a can = absurd can
 
 slot_wait_free : {T : Type 0} (c : Call T) → is_wait_free c ≡ true → EndsWaitFree ℕ Kind.Single (call_kind c)
 slot_wait_free Call.Close h = λ a can. ends_next Closing (λ n. tt) a can
-slot_wait_free Call.IsClosed h = λ a can. ends_next (Looking Look.IsClosed) (λ n. tt) a can
-slot_wait_free Call.IsEmpty h = λ a can. ends_next (Looking Look.IsEmpty) (λ n. tt) a can
-slot_wait_free Call.IsFull h = λ a can. ends_next (Looking Look.IsFull) (λ n. tt) a can
-slot_wait_free c h = cc
+slot_wait_free c h = first_of (cc, λ a can. ends_next _ (λ n. tt) a can)
 
 module _ {T : Type 0} where
   -- a touch leaves the word
