@@ -16,7 +16,8 @@ module _ {T : Type 0} where
   look_tells (call.ForcePush v) r es is tells = absurd is
   look_tells call.Pop r es is tells = absurd is
   look_tells call.Close r es is tells = absurd is
-  look_tells look r es is tells = first_of (assumption, cc)
+  look_tells look (reply.Push x) es is tells = absurd tells
+  look_tells look r es is tells = first_of (assumption, search)
 
   -- a reply that is right is what the state shows
   pub look_right : (Q : State T) (c : Call T) (r : Reply T) → IsLook c → IsRightAt Q c r → r ≡ look_reply Q c
@@ -24,7 +25,8 @@ module _ {T : Type 0} where
   look_right Q (call.ForcePush v) r is right = absurd is
   look_right Q call.Pop r is right = absurd is
   look_right Q call.Close r is right = absurd is
-  look_right Q look r is right = cc
+  look_right Q look (reply.Push x) is right = absurd right
+  look_right Q look r is right = first_of (cc, search)
 
   -- and what the state shows is right, and stands for no effect
   pub look_shows : (Q : State T) (c : Call T) → IsLook c → IsRightAt Q c (look_reply Q c) × Tells c (look_reply Q c) []

@@ -36,4 +36,4 @@ module _ (cap : ℕ) where
 
   pub ring_wait_free : {T : Type 0} (c : Call T) → is_wait_free c ≡ true → EndsWaitFree ℕ (Kind.Bounded cap) (call_kind c)
   ring_wait_free Call.Close h = closing_ends
-  ring_wait_free c h = first_of (cc, closed_ends, empty_begins, full_begins)
+  ring_wait_free c h = first_of (cc, assumption (closed_ends, empty_begins, full_begins))

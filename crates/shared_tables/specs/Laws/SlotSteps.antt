@@ -31,9 +31,12 @@ ends_next : (l : SingleLocal) → ((n : ℕ) → EndsBefore {B = ℕ} 2 Kind.Sin
 ends_next l ends (Answer.Found n) can = ends n
 ends_next l ends a can = absurd can
 
+looking_ends : (l : Look) (a : Answer ℕ) → CanNext Kind.Single (Local.Single (Looking l)) a → EndsBefore {B = ℕ} 2 Kind.Single (next_of Kind.Single (Local.Single (Looking l)) a)
+looking_ends l a can = ends_next (Looking l) (λ n. tt) a can
+
 slot_wait_free : {T : Type 0} (c : Call T) → is_wait_free c ≡ true → EndsWaitFree ℕ Kind.Single (call_kind c)
 slot_wait_free Call.Close h = λ a can. ends_next Closing (λ n. tt) a can
-slot_wait_free c h = first_of (cc, λ a can. ends_next _ (λ n. tt) a can)
+slot_wait_free c h = first_of (cc, search looking_ends)
 
 module _ {T : Type 0} where
   -- a touch leaves the word
