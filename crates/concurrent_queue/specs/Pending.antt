@@ -16,8 +16,8 @@ use Rattle.shared_parties.specs.Calling.{cap_of}
 use Rattle.shared_parties.specs.CallsAt.{begun_at}
 use Rattle.shared_tables.specs.TableRule.{TableOf}
 use Rattle.shared_tables.specs.TableTurns.{After}
-use Rattle.shared_tables.specs.SlotTable.{slot_table}
-use Rattle.shared_tables.specs.RingTable.{ring_table}
+use Rattle.table_kinds.specs.SlotTable.{slot_table}
+use Rattle.table_kinds.specs.RingTable.{ring_table}
 use Rattle.shared_chain.specs.Names.{link_of, local_map, answer_map}
 use Rattle.shared_chain.specs.Steps as chain
 use Rattle.shared_site.specs.declared.chain.Asking.{Asking}

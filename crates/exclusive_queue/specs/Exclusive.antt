@@ -1,6 +1,6 @@
 -- What a queue with one owner shows.
 use Rattle.queue_steps.specs.Sequential.{Owned}
-use Rattle.own_bounded.specs.SingleCells as single
+use Rattle.own_slot.specs.SingleCells as single
 use Rattle.own_bounded.specs.RingOwned as ring
 use Rattle.own_unbounded.specs.OwnChainOwned as line
 use Rattle.exclusive_queue.specs.declared.exclusive.form.Form.{Form}

@@ -1,4 +1,3 @@
-pub mod Slots
 pub mod Openings
 pub mod RingWrites
 pub mod RingLies

@@ -1,5 +1,3 @@
-pub mod ComputedSteps
-pub mod SingleCells
 pub mod RingCells
 pub mod RingWords
 pub mod RingMemory

@@ -9,7 +9,7 @@ use Rattle.queue_steps.specs.declared.steps.types.Op.TheVariants as op
 use Rattle.queue_steps.specs.declared.steps.types.Word.TheVariants as word
 use Rattle.queue_steps.specs.declared.steps.types.Touch.{Touch}
 use Rattle.queue_steps.specs.declared.steps.types.Touch.TheVariants as touch
-use Rattle.own_bounded.specs.ComputedSteps.{CanTouch, Touches, CanPerform, Performs}
+use Rattle.own_slot.specs.ComputedSteps.{CanTouch, Touches, CanPerform, Performs}
 
 -- what is in a ring: how many slots, the two positions in their words, the stamps, each of which says for which position its slot is free or filled, and the slots
 pub record RingState (T : Type 0) : Type 0 where

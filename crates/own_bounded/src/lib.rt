@@ -1,10 +1,7 @@
-//! Queues of one slot and rings of slots, with one owner, as cells of the driver.
+//! Rings of slots, with one owner, as cells of the driver.
 #![tactic(auto)]
 
 pub mod bounded;
 pub mod reading;
 pub mod ring_words;
-pub mod single;
 pub mod vacant;
-
-pub use single::Single;

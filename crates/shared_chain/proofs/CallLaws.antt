@@ -36,6 +36,10 @@ abbrev pub OnBlocks : Op ℕ → Type 0
 OnBlocks Op.Ask = ⊥
 OnBlocks _ = Unit {0}
 
+on_blocks : (o : Op ℕ) → OnPosition o → OnBlocks o
+on_blocks Op.Ask on = on
+on_blocks o on = tt
+
 module _ {T : Type 0} where
   -- a slot that another party has stays its own, and with what lies in it
   out_back : (g s : OutChain T) (who j n : ℕ) → j ≢ who → PassesOut who g s → HasOut s j n → HasOut g j n
@@ -115,10 +119,6 @@ module _ {T : Type 0} where
   -- a party that holds nothing reads nothing
   no_slots : (g : OutChain T) (j : ℕ) (l : Local ℕ) → ChainIdle g j → SlotsAs g j l
   no_slots g j l idle n e = absurd (idle.0 (Read n) (ap reader_of e))
-
-  on_blocks : (o : Op ℕ) → OnPosition o → OnBlocks o
-  on_blocks Op.Ask on = on
-  on_blocks o on = tt
 
   opens : (c : Call T) (n : Next ℕ) → Begins c n → Opens {T = T} chain_calls OnBlocks c n
   opens c (Next.Step l t o) (steps, touch, light, on, here) = (touch, on_blocks o on, λ g j idle. (here g.chain j [] idle.0, subst (λ s. Spares g.chain j s) (sym light) idle.1, no_slots g j l idle))

@@ -2,7 +2,7 @@
 use Rattle.std.proofs.Common.{ℕ, ◌≡◌, ◌∙◌, Option, Some, None, List, [], refl, sym, ap, subst, inl, inr}
 use Rattle.law_common.specs.Vocabulary.{Call, Reply, Kind, Op, Touch, Word, Answer, Local, Next}
 use Rattle.queue_steps.specs.Effect.{after}
-use Rattle.queue_steps.specs.Kinds.{call_kind, call_value}
+use Rattle.queue_steps.specs.Kinds.{call_kind, call_value, filled}
 use Rattle.queue_steps.specs.Next.{CanNext, next_of, first_local}
 use Rattle.queue_steps.specs.Parties.{View, SharedCall}
 use Rattle.queue_steps.specs.UnboundedNext.{unbounded_begin}
@@ -126,12 +126,24 @@ module _ {T A : Type 0} (w : ChainWeb T A) where
   may_do l (Op.Or Word.Tail x) on = tt
   may_do l o on = absurd on
 
+  -- a first step is one at a position, and names no block
+  begins_at : (p : Seat T (CallState T) A) (c : Call T) (l : Local ℕ) (t : Touch) (o : Op ℕ) → ChainRests w p → t ≡ Touch.Nothing → spare_in l ≡ None → OnPosition o
+      → next_map unnamed (next_map (link_of {T = T}) (Next.Step l t o)) ≡ Next.Step l t o → first_of Kind.Unbounded c ≡ Next.Step l t o → ChainLeads w p c (next_map link_of (Next.Step l t o)) p (call_value c)
+  begins_at p c l t o rests touch light on same first =
+      let l_same : local_map unnamed (local_map (link_of {T = T}) l) ≡ l = cc in
+      let o_same : op_map unnamed (op_map (link_of {T = T}) o) ≡ o = cc in
+      subst (λ u. ChainLeads w p c (next_map link_of (Next.Step l u o)) p (call_value c)) (sym touch) (begins_step p c l o rests l_same o_same light (may_do l o on) (first ∙ ap (λ u. Next.Step l u o) touch))
+
+  -- a call that replies at once gives no block up
+  begins_with : (p : Seat T (CallState T) A) (c : Call T) (x : Reply Unit) (spare : Option ℕ) (y : Reply T) → ChainRests w p → spare ≡ None → filled x (call_value c) ≡ Some y → Tells c y [] → ((m : State T) → m.cap ≡ None → IsRightAt m c y)
+      → ChainLeads w p c (next_map link_of (Next.Reply x spare)) p (call_value c)
+  begins_with p c x None y rests none fill tells right = (rests.1.1, (y, fill, begins_reply p c y rests tells right))
+  begins_with p c x (Some f) y rests none fill tells right = let no : ⊥ = cc in absurd no
+
   -- whatever a call begins with, which is the same with any names, leads on
   begins_so : (p : Seat T (CallState T) A) (c : Call T) (n : Next ℕ) → ChainRests w p → Begins c n → next_map unnamed (next_map (link_of {T = T}) n) ≡ n → first_of Kind.Unbounded c ≡ n → ChainLeads w p c (next_map link_of n) p (call_value c)
-  begins_so p c (Next.Step l t o) rests (steps, touch, light, on, here) same first =
-      subst (λ u. ChainLeads w p c (next_map link_of (Next.Step l u o)) p (call_value c)) (sym touch) (begins_step p c l o rests cc cc light (may_do l o on) (first ∙ ap (λ u. Next.Step l u o) touch))
-  begins_so p c (Next.Reply x None) rests (steps, none, (y, fill, tells, right)) same first = (rests.1.1, (y, fill, begins_reply p c y rests tells right))
-  begins_so p c (Next.Reply x (Some f)) rests (steps, none, right) same first = cc
+  begins_so p c (Next.Step l t o) rests b same first = begins_at p c l t o rests b.1 b.2 b.3 same first
+  begins_so p c (Next.Reply x spare) rests b same first = let y = b.2 in begins_with p c x spare y.0 rests b.1 y.1 y.2 y.3
 
   -- a call that begins leads on
   pub chain_begins : (p : Seat T (CallState T) A) (c : Call T) → ChainRests w p

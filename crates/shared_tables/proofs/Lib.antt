@@ -4,7 +4,4 @@ mod Crowds
 mod TableAllows
 mod TableOperations
 mod TableTouches
-mod RingEnding
-mod TableRests
-mod RingFinish
-mod SlotFinish
+pub mod TableRests

@@ -4,7 +4,4 @@ pub mod Early
 pub mod TableRule
 pub mod TableTurns
 pub mod Quitting
-pub mod RingOpening
-pub mod RingTable
-pub mod SlotTable
 pub mod Laws

@@ -9,8 +9,8 @@ use crate::shared::ConcurrentQueue;
 use exclusive_queue::Exclusive;
 use shared_parties::count::{is_only, join, meet, split};
 use shared_site::allocated_chain::AllocatedChain;
-use shared_tables::ring::end_ring;
-use shared_tables::slot::end_slot;
+use table_kinds::ring::end_ring;
+use table_kinds::slot::end_slot;
 use std::alloc::Allocator;
 use std::mem;
 

@@ -12,8 +12,8 @@ use call_driver::driver::drive_wait_free;
 use call_driver::gate::{Gate, Open};
 use queue_steps::model::{Call, Reply};
 use shared_calls::chain;
-use shared_tables::ring::Rings;
-use shared_tables::slot::Slots;
+use table_kinds::ring::Rings;
+use table_kinds::slot::Slots;
 use shared_tables::table::SharedTable;
 use std::alloc::Allocator;
 

@@ -3,7 +3,7 @@ ghost use Rattle.std.specs.Prelude.{◌≡◌};
 ghost use Rattle.call_driver.specs.Apart.{FitsCall, SequentialApart};
 
 use own_bounded::bounded::Ring;
-use own_bounded::single::Single;
+use own_slot::single::Single;
 use own_calls::sealed::Sealed;
 use own_unbounded::unbounded::LinkedBlocks;
 use queue_steps::model::{CallKind, ReplyKind};

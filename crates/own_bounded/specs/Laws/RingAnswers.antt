@@ -29,7 +29,7 @@ use Rattle.law_ring.proofs.RingStep.{step_good}
 use Rattle.call_driver.specs.EndsIn.{EndsIn, EndsRight, Released, Replied, Answered}
 use Rattle.own_bounded.specs.RingCells.{RingState, kind_of_ring, ring_touchable, ring_touched, ring_operable, ring_performed, ring_can_touch, ring_touches, ring_can_perform, ring_performs, ring_can_release, ring_releases}
 use Rattle.own_bounded.specs.RingOwned.{IsIdle, ring_queue, ring_owned}
-use Rattle.own_bounded.specs.Laws.ComputedRuns.{EndsIn-step}
+use Rattle.own_slot.specs.Laws.ComputedRuns.{EndsIn-step}
 use Rattle.own_bounded.specs.Laws.RingParty.{part, ring_of, nobody_holds, party_ok, party_codes}
 use Rattle.own_bounded.specs.Laws.RingRests.{rested_idle, rested_queue}
 use Rattle.own_bounded.specs.Laws.RingSame.{is_done, same_step}

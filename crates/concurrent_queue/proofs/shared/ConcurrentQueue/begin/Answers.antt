@@ -1,7 +1,7 @@
 use Rattle.std.proofs.Common.{rules, ◌≡◌, ◌≤◌, ◌∙◌, refl, sym, ap, subst}
 use Rattle.atomic_table.specs.Seated.{TableId}
-use Rattle.shared_tables.specs.SlotTable.{slot_table}
-use Rattle.shared_tables.specs.RingTable.{ring_table}
+use Rattle.table_kinds.specs.SlotTable.{slot_table}
+use Rattle.table_kinds.specs.RingTable.{ring_table}
 use Rattle.shared_chain.specs.Turning.{web_of}
 use Rattle.concurrent_queue.specs.declared.party.SeatPlace.TheVariants as place
 use Rattle.shared_calls.specs.InWeb.{RestsAt, EndedAt}

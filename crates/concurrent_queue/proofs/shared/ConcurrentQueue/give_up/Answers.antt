@@ -1,8 +1,8 @@
 use Rattle.std.proofs.Common.{◌≡◌, ◌∙◌, sym, ap, subst}
 use Rattle.queue_steps.specs.Kinds.{call_value}
 use Rattle.shared_parties.specs.Quitting.{its_call}
-use Rattle.shared_tables.specs.SlotTable.{slot_table}
-use Rattle.shared_tables.specs.RingTable.{ring_table}
+use Rattle.table_kinds.specs.SlotTable.{slot_table}
+use Rattle.table_kinds.specs.RingTable.{ring_table}
 use Rattle.concurrent_queue.specs.Begun.{Begun}
 use Rattle.concurrent_queue.specs.Pending.{begun_of, IsStopped}
 use Rattle.concurrent_queue.specs.SawMore.{SawMore}

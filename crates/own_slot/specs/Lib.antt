@@ -1,0 +1,3 @@
+pub mod ComputedSteps
+pub mod SingleCells
+pub mod Laws

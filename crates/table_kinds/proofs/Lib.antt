@@ -1,0 +1,3 @@
+mod RingEnding
+mod RingFinish
+mod SlotFinish

@@ -1,0 +1,4 @@
+pub mod RingOpening
+pub mod RingTable
+pub mod SlotTable
+pub mod Laws
