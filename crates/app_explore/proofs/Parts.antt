@@ -62,17 +62,17 @@ digits_other : (ds : List ℕ) → AllDigits 10 ds → AllOther ds
 digits_other [] h = tt
 digits_other (d ∷ ds) h = let digit = digit_at (d ∷ ds) 0 h (omega arith) in (ne_eqb d 59 (λ e. omega arith), digits_other ds h.1)
 
-has_none : List ℕ → Bool
+abbrev has_none : List ℕ → Bool
 has_none [] = true
 has_none (b ∷ bs) = if b == 59 then false else has_none bs
 
 all_other : (bs : List ℕ) → has_none bs ≡ true → AllOther bs
 all_other [] h = tt
-all_other (b ∷ bs) h = by_byte (b == 59) refl h
+all_other (b ∷ bs) h = by_byte (b == 59) refl h (all_other bs)
   where
-    by_byte : (t : Bool) → (b == 59) ≡ t → (if t then false else has_none bs) ≡ true → AllOther (b ∷ bs)
-    by_byte true e h = cc
-    by_byte false e h = (e, all_other bs h)
+    by_byte : (t : Bool) → (b == 59) ≡ t → (if t then false else has_none bs) ≡ true → (has_none bs ≡ true → AllOther bs) → AllOther (b ∷ bs)
+    by_byte true e h rest = cc
+    by_byte false e h rest = (e, rest h)
 
 -- no call has a semicolon
 call_other : (c : Call ℕ) → IsCallOfWord c → AllOther (spaced_call c)

@@ -2,6 +2,7 @@
 ghost use Rattle.concurrent_queue.specs.Shared.{IsPartyOf};
 
 use crate::asserts::is_in;
+use call_driver::gate::Open;
 use concurrent_queue::{
     ConcurrentQueue, Exclusive, NullTestable, Party, PopError, PushError, TryForcePushError,
     TryPopError, TryPushError,
@@ -61,7 +62,7 @@ fn answer<A: NullTestable, R: Wait>(
     }
 }
 
-/// Makes a call of this story, and asserts its reply.
+/// Makes a call of this story, and asserts its reply; and of a wait-free look, that it is the same by `answer_wait_free`.
 pub(crate) fn is_answered<A: NullTestable, R: Wait + Abort>(
     rt: &R,
     story: &'static str,
@@ -74,6 +75,10 @@ pub(crate) fn is_answered<A: NullTestable, R: Wait + Abort>(
 {
     let (call, reply) = row;
     is_in(rt, (story, call), answer(rt, queue, party, call), reply);
+    if call.is_wait_free() && call != Call::Close {
+        let again = queue.answer_wait_free(&Open, party, call);
+        is_in(rt, (story, call), again, reply);
+    }
 }
 
 /// Makes the calls of one party of this story, and asserts each reply.
