@@ -6,8 +6,7 @@ ghost use Rattle.app_text.specs.Reading.{IsReading};
 use crate::lines::Line;
 use crate::numbers::parse_number;
 use queue_steps::model::Call;
-use std::fmt;
-use std::str;
+use std::{fmt, str};
 
 impl Line for Call<u64> {
     ghost is_value = { IsCallOfWord };

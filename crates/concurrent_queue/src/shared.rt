@@ -24,14 +24,14 @@ use shared_calls::waiting::{run_either, run_slow};
 use shared_chain::source::{Granting, Refusing, Source};
 use shared_chain::web::ChainWeb;
 use shared_site::allocated_chain::AllocatedChain;
-use table_kinds::ring::{self, Rings, open_ring};
-use table_kinds::slot::{self, Slots, open_slot};
 use shared_tables::table::SharedTable;
 use std::alloc::{AllocError, Allocator, Global};
 use std::fmt;
 use std::marker::Model;
 use std::ops::ControlFlow;
 use std::sync::Wait;
+use table_kinds::ring::{self, Rings, open_ring};
+use table_kinds::slot::{self, Slots, open_slot};
 
 mod calling;
 mod count;

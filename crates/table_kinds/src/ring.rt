@@ -10,7 +10,6 @@ ghost use Rattle.shared_parties.specs.Known.{party, view_of};
 ghost use Rattle.table_kinds.specs.RingOpening.{first_words};
 ghost use Rattle.shared_parties.specs.CallStates.{idle, IsLoneSeat};
 
-use shared_tables::table::{SharedTable, Sizes, TableKind, TableSteps};
 use atomic_table::Seat;
 use call_steps::RingSteps;
 use exclusive_queue::Exclusive;
@@ -19,6 +18,7 @@ use own_bounded::vacant::{discard, empty_slots, table_of};
 use queue_steps::sizes::MAX_CAPACITY;
 use queue_steps::steps::{Kind, Word};
 use shared_parties::known::CallState;
+use shared_tables::table::{SharedTable, Sizes, TableKind, TableSteps};
 use std::alloc::{AllocError, Allocator};
 
 /// Rings of more than one slot.

@@ -8,12 +8,12 @@ ghost use Rattle.shared_parties.specs.Known.{party, view_of};
 ghost use Rattle.shared_parties.specs.CallStates.{idle, IsLoneSeat};
 ghost use Rattle.own_slot.specs.SingleCells.{IsIdle, single_owned};
 
-use shared_tables::table::{SharedTable, Sizes, TableKind, TableSteps};
 use atomic_table::{Seat, Table};
 use call_steps::SlotSteps;
 use own_slot::Single;
 use queue_steps::steps::{Kind, Word};
 use shared_parties::known::CallState;
+use shared_tables::table::{SharedTable, Sizes, TableKind, TableSteps};
 use std::alloc::{AllocError, Allocator};
 
 /// The word that says what is in the slot.

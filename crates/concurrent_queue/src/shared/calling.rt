@@ -19,12 +19,12 @@ use queue_steps::model::{Call, Reply};
 use shared_calls::waiting::{run_either, run_fast, run_slow};
 use shared_parties::known::CallState;
 use shared_site::left::Left;
-use table_kinds::ring::Rings;
-use table_kinds::slot::Slots;
 use shared_tables::table::SharedTable;
 use std::alloc::Allocator;
 use std::ops::ControlFlow;
 use std::sync::Wait;
+use table_kinds::ring::Rings;
+use table_kinds::slot::Slots;
 
 /// Begins a call and takes its fast steps, by the short row.
 #[inline(always)]

@@ -9,10 +9,10 @@ use crate::shared::ConcurrentQueue;
 use exclusive_queue::Exclusive;
 use shared_parties::count::{is_only, join, meet, split};
 use shared_site::allocated_chain::AllocatedChain;
-use table_kinds::ring::end_ring;
-use table_kinds::slot::end_slot;
 use std::alloc::Allocator;
 use std::mem;
+use table_kinds::ring::end_ring;
+use table_kinds::slot::end_slot;
 
 impl<T, A: Allocator> ConcurrentQueue<T, A> {
     /// Parts a party in two. The first keeps what the party has done, both have seen what it has, and each has half of its share.

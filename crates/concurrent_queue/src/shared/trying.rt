@@ -29,11 +29,11 @@ use shared_calls::attempts::{attempt_in, end_or_quit_at, retold};
 use shared_calls::waiting::run_either;
 use shared_parties::known::CallState;
 use shared_site::left::Left;
-use table_kinds::ring::Rings;
-use table_kinds::slot::Slots;
 use shared_tables::table::{SharedTable, TableSteps};
 use std::alloc::Allocator;
 use std::ops::ControlFlow;
+use table_kinds::ring::Rings;
+use table_kinds::slot::Slots;
 
 /// A call which gives up where it would wait, for the driver: each has fast steps of its own, also beside those that wait.
 pub(crate) trait Attempt<T> {

@@ -12,15 +12,20 @@ use call_driver::driver::drive_wait_free;
 use call_driver::gate::{Gate, Open};
 use queue_steps::model::{Call, Reply};
 use shared_calls::chain;
-use table_kinds::ring::Rings;
-use table_kinds::slot::Slots;
 use shared_tables::table::SharedTable;
 use std::alloc::Allocator;
+use table_kinds::ring::Rings;
+use table_kinds::slot::Slots;
 
 impl<T, A: Allocator> ConcurrentQueue<T, A> {
     /// Runs a wait-free call to its end, each of its steps at the gate.
     #[inline(always)]
-    pub fn answer_wait_free<G: Gate>(&self, gate: &G, party: &mut Party<T>, call: Call<T>) -> Reply<T>
+    pub fn answer_wait_free<G: Gate>(
+        &self,
+        gate: &G,
+        party: &mut Party<T>,
+        call: Call<T>,
+    ) -> Reply<T>
         requires of { IsPartyOf party.old self.now }
         requires wait_free { is_wait_free call ≡ true }
         ensures { Calls party.old call result party.new }

@@ -1,7 +1,8 @@
 -- The wait-free calls on a ring take one step or two.
-use Rattle.std.specs.Prelude.{◌≡◌, ℕ, true}
-use Rattle.law_common.specs.Vocabulary.{Call, Kind, Answer, Local, Next}
+use Rattle.std.specs.Prelude.{◌≡◌, ℕ, Bool, true, false, refl}
+use Rattle.law_common.specs.Vocabulary.{Call, Kind, Answer, Local, BoundedLocal, Next}
 use Rattle.queue_steps.specs.declared.steps.bounded.BoundedLocal.TheVariants as ring
+use Rattle.queue_steps.specs.BoundedNext.{bounded_begin}
 use Rattle.queue_steps.specs.Kinds.{call_kind}
 use Rattle.queue_steps.specs.Next.{CanNext, next_of}
 use Rattle.queue_steps.specs.WaitFree.{is_wait_free, EndsBefore, EndsWaitFree}
@@ -34,6 +35,29 @@ module _ (cap : ℕ) where
   full_begins (Answer.Found n) can = full_ends n
   full_begins a can = absurd can.1
 
+  -- where those calls begin
+  abbrev is_quick : BoundedLocal → Bool
+  is_quick ring.Closing = true
+  is_quick ring.ClosedTail = true
+  is_quick ring.EmptyHead = true
+  is_quick ring.FullTail = true
+  is_quick _ = false
+
+  quick_ends : (l : BoundedLocal) → is_quick l ≡ true → (a : Answer ℕ) → CanNext (Kind.Bounded cap) (Local.Bounded l) a → RingEndsBefore 2 (next_of (Kind.Bounded cap) (Local.Bounded l) a)
+  quick_ends ring.Closing h = closing_ends
+  quick_ends ring.ClosedTail h = closed_ends
+  quick_ends ring.EmptyHead h = empty_begins
+  quick_ends ring.FullTail h = full_begins
+  quick_ends l h = cc
+
+  abbrev place_of : Next ℕ → BoundedLocal
+  place_of (Next.Step (Local.Bounded l) t o) = l
+  place_of _ = ring.PopHead
+
   pub ring_wait_free : {T : Type 0} (c : Call T) → is_wait_free c ≡ true → EndsWaitFree ℕ (Kind.Bounded cap) (call_kind c)
-  ring_wait_free Call.Close h = closing_ends
-  ring_wait_free c h = first_of (cc, assumption (closed_ends, empty_begins, full_begins))
+  ring_wait_free (Call.Push v) h = cc
+  ring_wait_free (Call.ForcePush v) h = cc
+  ring_wait_free Call.Pop h = cc
+  ring_wait_free Call.Len h = cc
+  ring_wait_free Call.Capacity h = cc
+  ring_wait_free c h = quick_ends (place_of (bounded_begin cap (call_kind c))) refl

@@ -8,6 +8,7 @@ use Rattle.queue_steps.specs.declared.steps.single.SingleLocal.TheVariants.{Clos
 use Rattle.queue_steps.specs.State.{State}
 use Rattle.queue_steps.specs.Kinds.{call_kind}
 use Rattle.queue_steps.specs.Next.{CanNext, next_of}
+use Rattle.queue_steps.specs.SingleNext.{single_begin}
 use Rattle.queue_steps.specs.WaitFree.{is_wait_free, EndsBefore, EndsWaitFree}
 use Rattle.law_common.specs.Effects.{Leads, with_effect, MayFront}
 use Rattle.law_common.specs.Stand.{Stand, stand}
@@ -34,9 +35,19 @@ ends_next l ends a can = absurd can
 looking_ends : (l : Look) (a : Answer ℕ) → CanNext Kind.Single (Local.Single (Looking l)) a → EndsBefore {B = ℕ} 2 Kind.Single (next_of Kind.Single (Local.Single (Looking l)) a)
 looking_ends l a can = ends_next (Looking l) (λ n. tt) a can
 
+-- the look that a call begins with
+abbrev look_in : Next ℕ → Look
+look_in (Next.Step (Local.Single (Looking l)) t o) = l
+look_in _ = Look.Len
+
 slot_wait_free : {T : Type 0} (c : Call T) → is_wait_free c ≡ true → EndsWaitFree ℕ Kind.Single (call_kind c)
+slot_wait_free (Call.Push v) h = cc
+slot_wait_free (Call.ForcePush v) h = cc
+slot_wait_free Call.Pop h = cc
+slot_wait_free Call.Len h = cc
+slot_wait_free Call.Capacity h = cc
 slot_wait_free Call.Close h = λ a can. ends_next Closing (λ n. tt) a can
-slot_wait_free c h = first_of (cc, search looking_ends)
+slot_wait_free c h = looking_ends (look_in (single_begin (call_kind c)))
 
 module _ {T : Type 0} where
   -- a touch leaves the word
