@@ -1,5 +1,5 @@
 -- Where a call on a chain begins.
-use Rattle.std.proofs.Common.{ℕ, ◌≡◌, Bool, true, false, Option, None, Some, List, [], refl}
+use Rattle.std.proofs.Common.{ℕ, ◌≡◌, true, false, None, Some, List, [], refl}
 use Rattle.queue_steps.specs.State.{State, start}
 use Rattle.queue_steps.specs.Kinds.{call_kind, call_value, filled}
 use Rattle.queue_steps.specs.Looks.{has_steps, look_reply}

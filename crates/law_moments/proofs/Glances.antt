@@ -9,13 +9,8 @@ cases_before k n = grind arith
 
 module _ {T : Type 0} where
   glance_or : (c : Call T) → IsGlance c ⊎ (IsGlance c → ⊥)
-  glance_or (Call.Push v) = inr (λ h. h)
-  glance_or (Call.ForcePush v) = inr (λ h. h)
   glance_or Call.Pop = inr (λ h. h)
-  glance_or Call.Close = inr (λ h. h)
-  glance_or Call.IsClosed = inr (λ h. h)
-  glance_or Call.Capacity = inr (λ h. h)
-  glance_or c = inl tt
+  glance_or c = search (inl, inr)
 
   coming_or : (o : Option T) → (o ≡ None) ⊎ ((v : T) × (o ≡ Some v))
   coming_or None = inl refl

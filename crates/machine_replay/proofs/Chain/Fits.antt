@@ -1,5 +1,5 @@
 -- Where a call on a chain stands in the machine, by the laws of the chain, and where it stands after each step: nothing here knows a cell.
-use Rattle.std.proofs.Common.{ℕ, ◌≡◌, ◌≢◌, true, Option, None, List, [], ◌∷◌, refl, sym, subst, arith}
+use Rattle.std.proofs.Common.{ℕ, ◌≡◌, ◌≢◌, true, Option, None, List, [], ◌∷◌, sym, subst, arith}
 use Rattle.queue_steps.specs.State.{State}
 use Rattle.queue_steps.specs.Kinds.{call_kind, call_value}
 use Rattle.queue_steps.specs.UnboundedNext.{unbounded_begin, unbounded_next}

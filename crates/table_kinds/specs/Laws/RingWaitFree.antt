@@ -1,5 +1,5 @@
 -- The wait-free calls on a ring take one step or two.
-use Rattle.std.specs.Prelude.{◌≡◌, ℕ, Bool, true, false, refl}
+use Rattle.std.specs.Prelude.{◌≡◌, ℕ, Bool, true, false}
 use Rattle.law_common.specs.Vocabulary.{Call, Kind, Answer, Local, BoundedLocal, Next}
 use Rattle.queue_steps.specs.declared.steps.bounded.BoundedLocal.TheVariants as ring
 use Rattle.queue_steps.specs.BoundedNext.{bounded_begin}
@@ -55,9 +55,5 @@ module _ (cap : ℕ) where
   place_of _ = ring.PopHead
 
   pub ring_wait_free : {T : Type 0} (c : Call T) → is_wait_free c ≡ true → EndsWaitFree ℕ (Kind.Bounded cap) (call_kind c)
-  ring_wait_free (Call.Push v) h = cc
-  ring_wait_free (Call.ForcePush v) h = cc
-  ring_wait_free Call.Pop h = cc
-  ring_wait_free Call.Len h = cc
-  ring_wait_free Call.Capacity h = cc
-  ring_wait_free c h = quick_ends (place_of (bounded_begin cap (call_kind c))) refl
+  ring_wait_free Call.Capacity h = tt
+  ring_wait_free c h = quick_ends (place_of (bounded_begin cap (call_kind c))) h

@@ -4,7 +4,7 @@ use mathlib.Core.Option.{some}
 use mathlib.Core.Option as maybe
 use Rattle.atomic_table.specs.Table.{Act, keeps, takes, gives, Valid, carried_after, homes_after}
 use Rattle.law_common.specs.Vocabulary.{Call, Reply, Effect, Kind, Op, Touch, Answer, Look, Local, Next, SingleLocal}
-use Rattle.queue_steps.specs.declared.steps.single.SingleLocal.TheVariants.{Closing, Looking}
+use Rattle.queue_steps.specs.declared.steps.single.SingleLocal.TheVariants.{Pushing, Closing, Looking}
 use Rattle.queue_steps.specs.State.{State}
 use Rattle.queue_steps.specs.Kinds.{call_kind}
 use Rattle.queue_steps.specs.Next.{CanNext, next_of}
@@ -32,22 +32,26 @@ ends_next : (l : SingleLocal) → ((n : ℕ) → EndsBefore {B = ℕ} 2 Kind.Sin
 ends_next l ends (Answer.Found n) can = ends n
 ends_next l ends a can = absurd can
 
-looking_ends : (l : Look) (a : Answer ℕ) → CanNext Kind.Single (Local.Single (Looking l)) a → EndsBefore {B = ℕ} 2 Kind.Single (next_of Kind.Single (Local.Single (Looking l)) a)
-looking_ends l a can = ends_next (Looking l) (λ n. tt) a can
+-- where those calls begin; a length takes one step too, and is no wait-free call
+abbrev is_quick : SingleLocal → Bool
+is_quick Closing = true
+is_quick (Looking Look.Len) = false
+is_quick (Looking look) = true
+is_quick _ = false
 
--- the look that a call begins with
-abbrev look_in : Next ℕ → Look
-look_in (Next.Step (Local.Single (Looking l)) t o) = l
-look_in _ = Look.Len
+quick_ends : (l : SingleLocal) → is_quick l ≡ true → (a : Answer ℕ) → CanNext Kind.Single (Local.Single l) a → EndsBefore {B = ℕ} 2 Kind.Single (next_of Kind.Single (Local.Single l) a)
+quick_ends Closing h = λ a can. ends_next Closing (λ n. tt) a can
+quick_ends (Looking look) h = λ a can. ends_next (Looking look) (λ n. tt) a can
+quick_ends l h = cc
+
+-- the place that a call begins at
+abbrev place_of : Next ℕ → SingleLocal
+place_of (Next.Step (Local.Single l) t o) = l
+place_of _ = Pushing
 
 slot_wait_free : {T : Type 0} (c : Call T) → is_wait_free c ≡ true → EndsWaitFree ℕ Kind.Single (call_kind c)
-slot_wait_free (Call.Push v) h = cc
-slot_wait_free (Call.ForcePush v) h = cc
-slot_wait_free Call.Pop h = cc
-slot_wait_free Call.Len h = cc
-slot_wait_free Call.Capacity h = cc
-slot_wait_free Call.Close h = λ a can. ends_next Closing (λ n. tt) a can
-slot_wait_free c h = looking_ends (look_in (single_begin (call_kind c)))
+slot_wait_free Call.Capacity h = tt
+slot_wait_free c h = quick_ends (place_of (single_begin (call_kind c))) h
 
 module _ {T : Type 0} where
   -- a touch leaves the word
