@@ -40,7 +40,6 @@ pub fn open<S, A: Allocator>(
 }
 
 /// Closes the queue. It answers whether this call did it.
-#[inline(always)]
 pub fn close<S, A: Allocator>(
     web: &Web<S, View, QueueEnds<S>, ClosingRule, A>,
     seat: &mut Seat<S, View, A>,
@@ -56,7 +55,6 @@ pub fn close<S, A: Allocator>(
 }
 
 /// Whether the queue is closed.
-#[inline(always)]
 pub fn is_closed<S, A: Allocator>(
     web: &Web<S, View, QueueEnds<S>, ClosingRule, A>,
     seat: &mut Seat<S, View, A>,
@@ -72,7 +70,6 @@ pub fn is_closed<S, A: Allocator>(
 }
 
 /// Cuts a party in two.
-#[inline(always)]
 pub fn part<S, A: Allocator>(
     web: &Web<S, View, QueueEnds<S>, ClosingRule, A>,
     seat: &mut Seat<S, View, A>,
@@ -86,7 +83,6 @@ pub fn part<S, A: Allocator>(
 }
 
 /// Takes a party back.
-#[inline(always)]
 pub fn take_back<S, A: Allocator>(
     web: &Web<S, View, QueueEnds<S>, ClosingRule, A>,
     seat: &mut Seat<S, View, A>,
