@@ -1,93 +1,14 @@
-//! The steps of a ring. `Tail` is twice the position of the next item to come, and one more once the queue is closed; `Head` is the position of the front.
-//! A slot's stamp is the position for which it is free, and one more once it is filled for it.
-ghost use Rattle.std.specs.Prelude.{◌≡◌, true, false, ◌%◌, ◌<◌};
-ghost use Rattle.queue_steps.specs.BoundedNext.{at, loads, bounded_begin, bounded_next, closed_reply, pushed_reply, FitsRing};
+//! Which step follows on a ring.
+ghost use Rattle.std.specs.Prelude.{◌≡◌, true, false};
+ghost use Rattle.queue_steps.specs.BoundedNext.{bounded_next, FitsRing};
+ghost use Rattle.queue_steps.specs.CallAt.{is_ring_push, is_ring_pop, is_ring_rest};
 ghost use Rattle.queue_steps.specs.CommonNext.{is_ring_common};
 ghost use Rattle.queue_steps.specs.Words.{IsRing};
 
-use queue_steps::errors::{ForcePushError, PushError};
-use queue_steps::model::{Call, CallKind, Reply, ReplyKind};
-use queue_steps::steps::{
-    Answer, BoundedLocal, Local, MARK, Next, Op, PushKind, TAIL_STEP, Touch, Word,
-};
-use queue_steps::words::position_of;
-
-mod looking;
-mod popping;
-mod pushing;
-
-/// The slot of a position: its remainder by the capacity, which is a mask where the capacity is a power of two.
-#[inline(always)]
-fn slot_of(cap: u64, position: u64) -> usize
-    requires { 0 < cap }
-    ensures { result ≡ position % cap }
-{
-    if cap.is_power_of_two() {
-        (position & (cap - 1)) as usize
-    } else {
-        (position % cap) as usize
-    }
-}
-
-/// A step, after which the call waits there.
-#[inline(always)]
-fn step<B: Copy>(local: BoundedLocal, touch: Touch, op: Op<B>) -> Next<B>
-    ensures { result ≡ at local touch op }
-{
-    Next::Step(Local::Bounded(local), touch, op)
-}
-
-/// A step that only loads a word.
-#[inline(always)]
-fn load<B: Copy>(local: BoundedLocal, word: Word<B>) -> Next<B>
-    ensures { result ≡ loads local word }
-{
-    step(local, Touch::Nothing, Op::Load(word))
-}
-
-/// The first step of a call.
-#[inline(always)]
-pub(super) fn begin<B: Copy>(cap: usize, call: CallKind) -> Next<B>
-    ensures { result ≡ bounded_begin cap call }
-{
-    match call {
-        Call::Push(()) => load(BoundedLocal::PushTail(PushKind::Push), Word::Tail),
-        Call::ForcePush(()) => load(BoundedLocal::PushTail(PushKind::Force), Word::Tail),
-        Call::Pop => load(BoundedLocal::PopHead, Word::Head),
-        Call::Close => step(
-            BoundedLocal::Closing,
-            Touch::Nothing,
-            Op::Or(Word::Tail, MARK),
-        ),
-        Call::IsClosed => load(BoundedLocal::ClosedTail, Word::Tail),
-        Call::IsEmpty => load(BoundedLocal::EmptyHead, Word::Head),
-        Call::IsFull => load(BoundedLocal::FullTail, Word::Tail),
-        Call::Len => load(BoundedLocal::LenTail, Word::Tail),
-        Call::Capacity => Next::Reply(Reply::Capacity(Some(cap)), None),
-    }
-}
-
-/// What a push into a closed queue answers.
-#[inline(always)]
-pub(super) fn closed(push: PushKind) -> ReplyKind
-    ensures { result ≡ closed_reply push }
-{
-    match push {
-        PushKind::Push => Reply::Push(Err(PushError::Closed(()))),
-        PushKind::Force => Reply::ForcePush(Err(ForcePushError::Closed(()))),
-    }
-}
-
-/// What a push answers that found a free slot.
-#[inline(always)]
-pub(super) fn pushed(push: PushKind) -> ReplyKind
-    ensures { result ≡ pushed_reply push }
-{
-    match push {
-        PushKind::Push => Reply::Push(Ok(())),
-        PushKind::Force => Reply::ForcePush(Ok(None)),
-    }
-}
+use each_step::bounded::{closed, load, looking, popping, pushed, pushing};
+use queue_steps::model::Reply;
+use queue_steps::steps::{Answer, BoundedLocal, Next, Word};
+use queue_steps::words::{is_marked, position_of};
 
 /// Whether `next_common` tells the step that follows.
 #[inline(always)]
@@ -132,6 +53,94 @@ pub(super) fn next_common<B: Copy>(cap: u64, local: BoundedLocal, answer: Answer
     }
 }
 
+/// What follows the answer to the last step of a push, where it is no common one.
+#[inline(always)]
+fn next_push<B: Copy>(cap: u64, local: BoundedLocal, answer: Answer<B>) -> Next<B>
+    requires ring { IsRing cap }
+    requires fits { FitsRing cap local answer }
+    requires push { is_ring_push local ≡ true }
+    requires other { is_ring_common local answer ≡ false }
+    ensures { result ≡ bounded_next cap local answer }
+{
+    match (local, answer) {
+        (BoundedLocal::PushTail(push), Answer::Found(tail)) => pushing::turn_away(push, tail),
+        (BoundedLocal::PushStamp(push, tail), Answer::Found(stamp)) => {
+            pushing::after_full_slot(cap, push, tail, stamp)
+        }
+        (BoundedLocal::Claiming(push, _), Answer::Found(tail)) => pushing::after_tail(
+            cap, push, tail,
+        ),
+        (BoundedLocal::PushHead(tail), Answer::Found(head)) => pushing::after_push_head(
+            cap, tail, head,
+        ),
+        (BoundedLocal::Displacing(tail), Answer::Found(head)) => pushing::after_displacing(
+            cap, tail, head,
+        ),
+        (BoundedLocal::Arriving(tail), Answer::Found(_)) => pushing::swap(cap, tail),
+        (BoundedLocal::ClosingAtLimit(push), Answer::Found(_)) => Next::Reply(closed(push), None),
+        _ => unreachable!(),
+    }
+}
+
+/// What follows the answer to the last step of a pop, where it is no common one.
+#[inline(always)]
+fn next_pop<B: Copy>(cap: u64, local: BoundedLocal, answer: Answer<B>) -> Next<B>
+    requires ring { IsRing cap }
+    requires fits { FitsRing cap local answer }
+    requires pop { is_ring_pop local ≡ true }
+    requires other { is_ring_common local answer ≡ false }
+    ensures { result ≡ bounded_next cap local answer }
+{
+    match (local, answer) {
+        (BoundedLocal::PopStamp(head), Answer::Found(stamp)) => popping::after_empty_slot(
+            head, stamp,
+        ),
+        (BoundedLocal::Taking(_), Answer::Found(head)) => popping::after_moved_head(cap, head),
+        (BoundedLocal::PopTail(head), Answer::Found(tail)) => popping::after_pop_tail(head, tail),
+        _ => unreachable!(),
+    }
+}
+
+/// What follows the answer to the last step.
+#[inline(always)]
+fn next_look<B: Copy>(cap: u64, local: BoundedLocal, answer: Answer<B>) -> Next<B>
+    requires ring { IsRing cap }
+    requires fits { FitsRing cap local answer }
+    requires rest { is_ring_rest local ≡ true }
+    ensures { result ≡ bounded_next cap local answer }
+{
+    match (local, answer) {
+        (BoundedLocal::LenTail, Answer::Found(tail)) => {
+            load(BoundedLocal::LenHead(tail), Word::Head)
+        }
+        (BoundedLocal::LenHead(tail), Answer::Found(head)) => {
+            load(BoundedLocal::LenAgain(tail, head), Word::Tail)
+        }
+        (BoundedLocal::LenAgain(tail, head), Answer::Found(again)) => looking::after_len(
+            tail, head, again,
+        ),
+        (BoundedLocal::EmptyHead, Answer::Found(head)) => {
+            load(BoundedLocal::EmptyTail(head), Word::Tail)
+        }
+        (BoundedLocal::EmptyTail(head), Answer::Found(tail)) => {
+            Next::Reply(Reply::IsEmpty(position_of(tail) == head), None)
+        }
+        (BoundedLocal::FullTail, Answer::Found(tail)) => {
+            load(BoundedLocal::FullHead(tail), Word::Head)
+        }
+        (BoundedLocal::FullHead(tail), Answer::Found(head)) => {
+            Next::Reply(Reply::IsFull(head + cap == position_of(tail)), None)
+        }
+        (BoundedLocal::Closing, Answer::Found(tail)) => {
+            Next::Reply(Reply::Close(!is_marked(tail)), None)
+        }
+        (BoundedLocal::ClosedTail, Answer::Found(tail)) => {
+            Next::Reply(Reply::IsClosed(is_marked(tail)), None)
+        }
+        _ => unreachable!(),
+    }
+}
+
 /// What follows the answer to the last step, where it is no common one.
 #[inline(always)]
 pub(super) fn next_other<B: Copy>(cap: u64, local: BoundedLocal, answer: Answer<B>) -> Next<B>
@@ -149,12 +158,12 @@ pub(super) fn next_other<B: Copy>(cap: u64, local: BoundedLocal, answer: Answer<
         | BoundedLocal::Displacing(_)
         | BoundedLocal::Arriving(_)
         | BoundedLocal::Swapping
-        | BoundedLocal::ClosingAtLimit(_) => pushing::next_other(cap, local, answer),
+        | BoundedLocal::ClosingAtLimit(_) => next_push(cap, local, answer),
         BoundedLocal::PopHead
         | BoundedLocal::PopStamp(_)
         | BoundedLocal::Taking(_)
         | BoundedLocal::Emptying
-        | BoundedLocal::PopTail(_) => popping::next_other(cap, local, answer),
+        | BoundedLocal::PopTail(_) => next_pop(cap, local, answer),
         BoundedLocal::LenTail
         | BoundedLocal::LenHead(_)
         | BoundedLocal::LenAgain(_, _)
@@ -163,6 +172,6 @@ pub(super) fn next_other<B: Copy>(cap: u64, local: BoundedLocal, answer: Answer<
         | BoundedLocal::FullTail
         | BoundedLocal::FullHead(_)
         | BoundedLocal::Closing
-        | BoundedLocal::ClosedTail => looking::next(cap, local, answer),
+        | BoundedLocal::ClosedTail => next_look(cap, local, answer),
     }
 }

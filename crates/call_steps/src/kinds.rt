@@ -5,7 +5,8 @@ ghost use Rattle.queue_steps.specs.Next.{CanNext, next_of};
 ghost use Rattle.queue_steps.specs.declared.steps.types.Kind.{Kind as SpecKind};
 ghost use Rattle.queue_steps.specs.declared.steps.types.Kind.TheVariants.{Single, Bounded, Unbounded};
 
-use crate::{bounded, single, unbounded};
+use crate::{bounded, unbounded};
+use each_step::{bounded as ring, single, unbounded as chain};
 use queue_steps::steps::{Answer, Kind, Local, Next};
 
 /// The steps of the calls on queues of one kind. The answer is `Start` at first, and then what the operation gave that was asked for.
@@ -142,7 +143,7 @@ impl KindSteps for RingSteps {
     #[inline(always)]
     fn next_common<B: Copy>(kind: Kind, local: Local<B>, answer: Answer<B>) -> Next<B> {
         match (kind, local, answer) {
-            (Kind::Bounded(cap), Local::Begin(call), Answer::Start) => bounded::begin(cap, call),
+            (Kind::Bounded(cap), Local::Begin(call), Answer::Start) => ring::begin(cap, call),
             (Kind::Bounded(cap), Local::Bounded(local), answer) => bounded::next_common(
                 cap as u64, local, answer,
             ),
@@ -188,7 +189,7 @@ impl KindSteps for ChainSteps {
     fn next_common<B: Copy>(kind: Kind, local: Local<B>, answer: Answer<B>) -> Next<B> {
         let _ = kind;
         match (local, answer) {
-            (Local::Begin(call), Answer::Start) => unbounded::begin(call),
+            (Local::Begin(call), Answer::Start) => chain::begin(call),
             (Local::Unbounded(local), answer) => unbounded::next_common(local, answer),
             _ => unreachable!(),
         }

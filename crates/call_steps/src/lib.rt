@@ -12,7 +12,6 @@ use queue_steps::steps::{Answer, Kind, Local, Next};
 mod bounded;
 mod kinds;
 mod shown;
-mod single;
 pub mod stages;
 mod unbounded;
 

@@ -2,8 +2,8 @@
 ghost use Rattle.std.specs.Prelude.{◌≡◌};
 ghost use Rattle.queue_steps.specs.ShownWords.{shown_len, shows_closed};
 
-use crate::single;
-use crate::unbounded::items;
+use each_step::single;
+use each_step::unbounded::items;
 use queue_steps::steps::Kind;
 use queue_steps::words::{is_marked, position_of};
 

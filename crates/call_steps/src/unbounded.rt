@@ -1,109 +1,15 @@
-//! The steps of a chain of blocks. `Tail` is twice the position of the next item to come, and one more once the queue is closed; `Head` is twice the position
-//! of the front, and one more if its block is known not to be the last. Position `p` is in block `p / BLOCK_POSITIONS` at offset `p % BLOCK_POSITIONS`; the last
-//! offset of a block has no slot, and a tail or a head stands there only while a call moves it to the next block.
-ghost use Rattle.std.specs.Prelude.{◌≡◌, ⊤, ◌+◌, ◌*◌, ◌^◌, ◌<◌, true, false, if◌then◌else◌};
-ghost use Rattle.queue_steps.specs.Words.{IsWord};
-ghost use Rattle.queue_steps.specs.ChainWords.{offset_of, items_before, over_end};
+//! Which step follows on a chain of blocks.
+ghost use Rattle.std.specs.Prelude.{◌≡◌, true, false};
+ghost use Rattle.queue_steps.specs.CallAt.{is_chain_push, is_chain_pop, is_chain_rest};
 ghost use Rattle.queue_steps.specs.CommonNext.{is_chain_common, is_chain_walk, is_chain_passing};
-ghost use Rattle.queue_steps.specs.UnboundedNext.{at, loads, unbounded_begin, unbounded_next, is_last_slot, FitsChain};
+ghost use Rattle.queue_steps.specs.UnboundedNext.{unbounded_next, FitsChain};
 
-use crate::bounded::{closed, pushed};
-use queue_steps::model::{Call, CallKind, Reply};
-use queue_steps::sizes::{BLOCK_POSITIONS, BLOCK_SLOTS};
-use queue_steps::steps::{
-    Answer, DESTROY, Link, Local, MARK, Next, Op, PushKind, READ, TAIL_STEP, Touch, UnboundedLocal,
-    WRITE, Word,
-};
-use queue_steps::words::position_of;
-
-mod looking;
-mod popping;
-mod pushing;
-
-/// The offset of a word's position in its block.
-#[inline(always)]
-fn offset(word: u64) -> u64
-    ensures { result ≡ offset_of word }
-{
-    position_of(word) % BLOCK_POSITIONS
-}
-
-/// Whether a word's position is that of the last slot of its block.
-#[inline(always)]
-fn is_last(word: u64) -> bool
-    ensures { result ≡ is_last_slot word }
-{
-    offset(word) + 1 == BLOCK_SLOTS
-}
-
-/// How many items stand before a position.
-#[inline(always)]
-pub(super) fn items(position: u64) -> u64
-    requires { IsWord position }
-    ensures { result ≡ items_before position }
-{
-    position / BLOCK_POSITIONS * BLOCK_SLOTS + position % BLOCK_POSITIONS
-}
-
-/// The position, moved over its block's end.
-#[inline(always)]
-fn settle(position: u64) -> u64
-    requires { IsWord position }
-    ensures { result ≡ over_end position }
-{
-    if position % BLOCK_POSITIONS == BLOCK_SLOTS {
-        position + 1
-    } else {
-        position
-    }
-}
-
-/// The head at a position, marked if its block is known not to be the last.
-#[inline(always)]
-fn head_at(position: u64, more: bool) -> u64
-    requires { position * 2 + 1 < 2 ^ 64 }
-    ensures { result ≡ position * 2 + (if more then 1 else 0) }
-{
-    position * TAIL_STEP + if more { MARK } else { 0 }
-}
-
-/// A step, after which the call waits there.
-#[inline(always)]
-fn step<B: Copy>(local: UnboundedLocal<B>, touch: Touch, op: Op<B>) -> Next<B>
-    ensures { result ≡ at local touch op }
-{
-    Next::Step(Local::Unbounded(local), touch, op)
-}
-
-/// A step that only loads a word.
-#[inline(always)]
-fn load<B: Copy>(local: UnboundedLocal<B>, word: Word<B>) -> Next<B>
-    ensures { result ≡ loads local word }
-{
-    step(local, Touch::Nothing, Op::Load(word))
-}
-
-/// The first step of a call.
-#[inline]
-pub(super) fn begin<B: Copy>(call: CallKind) -> Next<B>
-    ensures { result ≡ unbounded_begin call }
-{
-    match call {
-        Call::Push(()) => load(UnboundedLocal::PushTail(PushKind::Push, None), Word::Tail),
-        Call::ForcePush(()) => load(UnboundedLocal::PushTail(PushKind::Force, None), Word::Tail),
-        Call::Pop => load(UnboundedLocal::PopHead, Word::Head),
-        Call::Close => step(
-            UnboundedLocal::Closing,
-            Touch::Nothing,
-            Op::Or(Word::Tail, MARK),
-        ),
-        Call::IsClosed => load(UnboundedLocal::ClosedTail, Word::Tail),
-        Call::IsEmpty => load(UnboundedLocal::EmptyHead, Word::Head),
-        Call::IsFull => Next::Reply(Reply::IsFull(false), None),
-        Call::Len => load(UnboundedLocal::LenTail, Word::Tail),
-        Call::Capacity => Next::Reply(Reply::Capacity(None), None),
-    }
-}
+use each_step::bounded::{closed, pushed};
+use each_step::unbounded::{is_last, load, looking, offset, popping, pushing, settle};
+use queue_steps::model::Reply;
+use queue_steps::sizes::BLOCK_SLOTS;
+use queue_steps::steps::{Answer, DESTROY, Next, READ, Touch, UnboundedLocal, WRITE, Word};
+use queue_steps::words::{is_marked, position_of};
 
 /// Whether `next_common` tells the step that follows.
 #[inline(always)]
@@ -224,20 +130,16 @@ pub(super) fn next_passing<B: Copy>(local: UnboundedLocal<B>, answer: Answer<B>)
             Some(block),
         ),
         (UnboundedLocal::Asking(push, tail, Some(block)), Answer::Granted(fresh)) => {
-            pushing::claim(push, tail, block, Some(fresh))
+            pushing::after_spare(push, tail, block, fresh)
         }
         (UnboundedLocal::Claiming(push, tail, block, spare), Answer::Found(found)) => {
             pushing::after_last_claim(push, tail, block, spare, found)
         }
-        (UnboundedLocal::Laying(push, tail, block, fresh), Answer::Done) => step(
-            UnboundedLocal::Opening(push, tail, block, fresh),
-            Touch::Nothing,
-            Op::Add(Word::Tail, TAIL_STEP),
+        (UnboundedLocal::Laying(push, tail, block, fresh), Answer::Done) => pushing::open(
+            push, tail, block, fresh,
         ),
-        (UnboundedLocal::Opening(push, tail, block, fresh), Answer::Found(_)) => step(
-            UnboundedLocal::Chaining(push, tail, block, fresh),
-            Touch::Nothing,
-            Op::StoreLink(Link::Next(block), fresh),
+        (UnboundedLocal::Opening(push, tail, block, fresh), Answer::Found(_)) => pushing::link(
+            push, tail, block, fresh,
         ),
         (UnboundedLocal::Chaining(push, tail, block, _), Answer::Done) => pushing::write(
             push, tail, block, None,
@@ -246,15 +148,14 @@ pub(super) fn next_passing<B: Copy>(local: UnboundedLocal<B>, answer: Answer<B>)
         (UnboundedLocal::Following(head, block), Answer::Linked(Some(after))) => {
             popping::peek(head, block, after)
         }
-        (UnboundedLocal::Peeking(head, block, after), Answer::Linked(further)) => step(
-            UnboundedLocal::Passing(head, block, further.is_some()),
-            Touch::Nothing,
-            Op::StoreLink(Link::HeadBlock, after),
+        (UnboundedLocal::Peeking(head, block, after), Answer::Linked(further)) => popping::pass(
+            head,
+            block,
+            after,
+            further.is_some(),
         ),
-        (UnboundedLocal::Passing(head, block, more), Answer::Done) => step(
-            UnboundedLocal::Entering(head, block),
-            Touch::Nothing,
-            Op::Store(Word::Head, head_at(position_of(head) + 2, more)),
+        (UnboundedLocal::Passing(head, block, more), Answer::Done) => popping::enter(
+            head, block, more,
         ),
         (UnboundedLocal::Entering(head, block), Answer::Done) => popping::await_item(head, block),
         (UnboundedLocal::Awaiting(head, block), Answer::Found(_)) => popping::walk(
@@ -279,6 +180,111 @@ pub(super) fn next_walk<B: Copy>(local: UnboundedLocal<B>, answer: Answer<B>) ->
     }
 }
 
+/// What follows the answer to the last step of a push, where it is no common one and passes no block.
+#[inline(always)]
+fn next_push<B: Copy>(local: UnboundedLocal<B>, answer: Answer<B>) -> Next<B>
+    requires fits { FitsChain local answer }
+    requires push { is_chain_push local ≡ true }
+    requires other { is_chain_common local answer ≡ false }
+    requires stays { is_chain_passing local answer ≡ false }
+    ensures { result ≡ unbounded_next local answer }
+{
+    match (local, answer) {
+        (UnboundedLocal::PushTail(push, spare), Answer::Found(tail)) => {
+            pushing::turn_away(push, tail, spare)
+        }
+        (UnboundedLocal::PushBlock(push, tail, _), Answer::Linked(None)) => pushing::ask(
+            push, tail, None,
+        ),
+        (UnboundedLocal::Asking(push, _, _), Answer::Refused) => Next::Reply(
+            pushing::no_memory(push),
+            None,
+        ),
+        (UnboundedLocal::Asking(push, tail, None), Answer::Granted(fresh)) => {
+            pushing::install(push, tail, fresh)
+        }
+        (UnboundedLocal::Installing(push, tail, fresh), Answer::Linked(before)) => {
+            pushing::after_install(push, tail, fresh, before)
+        }
+        (UnboundedLocal::Showing(push, tail, block), Answer::Done) => {
+            pushing::claim(push, tail, block, None)
+        }
+        (UnboundedLocal::Claiming(push, _, _, spare), Answer::Found(found)) => {
+            pushing::after_tail(push, found, spare)
+        }
+        (UnboundedLocal::ClosingAtLimit(push, spare), Answer::Found(_)) => {
+            Next::Reply(closed(push), spare)
+        }
+        _ => unreachable!(),
+    }
+}
+
+/// What follows the answer to the last step of a pop, where it is no common one and passes no block.
+#[inline(always)]
+fn next_pop<B: Copy>(local: UnboundedLocal<B>, answer: Answer<B>) -> Next<B>
+    requires fits { FitsChain local answer }
+    requires pop { is_chain_pop local ≡ true }
+    requires other { is_chain_common local answer ≡ false }
+    requires stays { is_chain_passing local answer ≡ false }
+    ensures { result ≡ unbounded_next local answer }
+{
+    match (local, answer) {
+        (UnboundedLocal::PopHead, Answer::Found(head)) => popping::after_head(head),
+        (UnboundedLocal::PopTail(head, block), Answer::Found(tail)) => {
+            popping::after_pop_tail(head, block, tail)
+        }
+        (UnboundedLocal::Taking(_, _), Answer::Found(found)) => popping::after_head(found),
+        (UnboundedLocal::Following(head, block), Answer::Linked(None)) => popping::follow(
+            head, block,
+        ),
+        (UnboundedLocal::Awaiting(head, block), Answer::Found(_)) => popping::await_item(
+            head, block,
+        ),
+        (UnboundedLocal::Reading(block, slot), Answer::Found(_)) => popping::walk_on(block, slot),
+        (UnboundedLocal::Walking(block, slot), Answer::Found(state)) => {
+            popping::after_look(block, slot, state)
+        }
+        (UnboundedLocal::Destroying(block, slot), Answer::Found(state)) => {
+            popping::after_mark(block, slot, state)
+        }
+        _ => unreachable!(),
+    }
+}
+
+/// What follows the answer to the last step.
+#[inline(always)]
+fn next_look<B: Copy>(local: UnboundedLocal<B>, answer: Answer<B>) -> Next<B>
+    requires fits { FitsChain local answer }
+    requires rest { is_chain_rest local ≡ true }
+    ensures { result ≡ unbounded_next local answer }
+{
+    match (local, answer) {
+        (UnboundedLocal::LenTail, Answer::Found(tail)) => {
+            load(UnboundedLocal::LenHead(tail), Word::Head)
+        }
+        (UnboundedLocal::LenHead(tail), Answer::Found(head)) => {
+            load(UnboundedLocal::LenAgain(tail, head), Word::Tail)
+        }
+        (UnboundedLocal::LenAgain(tail, head), Answer::Found(again)) => {
+            looking::after_len(tail, head, again)
+        }
+        (UnboundedLocal::EmptyHead, Answer::Found(head)) => {
+            load(UnboundedLocal::EmptyTail(head), Word::Tail)
+        }
+        (UnboundedLocal::EmptyTail(head), Answer::Found(tail)) => {
+            let is_empty = settle(position_of(tail)) == settle(position_of(head));
+            Next::Reply(Reply::IsEmpty(is_empty), None)
+        }
+        (UnboundedLocal::Closing, Answer::Found(tail)) => {
+            Next::Reply(Reply::Close(!is_marked(tail)), None)
+        }
+        (UnboundedLocal::ClosedTail, Answer::Found(tail)) => {
+            Next::Reply(Reply::IsClosed(is_marked(tail)), None)
+        }
+        _ => unreachable!(),
+    }
+}
+
 /// What follows the answer to the last step, where it is no common one and passes no block.
 #[inline(always)]
 pub(super) fn next_other<B: Copy>(local: UnboundedLocal<B>, answer: Answer<B>) -> Next<B>
@@ -298,7 +304,7 @@ pub(super) fn next_other<B: Copy>(local: UnboundedLocal<B>, answer: Answer<B>) -
         | UnboundedLocal::Opening(_, _, _, _)
         | UnboundedLocal::Chaining(_, _, _, _)
         | UnboundedLocal::Writing(_, _)
-        | UnboundedLocal::ClosingAtLimit(_, _) => pushing::next_other(local, answer),
+        | UnboundedLocal::ClosingAtLimit(_, _) => next_push(local, answer),
         UnboundedLocal::PopHead
         | UnboundedLocal::PopBlock(_)
         | UnboundedLocal::PopTail(_, _)
@@ -310,13 +316,13 @@ pub(super) fn next_other<B: Copy>(local: UnboundedLocal<B>, answer: Answer<B>) -
         | UnboundedLocal::Awaiting(_, _)
         | UnboundedLocal::Reading(_, _)
         | UnboundedLocal::Walking(_, _)
-        | UnboundedLocal::Destroying(_, _) => popping::next_other(local, answer),
+        | UnboundedLocal::Destroying(_, _) => next_pop(local, answer),
         UnboundedLocal::LenTail
         | UnboundedLocal::LenHead(_)
         | UnboundedLocal::LenAgain(_, _)
         | UnboundedLocal::EmptyHead
         | UnboundedLocal::EmptyTail(_)
         | UnboundedLocal::Closing
-        | UnboundedLocal::ClosedTail => looking::next(local, answer),
+        | UnboundedLocal::ClosedTail => next_look(local, answer),
     }
 }
