@@ -143,6 +143,9 @@ impl<M: Site, G: Gate, const STAGE: u64, R: Row<M, G>> Row<M, G> for AtStage<STA
 /// As many common steps as each push takes that finds room, and each pop that finds an item, where no block begins or ends and no other call is met. `W` is the caller's.
 pub type Usual<W> = Fast<Fast<Fast<Fast<Fast<Fast<Fast<Rest<W>>>>>>>>;
 
+/// As many as each of them takes on a ring.
+pub type OfRing<W> = Fast<Fast<Fast<Fast<Fast<Rest<W>>>>>>;
+
 /// As many common steps as a call on one slot takes that meets no other call.
 pub type Short<W> = Fast<Fast<Fast<Rest<W>>>>;
 

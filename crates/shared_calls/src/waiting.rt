@@ -5,7 +5,7 @@ ghost use Rattle.call_driver.specs.OnWay.{CanEnd, EndsRightly};
 ghost use Rattle.shared_calls.specs.Leaving.{IsLeft};
 
 use call_driver::driver::{begin, leave};
-use call_driver::fast::{Row, Usual};
+use call_driver::fast::{OfRing, Row};
 use call_driver::gate::Gate;
 use call_driver::progress::Progress;
 use call_driver::retry::{End, retry};
@@ -112,7 +112,7 @@ struct Again<W> {
     of: PhantomData<W>,
 }
 
-/// The same by one of two copies of the usual row, made for the two answers of a test that each step would make: so it is made once in a call, and the compiler knows in each copy how it came out.
+/// The same on a ring, by one of two copies of its row, made for the two answers of a test that each step would make: so it is made once in a call, and the compiler knows in each copy how it came out.
 #[inline(always)]
 pub fn run_either<M: Site, G: Gate, W>(
     is_so: bool,
@@ -125,9 +125,9 @@ pub fn run_either<M: Site, G: Gate, W>(
     ensures { MatchControlFlow result (λ left. IsLeft M.Site site.now seat.old call left seat.new) (λ reply. M.ended site.now seat.old call reply seat.new) }
 {
     if is_so {
-        run_fast::<M, G, Usual<Again<W>>>(site, gate, seat, call)
+        run_fast::<M, G, OfRing<Again<W>>>(site, gate, seat, call)
     } else {
-        run_fast::<M, G, Usual<W>>(site, gate, seat, call)
+        run_fast::<M, G, OfRing<W>>(site, gate, seat, call)
     }
 }
 
