@@ -30,7 +30,8 @@ pub fn begin<M: Site>(
     call: CallKind,
 ) -> (Kind, Progress<M::Block>)
     requires { M.rests site.now seat.now }
-    ensures { (whole : SpecCall M.Item) (n : ℕ) → call ≡ call_kind whole → suc n ≡ SOLO_STEPS → OnWay M.Site n result.0 call site.now seat.now whole result.1 (call_value whole) seat.now }
+    ensures kind { M.Steps.has_kind result.0 }
+    ensures begun { (whole : SpecCall M.Item) (n : ℕ) → call ≡ call_kind whole → suc n ≡ SOLO_STEPS → OnWay M.Site n result.0 call site.now seat.now whole result.1 (call_value whole) seat.now }
 {
     let kind = M::kind(site, seat);
     let local: Local<M::Block> = call_steps::start(kind, call);
@@ -56,7 +57,8 @@ fn slow_path<M: Site, G: Gate, E: End<M> + Drop>(
     progress: Progress<M::Block>,
     carried: &mut Option<M::Item>,
 ) -> ReplyKind
-    requires { CanEnd M.Site kind call site.now progress carried.old seat.old }
+    requires kind { M.Steps.has_kind kind }
+    requires can { CanEnd M.Site kind call site.now progress carried.old seat.old }
     ensures { EndsRightly M.Site kind call site.now progress carried.old seat.old carried.new seat.new result }
 {
     let mut progress = progress;
@@ -78,7 +80,8 @@ pub fn leave<M: Site, G: Gate, E: End<M> + Drop>(
     progress: &Progress<M::Block>,
     carried: &mut Option<M::Item>,
 ) -> ReplyKind
-    requires { CanEnd M.Site kind call site.now progress.now carried.old seat.old }
+    requires kind { M.Steps.has_kind kind }
+    requires can { CanEnd M.Site kind call site.now progress.now carried.old seat.old }
     ensures { EndsRightly M.Site kind call site.now progress.now carried.old seat.old carried.new seat.new result }
 {
     let left = Progress {

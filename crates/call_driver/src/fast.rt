@@ -31,7 +31,8 @@ pub trait Row<M: Site, G: Gate> {
         progress: &mut Progress<M::Block>,
         carried: &mut Option<M::Item>,
     ) -> ControlFlow<ReplyKind>
-        requires { (n : ℕ) × IsUnderWay M.Site n kind call site.now progress.old carried.old seat.old }
+        requires kind { M.Steps.has_kind kind }
+        requires on_way { (n : ℕ) × IsUnderWay M.Site n kind call site.now progress.old carried.old seat.old }
         ensures { StaysOnWay M.Site kind call site.now progress.old carried.old seat.old progress.new carried.new seat.new result };
 }
 
@@ -51,7 +52,8 @@ impl<M: Site, G: Gate, W> Row<M, G> for Rest<W> {
         progress: &mut Progress<M::Block>,
         carried: &mut Option<M::Item>,
     ) -> ControlFlow<ReplyKind>
-        requires { (n : ℕ) × IsUnderWay M.Site n kind call site.now progress.old carried.old seat.old }
+        requires kind { M.Steps.has_kind kind }
+        requires on_way { (n : ℕ) × IsUnderWay M.Site n kind call site.now progress.old carried.old seat.old }
         ensures { StaysOnWay M.Site kind call site.now progress.old carried.old seat.old progress.new carried.new seat.new result }
     {
         let _ = site;
@@ -81,7 +83,8 @@ impl<M: Site, G: Gate, R: Row<M, G>> Row<M, G> for Fast<R> {
         progress: &mut Progress<M::Block>,
         carried: &mut Option<M::Item>,
     ) -> ControlFlow<ReplyKind>
-        requires { (n : ℕ) × IsUnderWay M.Site n kind call site.now progress.old carried.old seat.old }
+        requires kind { M.Steps.has_kind kind }
+        requires on_way { (n : ℕ) × IsUnderWay M.Site n kind call site.now progress.old carried.old seat.old }
         ensures { StaysOnWay M.Site kind call site.now progress.old carried.old seat.old progress.new carried.new seat.new result }
     {
         if !M::Steps::is_common(kind, &progress.local, &progress.answer) {
@@ -117,7 +120,8 @@ impl<M: Site, G: Gate, const STAGE: u64, R: Row<M, G>> Row<M, G> for AtStage<STA
         progress: &mut Progress<M::Block>,
         carried: &mut Option<M::Item>,
     ) -> ControlFlow<ReplyKind>
-        requires { (n : ℕ) × IsUnderWay M.Site n kind call site.now progress.old carried.old seat.old }
+        requires kind { M.Steps.has_kind kind }
+        requires on_way { (n : ℕ) × IsUnderWay M.Site n kind call site.now progress.old carried.old seat.old }
         ensures { StaysOnWay M.Site kind call site.now progress.old carried.old seat.old progress.new carried.new seat.new result }
     {
         if !is_at(STAGE, &progress.local)
@@ -181,7 +185,8 @@ pub(crate) fn pass_block_end<M: Site, G: Gate>(
     progress: &mut Progress<M::Block>,
     carried: &mut Option<M::Item>,
 ) -> ControlFlow<ReplyKind>
-    requires { (n : ℕ) × IsUnderWay M.Site n kind call site.now progress.old carried.old seat.old }
+    requires kind { M.Steps.has_kind kind }
+    requires on_way { (n : ℕ) × IsUnderWay M.Site n kind call site.now progress.old carried.old seat.old }
     ensures { StaysOnWay M.Site kind call site.now progress.old carried.old seat.old progress.new carried.new seat.new result }
 {
     if is_at(PUSH_BLOCK, &progress.local) {

@@ -57,7 +57,8 @@ pub fn retry<M: Site, G: Gate>(
     progress: Progress<M::Block>,
     carried: &mut Option<M::Item>,
 ) -> ControlFlow<ReplyKind, Progress<M::Block>>
-    requires { (n : ℕ) × IsUnderWay M.Site n kind call site.now progress carried.old seat.old }
+    requires kind { M.Steps.has_kind kind }
+    requires on_way { (n : ℕ) × IsUnderWay M.Site n kind call site.now progress carried.old seat.old }
     ensures { TakesStep M.Site kind call site.now progress carried.old seat.old carried.new seat.new result }
 {
     if M::Steps::is_walk(kind, &progress.local, &progress.answer) {
@@ -80,7 +81,8 @@ pub trait End<M: Site> {
         progress: Progress<M::Block>,
         carried: &mut Option<M::Item>,
     ) -> ReplyKind
-        requires { CanEnd M.Site kind call site.now progress carried.old seat.old }
+        requires kind { M.Steps.has_kind kind }
+        requires can { CanEnd M.Site kind call site.now progress carried.old seat.old }
         ensures { EndsRightly M.Site kind call site.now progress carried.old seat.old carried.new seat.new result };
 }
 
@@ -99,7 +101,8 @@ impl<M: SoloSite> End<M> for Within {
         progress: Progress<M::Block>,
         carried: &mut Option<M::Item>,
     ) -> ReplyKind
-        requires { CanEnd M.Site kind call site.now progress carried.old seat.old }
+        requires kind { M.Steps.has_kind kind }
+        requires can { CanEnd M.Site kind call site.now progress carried.old seat.old }
         ensures { EndsRightly M.Site kind call site.now progress carried.old seat.old carried.new seat.new result }
     {
         let mut progress = progress;

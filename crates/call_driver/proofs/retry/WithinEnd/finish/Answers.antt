@@ -4,8 +4,8 @@ use Rattle.call_driver.specs.OnWay.{Before}
 use Rattle.call_driver.proofs.Going.{before}
 use Rattle.call_driver.proofs.retry.WithinEnd.finish.Goals as goal
 
-pub retry-requires : goal.retry-requires
-retry-requires g c =
+pub retry-requires-clause-on_way : goal.retry-requires-clause-on_way
+retry-requires-clause-on_way g c =
     let more : SOLO_STEPS - c.loop.counter ≡ suc (SOLO_STEPS - (c.loop.counter + 1)) = omega (arith, c.loop-test.true) in
     let h = c.loop.invariant.going in
     (SOLO_STEPS - (c.loop.counter + 1), (h.0, h.1, rw more at h.2))
