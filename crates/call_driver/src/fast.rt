@@ -8,11 +8,11 @@ use crate::gate::Gate;
 use crate::progress::Progress;
 use crate::site::Site;
 use crate::steps::{fast_step, passing_step};
-use call_steps::KindSteps;
 use call_steps::stages::{
     ASKING, AWAITING, CHAINING, CLAIMING, ENTERING, FOLLOWING, LAYING, OPENING, PASSING, PEEKING,
     PUSH_BLOCK, TAKING, is_at,
 };
+use call_steps::{KindSteps, blocks};
 use queue_steps::model::{CallKind, ReplyKind};
 use queue_steps::steps::Kind;
 use std::marker::PhantomData;
@@ -126,7 +126,7 @@ impl<M: Site, G: Gate, const STAGE: u64, R: Row<M, G>> Row<M, G> for AtStage<STA
     {
         if !is_at(STAGE, &progress.local)
             || M::Steps::is_common(kind, &progress.local, &progress.answer)
-            || !M::Steps::is_passing(kind, &progress.local, &progress.answer)
+            || !blocks::is_passing(kind, &progress.local, &progress.answer)
         {
             return ControlFlow::Continue(());
         }
@@ -174,7 +174,7 @@ type Passes = AtStage<
     >,
 >;
 
-/// The steps of a call that comes to a block's end. The compiler knows in those of each arm where the call stands.
+/// The steps of a call that comes to a block's end. The compiler knows in those of each arm where the call stands, and drops them all where there are no blocks.
 #[inline(always)]
 pub(crate) fn pass_block_end<M: Site, G: Gate>(
     site: &M::Shared,
@@ -189,7 +189,9 @@ pub(crate) fn pass_block_end<M: Site, G: Gate>(
     requires on_way { (n : ℕ) × IsUnderWay M.Site n kind call site.now progress.old carried.old seat.old }
     ensures { StaysOnWay M.Site kind call site.now progress.old carried.old seat.old progress.new carried.new seat.new result }
 {
-    if is_at(PUSH_BLOCK, &progress.local) {
+    if !M::Steps::has_blocks() {
+        ControlFlow::Continue(())
+    } else if is_at(PUSH_BLOCK, &progress.local) {
         <Lays as Row<M, G>>::run(site, gate, kind, call, seat, progress, carried)
     } else if is_at(TAKING, &progress.local) {
         <Passes as Row<M, G>>::run(site, gate, kind, call, seat, progress, carried)

@@ -7,7 +7,7 @@ use crate::gate::Gate;
 use crate::progress::Progress;
 use crate::site::{Site, SoloSite};
 use crate::steps::{any_step, walking_step};
-use call_steps::KindSteps;
+use call_steps::{KindSteps, blocks};
 use queue_steps::model::{CallKind, ReplyKind};
 use queue_steps::sizes::{BLOCK_SLOTS, SOLO_STEPS};
 use queue_steps::steps::Kind;
@@ -35,7 +35,7 @@ fn walk<M: Site, G: Gate>(
         ControlFlow::Continue(after) => after,
     };
     for _ in 0..BLOCK_SLOTS {
-        if !M::Steps::is_walk(kind, &progress.local, &progress.answer) {
+        if !blocks::is_walk(kind, &progress.local, &progress.answer) {
             break;
         }
         match walking_step::<M, G, 2>(site, gate, kind, call, seat, progress, carried) {
@@ -61,7 +61,7 @@ pub fn retry<M: Site, G: Gate>(
     requires on_way { (n : ℕ) × IsUnderWay M.Site n kind call site.now progress carried.old seat.old }
     ensures { TakesStep M.Site kind call site.now progress carried.old seat.old carried.new seat.new result }
 {
-    if M::Steps::is_walk(kind, &progress.local, &progress.answer) {
+    if M::Steps::has_blocks() && blocks::is_walk(kind, &progress.local, &progress.answer) {
         walk::<M, G>(site, gate, kind, call, seat, progress, carried)
     } else {
         any_step::<M, G>(site, gate, kind, call, seat, progress, carried)

@@ -7,7 +7,7 @@ ghost use Rattle.call_driver.specs.OnWay.{IsUnderWay, TakesStep};
 use crate::gate::Gate;
 use crate::progress::Progress;
 use crate::site::Site;
-use call_steps::KindSteps;
+use call_steps::{KindSteps, blocks};
 use queue_steps::model::{CallKind, ReplyKind};
 use queue_steps::steps::{Kind, Next};
 use std::ops::ControlFlow;
@@ -82,7 +82,7 @@ pub(crate) fn passing_step<M: Site, G: Gate, R>(
     ensures { TakesStep M.Site kind call site.now progress carried.old seat.old carried.new seat.new result }
 {
     let Progress { local, answer } = progress;
-    let todo = M::Steps::next_passing(kind, local, answer);
+    let todo = blocks::next_passing(kind, local, answer);
     take_step!(site, gate, call, seat, todo, carried)
 }
 
@@ -102,7 +102,7 @@ pub(crate) fn walking_step<M: Site, G: Gate, const AT: u64>(
     ensures { TakesStep M.Site kind call site.now progress carried.old seat.old carried.new seat.new result }
 {
     let Progress { local, answer } = progress;
-    let todo = M::Steps::next_walk(kind, local, answer);
+    let todo = blocks::next_walk(kind, local, answer);
     take_step!(site, gate, call, seat, todo, carried)
 }
 

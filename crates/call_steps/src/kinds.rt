@@ -1,11 +1,11 @@
 //! The steps of the calls on queues of each kind. A driver is made for one kind, and asks these one by one, so that the common ones stand in its line.
-ghost use Rattle.std.specs.Prelude.{◌≡◌, true, false};
-ghost use Rattle.queue_steps.specs.CommonNext.{is_common_of, is_walk_of, is_passing_of};
+ghost use Rattle.std.specs.Prelude.{◌≡◌, true};
+ghost use Rattle.queue_steps.specs.CommonNext.{is_common_of};
 ghost use Rattle.queue_steps.specs.Next.{CanNext, next_of};
 ghost use Rattle.queue_steps.specs.declared.steps.types.Kind.{Kind as SpecKind};
 ghost use Rattle.queue_steps.specs.declared.steps.types.Kind.TheVariants.{Single, Bounded, Unbounded};
 
-use crate::{bounded, unbounded};
+use crate::{blocks, bounded, unbounded};
 use each_step::{bounded as ring, single, unbounded as chain};
 use queue_steps::steps::{Answer, Kind, Local, Next};
 
@@ -33,53 +33,10 @@ pub trait KindSteps {
         requires common { is_common_of kind local answer ≡ true }
         ensures { result ≡ next_of kind local answer };
 
-    /// Whether a call passes from block to block, as `next_passing` tells where the step is no common one. Where it answers no, `next` tells.
+    /// Whether items are kept in blocks, so that a call may pass from block to block or walk over one (`blocks`). Where they are not, a driver leaves those steps out.
     #[inline(always)]
-    fn is_passing<B: Copy>(kind: Kind, local: &Local<B>, answer: &Answer<B>) -> bool
-        requires of { has_kind kind }
-        requires can { CanNext kind local.now answer.now }
-        ensures { result ≡ true → is_passing_of kind local.now answer.now ≡ true }
-    {
-        let _ = kind;
-        let _ = local;
-        let _ = answer;
+    fn has_blocks() -> bool {
         false
-    }
-
-    /// What a call does next, where it passes from block to block. A kind without blocks tells what `next` does.
-    #[inline(always)]
-    fn next_passing<B: Copy>(kind: Kind, local: Local<B>, answer: Answer<B>) -> Next<B>
-        requires of { has_kind kind }
-        requires can { CanNext kind local answer }
-        requires other { kind ≡ Unbounded → is_common_of kind local answer ≡ false }
-        requires passing { kind ≡ Unbounded → is_passing_of kind local answer ≡ true }
-        ensures { result ≡ next_of kind local answer }
-    {
-        Self::next(kind, local, answer)
-    }
-
-    /// Whether a call walks over a block, as `next_walk` tells. Where it answers no, `next` tells.
-    #[inline(always)]
-    fn is_walk<B: Copy>(kind: Kind, local: &Local<B>, answer: &Answer<B>) -> bool
-        requires of { has_kind kind }
-        requires can { CanNext kind local.now answer.now }
-        ensures { result ≡ true → is_walk_of kind local.now answer.now ≡ true }
-    {
-        let _ = kind;
-        let _ = local;
-        let _ = answer;
-        false
-    }
-
-    /// What a call does next, where it walks over a block. A kind without blocks tells what `next` does.
-    #[inline(always)]
-    fn next_walk<B: Copy>(kind: Kind, local: Local<B>, answer: Answer<B>) -> Next<B>
-        requires of { has_kind kind }
-        requires can { CanNext kind local answer }
-        requires walk { kind ≡ Unbounded → is_walk_of kind local answer ≡ true }
-        ensures { result ≡ next_of kind local answer }
-    {
-        Self::next(kind, local, answer)
     }
 }
 
@@ -163,11 +120,11 @@ impl KindSteps for ChainSteps {
         if Self::is_common(kind, &local, &answer) {
             return Self::next_common(kind, local, answer);
         }
-        if Self::is_walk(kind, &local, &answer) {
-            return Self::next_walk(kind, local, answer);
+        if blocks::is_walk(kind, &local, &answer) {
+            return blocks::next_walk(kind, local, answer);
         }
-        if Self::is_passing(kind, &local, &answer) {
-            return Self::next_passing(kind, local, answer);
+        if blocks::is_passing(kind, &local, &answer) {
+            return blocks::next_passing(kind, local, answer);
         }
         match local {
             Local::Unbounded(local) => unbounded::next_other(local, answer),
@@ -196,46 +153,7 @@ impl KindSteps for ChainSteps {
     }
 
     #[inline(always)]
-    fn is_passing<B: Copy>(kind: Kind, local: &Local<B>, answer: &Answer<B>) -> bool
-        requires of { kind ≡ Unbounded }
-        requires can { CanNext kind local.now answer.now }
-        ensures { result ≡ is_passing_of kind local.now answer.now }
-    {
-        let _ = kind;
-        match local {
-            Local::Unbounded(local) => unbounded::is_passing(local, answer),
-            _ => false,
-        }
-    }
-
-    #[inline(always)]
-    fn next_passing<B: Copy>(kind: Kind, local: Local<B>, answer: Answer<B>) -> Next<B> {
-        let _ = kind;
-        match local {
-            Local::Unbounded(local) => unbounded::next_passing(local, answer),
-            _ => unreachable!(),
-        }
-    }
-
-    #[inline(always)]
-    fn is_walk<B: Copy>(kind: Kind, local: &Local<B>, answer: &Answer<B>) -> bool
-        requires of { kind ≡ Unbounded }
-        requires can { CanNext kind local.now answer.now }
-        ensures { result ≡ is_walk_of kind local.now answer.now }
-    {
-        let _ = kind;
-        match local {
-            Local::Unbounded(local) => unbounded::is_walk(local, answer),
-            _ => false,
-        }
-    }
-
-    #[inline(always)]
-    fn next_walk<B: Copy>(kind: Kind, local: Local<B>, answer: Answer<B>) -> Next<B> {
-        let _ = kind;
-        match local {
-            Local::Unbounded(local) => unbounded::next_walk(local, answer),
-            _ => unreachable!(),
-        }
+    fn has_blocks() -> bool {
+        true
     }
 }

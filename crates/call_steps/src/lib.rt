@@ -9,6 +9,7 @@ ghost use Rattle.queue_steps.specs.Next.{CanNext, first_local, next_of};
 use queue_steps::model::CallKind;
 use queue_steps::steps::{Answer, Kind, Local, Next};
 
+pub mod blocks;
 mod bounded;
 mod kinds;
 mod shown;
