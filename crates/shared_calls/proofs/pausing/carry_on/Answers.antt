@@ -4,8 +4,8 @@ use Rattle.call_driver.proofs.Going.{again}
 use Rattle.shared_calls.proofs.Filling.{is_filled, filled_as}
 use Rattle.shared_calls.proofs.pausing.carry_on.Goals as goal
 
-pub retry-requires-in-loop : goal.retry-requires-in-loop
-retry-requires-in-loop g c =
+pub retry-requires-in-loop-clause-on_way : goal.retry-requires-in-loop-clause-on_way
+retry-requires-in-loop-clause-on_way g c =
     let h = c.loop.invariant.going in let n = SOLO_STEPS - 1 in
     (n, (h.0, h.1, again g.M.Site g.met.M.Site.goes_on g.met.M.Site.more n c.args.left.kind c.args.left.call c.args.site.now h.1 h.0 c.loop.progress c.loop.carried c.loop.seat h.2))
 

@@ -3,8 +3,8 @@ use Rattle.law_common.specs.Vocabulary.{SOLO_STEPS}
 use Rattle.shared_calls.proofs.Filling.{is_filled, filled_as}
 use Rattle.shared_calls.proofs.waiting.run_slow.Goals as goal
 
-pub leave-reply-requires : goal.leave-reply-requires
-leave-reply-requires g c = (SOLO_STEPS - 1, refl, c.requires)
+pub leave-reply-requires-clause-can : goal.leave-reply-requires-clause-can
+leave-reply-requires-clause-can g c = (SOLO_STEPS - 1, refl, c.requires)
 
 pub fill-requires : goal.fill-requires
 fill-requires g c =
