@@ -45,7 +45,8 @@ fn pause<M: Site>(
     progress: Progress<M::Block>,
     carried: Option<M::Item>,
 ) -> ControlFlow<Reply<M::Item>, Left<M::Item, M::Block>>
-    requires { (c : SpecCall M.Item) × (first : M.Seat) × Stood M.Site (SOLO_STEPS - 1) kind call site.now first c progress carried seat.old }
+    requires kind { M.Steps.has_kind kind }
+    requires stood { (c : SpecCall M.Item) × (first : M.Seat) × Stood M.Site (SOLO_STEPS - 1) kind call site.now first c progress carried seat.old }
     ensures { (c : SpecCall M.Item) (first : M.Seat) → Stood M.Site (SOLO_STEPS - 1) kind call site.now first c progress carried seat.old → MatchControlFlow result (λ left. IsPaused M.Site site.now first c left seat.new) (λ reply. M.ended site.now first c reply seat.new) }
 {
     let todo = M::Steps::next(kind, progress.local, progress.answer);
@@ -70,7 +71,8 @@ pub fn carry_on<M: Site, G: Gate>(
     seat: &mut M::Seat,
     left: Left<M::Item, M::Block>,
 ) -> ControlFlow<Reply<M::Item>, Left<M::Item, M::Block>>
-    requires { (c : SpecCall M.Item) × (first : M.Seat) × IsLeft M.Site site.now first c left seat.old }
+    requires kind { M.Steps.has_kind left.kind }
+    requires left { (c : SpecCall M.Item) × (first : M.Seat) × IsLeft M.Site site.now first c left seat.old }
     ensures { (c : SpecCall M.Item) (first : M.Seat) → IsLeft M.Site site.now first c left seat.old → MatchControlFlow result (λ paused. IsPaused M.Site site.now first c paused seat.new) (λ reply. M.ended site.now first c reply seat.new) }
 {
     let Left {
@@ -104,7 +106,8 @@ fn settle_step<M: Site, G: Gate>(
     seat: &mut M::Seat,
     left: Left<M::Item, M::Block>,
 ) -> ControlFlow<Reply<M::Item>, Left<M::Item, M::Block>>
-    requires { (c : SpecCall M.Item) × (first : M.Seat) × IsStood M.Site site.now first c left seat.old }
+    requires kind { M.Steps.has_kind left.kind }
+    requires stood { (c : SpecCall M.Item) × (first : M.Seat) × IsStood M.Site site.now first c left seat.old }
     ensures stood { (c : SpecCall M.Item) (first : M.Seat) → IsStood M.Site site.now first c left seat.old → MatchControlFlow result (λ on. IsStood M.Site site.now first c on seat.new) (λ reply. M.ended site.now first c reply seat.new) }
     ensures nearer { ¬ (MayWait left.kind (next_at left)) → MatchControlFlow result (λ on. ¬ (MayWait on.kind (next_at on)) × (left_at (next_at on) ≤ 4) × (left_at (next_at on) ≤ left_at (next_at left) - 1)) (λ reply. Unit {0}) }
 {
@@ -149,7 +152,8 @@ pub fn settle<M: Site, G: Gate>(
     seat: &mut M::Seat,
     left: Left<M::Item, M::Block>,
 ) -> ControlFlow<Reply<M::Item>, Left<M::Item, M::Block>>
-    requires { (c : SpecCall M.Item) × (first : M.Seat) × IsStood M.Site site.now first c left seat.old }
+    requires kind { M.Steps.has_kind left.kind }
+    requires stood { (c : SpecCall M.Item) × (first : M.Seat) × IsStood M.Site site.now first c left seat.old }
     ensures stood { (c : SpecCall M.Item) (first : M.Seat) → IsStood M.Site site.now first c left seat.old → MatchControlFlow result (λ on. IsStood M.Site site.now first c on seat.new) (λ reply. M.ended site.now first c reply seat.new) }
     ensures early { ¬ (MayWait left.kind (next_at left)) → MatchControlFlow result (λ on. is_early_step (next_at on) ≡ true) (λ reply. Unit {0}) }
 {

@@ -140,7 +140,8 @@ pub fn run_slow<M: Site, G: Gate, R: Wait>(
     seat: &mut M::Seat,
     left: Left<M::Item, M::Block>,
 ) -> Reply<M::Item>
-    requires { (call : SpecCall M.Item) × (first : M.Seat) × IsLeft M.Site site.now first call left seat.old }
+    requires kind { M.Steps.has_kind left.kind }
+    requires left { (call : SpecCall M.Item) × (first : M.Seat) × IsLeft M.Site site.now first call left seat.old }
     ensures { (call : SpecCall M.Item) (first : M.Seat) → IsLeft M.Site site.now first call left seat.old → M.ended site.now first call result seat.new }
 {
     let Left {

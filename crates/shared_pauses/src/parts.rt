@@ -19,7 +19,8 @@ pub fn take_up<M: Site, G: Gate>(
     seat: &mut M::Seat,
     left: Left<M::Item, M::Block>,
 ) -> ControlFlow<Reply<M::Item>, Left<M::Item, M::Block>>
-    requires { (c : SpecCall M.Item) × (first : M.Seat) × IsPaused M.Site site.now first c left seat.old }
+    requires kind { M.Steps.has_kind left.kind }
+    requires paused { (c : SpecCall M.Item) × (first : M.Seat) × IsPaused M.Site site.now first c left seat.old }
     ensures { (c : SpecCall M.Item) (first : M.Seat) → IsPaused M.Site site.now first c left seat.old → MatchControlFlow result (λ paused. IsPaused M.Site site.now first c paused seat.new) (λ reply. M.ended site.now first c reply seat.new) }
 {
     carry_on::<M, G>(site, gate, seat, left)

@@ -5,14 +5,14 @@ use Rattle.shared_site.specs.Halts.{next_at}
 use Rattle.shared_calls.proofs.GivesUp.{halts, gave_up}
 use Rattle.shared_calls.proofs.attempts.end_or_quit_at.Goals as goal
 
-pub carry_on-requires : goal.carry_on-requires
-carry_on-requires g c = let (call, is, first, at) = c.requires.left in (call, first, at)
+pub carry_on-requires-clause-left : goal.carry_on-requires-clause-left
+carry_on-requires-clause-left g c = let (call, is, first, at) = c.requires.left in (call, first, at)
 
 pub returns-in-Break : goal.returns-in-Break
 returns-in-Break g c = λ call first at. c.in-Break.ensures call first at
 
-pub settle-requires : goal.settle-requires
-settle-requires g c = let (call, is, first, at) = c.requires.left in (call, first, (c.in-Continue.ensures call first at).0)
+pub settle-requires-clause-stood : goal.settle-requires-clause-stood
+settle-requires-clause-stood g c = let (call, is, first, at) = c.requires.left in (call, first, (c.in-Continue.ensures call first at).0)
 
 pub returns-in-Break-settle : goal.returns-in-Break-settle
 returns-in-Break-settle g c = λ call first at. c.in-Break-settle.ensures.stood call first (c.in-Continue.ensures call first at).0

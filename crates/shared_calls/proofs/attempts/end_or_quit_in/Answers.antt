@@ -2,8 +2,8 @@ use Rattle.std.proofs.Common.{◌≡◌, ◌∙◌, true, false}
 use Rattle.shared_calls.proofs.GivesUp.{halts_in, at_call, looked, no_wait, gave_up_in}
 use Rattle.shared_calls.proofs.attempts.end_or_quit_in.Goals as goal
 
-pub carry_on-requires : goal.carry_on-requires
-carry_on-requires g c = let (call, push, first, at) = c.requires in (call, first, at)
+pub carry_on-requires-clause-left : goal.carry_on-requires-clause-left
+carry_on-requires-clause-left g c = let (call, push, first, at) = c.requires in (call, first, at)
 
 pub returns-in-Break : goal.returns-in-Break
 returns-in-Break g c = λ call first at. c.in-Break.ensures call first at
@@ -17,8 +17,8 @@ look-requires-clause-calls g c =
     let paused = c.in-Continue.ensures call first at in
     at_call w first c.carry_on.new.seat call c.in-Continue.left paused.0.0.0 paused.0.1 paused.1
 
-pub settle-requires : goal.settle-requires
-settle-requires g c =
+pub settle-requires-clause-stood : goal.settle-requires-clause-stood
+settle-requires-clause-stood g c =
     let w = c.args.queue.now.chain in let (call, push, first, at) = c.requires in
     let paused = c.in-Continue.ensures call first at in let from = c.in-Continue.left in let seen = c.look.ensures.same in
     let stands = looked w first c.carry_on.new.seat call from paused.0.0.0 paused.0.1 c.look.new.seat seen.0 seen.1 in

@@ -10,13 +10,13 @@ use Rattle.shared_calls.proofs.pausing.settle_step.Goals as goal
 
 pub give_back-requires : goal.give_back-requires
 give_back-requires g c =
-    let h = c.requires in let n = SOLO_STEPS - 1 in let l = c.args.left in
+    let h = c.requires.stood in let n = SOLO_STEPS - 1 in let l = c.args.left in
     (replies g.M.Site n l.kind l.call c.args.site.now h.1 h.0 l.progress.local l.progress.answer c.in-Reply.reply c.in-Reply.spare c.args.seat.now l.carried c.next-todo.ensures c.in-Reply.is
     (again g.M.Site g.met.M.Site.goes_on g.met.M.Site.more n l.kind l.call c.args.site.now h.1 h.0 l.progress l.carried c.args.seat.now h.2)).0
 
 pub fill-requires : goal.fill-requires
 fill-requires g c =
-    let h = c.requires in let n = SOLO_STEPS - 1 in let l = c.args.left in
+    let h = c.requires.stood in let n = SOLO_STEPS - 1 in let l = c.args.left in
     let told = (replies g.M.Site n l.kind l.call c.args.site.now h.1 h.0 l.progress.local l.progress.answer c.in-Reply.reply c.in-Reply.spare c.args.seat.now l.carried c.next-todo.ensures c.in-Reply.is
     (again g.M.Site g.met.M.Site.goes_on g.met.M.Site.more n l.kind l.call c.args.site.now h.1 h.0 l.progress l.carried c.args.seat.now h.2)).1 c.give_back.new.seat c.give_back.ensures in
     is_filled c.in-Reply.reply l.carried told.0 told.1
@@ -31,7 +31,7 @@ returns-in-Reply-clause-stood g c = λ call first stood.
 
 pub take_step-answer-requires : goal.take_step-answer-requires
 take_step-answer-requires g c =
-    let h = c.requires in let n = SOLO_STEPS - 1 in let l = c.args.left in
+    let h = c.requires.stood in let n = SOLO_STEPS - 1 in let l = c.args.left in
     (step g.M.Site n l.kind l.call c.args.site.now h.1 h.0 l.progress.local l.progress.answer c.in-Step.local c.in-Step.touch c.in-Step.op c.args.seat.now l.carried c.next-todo.ensures c.in-Step.is
     (again g.M.Site g.met.M.Site.goes_on g.met.M.Site.more n l.kind l.call c.args.site.now h.1 h.0 l.progress l.carried c.args.seat.now h.2)).0
 
@@ -49,7 +49,7 @@ returns-then-is_early-clause-nearer g c = λ stays.
 
 pub returns-else-is_early-clause-nearer : goal.returns-else-is_early-clause-nearer
 returns-else-is_early-clause-nearer g c = λ stays.
-    let h = c.requires in let n = SOLO_STEPS - 1 in let l = c.args.left in
+    let h = c.requires.stood in let n = SOLO_STEPS - 1 in let l = c.args.left in
     let stood = (step g.M.Site n l.kind l.call c.args.site.now h.1 h.0 l.progress.local l.progress.answer c.in-Step.local c.in-Step.touch c.in-Step.op c.args.seat.now l.carried c.next-todo.ensures c.in-Step.is
     (again g.M.Site g.met.M.Site.goes_on g.met.M.Site.more n l.kind l.call c.args.site.now h.1 h.0 l.progress l.carried c.args.seat.now h.2)).1
     c.take_step-answer.result c.take_step-answer.new.seat c.take_step-answer.new.carried c.take_step-answer.ensures in

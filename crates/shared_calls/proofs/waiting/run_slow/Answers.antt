@@ -4,11 +4,11 @@ use Rattle.shared_calls.proofs.Filling.{is_filled, filled_as}
 use Rattle.shared_calls.proofs.waiting.run_slow.Goals as goal
 
 pub leave-reply-requires-clause-can : goal.leave-reply-requires-clause-can
-leave-reply-requires-clause-can g c = (SOLO_STEPS - 1, refl, c.requires)
+leave-reply-requires-clause-can g c = (SOLO_STEPS - 1, refl, c.requires.left)
 
 pub fill-requires : goal.fill-requires
 fill-requires g c =
-    let (call, first, on) = c.requires in
+    let (call, first, on) = c.requires.left in
     let told = c.leave-reply.ensures (SOLO_STEPS - 1) call first refl on in
     is_filled c.leave-reply.result c.leave-reply.new.carried told.0 told.1
 

@@ -3,9 +3,9 @@ use Rattle.law_common.specs.Vocabulary.{SOLO_STEPS}
 use Rattle.call_driver.proofs.Going.{again}
 use Rattle.shared_pauses.proofs.parts.take_up.Goals as goal
 
-pub carry_on-requires : goal.carry_on-requires
-carry_on-requires g c =
-    let h = c.requires in
+pub carry_on-requires-clause-left : goal.carry_on-requires-clause-left
+carry_on-requires-clause-left g c =
+    let h = c.requires.paused in
     (h.0, h.1, again g.M.Site g.met.M.Site.goes_on g.met.M.Site.more (SOLO_STEPS - 1) c.args.left.kind c.args.left.call c.args.site.now h.1 h.0 c.args.left.progress c.args.left.carried c.args.seat.now h.2.0)
 
 pub returns : goal.returns

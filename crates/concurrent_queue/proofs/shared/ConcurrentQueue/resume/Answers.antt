@@ -92,8 +92,8 @@ returns-in-Continue-take_up_at g c =
     let h = come_here ring_table t s b.left v same (there.0.1, there.1) in
     c.at-in-Continue-take_up_at.ensures ∙ (go_there ring_table t c.take_up_at-in-Ring-form-2.new.seat c.in-Continue-take_up_at.left v (c.in-Continue-take_up_at.ensures v h)).1
 
-pub take_up-requires : goal.take_up-requires
-take_up-requires g c =
+pub take_up-requires-clause-paused : goal.take_up-requires-clause-paused
+take_up-requires-clause-paused g c =
     let b = c.in-Chain in let v = c.args.pending in let w = c.in-Chain-form-3.queue.chain in let s = b.asking in
     let there = subst (λ p. IsStopped p × (begun_of p ≡ v)) b.is (c.into_place-place.ensures.stops, c.into_place-place.ensures.begun) in
     let same = same_web s.seat.web w.web.id (ap (λ (z : Begun _). z.party.queue.name) there.1 ∙ ap (λ (z : QueueId). z.name) (c.requires.of ∙ (sym c.self.view_is ∙ ap form_id c.in-Chain-form-3.is))) in

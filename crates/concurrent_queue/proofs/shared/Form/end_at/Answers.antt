@@ -4,11 +4,11 @@ use Rattle.concurrent_queue.specs.Shared.{form_id}
 use Rattle.concurrent_queue.proofs.TableCalls.{ends_here}
 use Rattle.concurrent_queue.proofs.shared.Form.end_at.Goals as goal
 
-pub run_slow-requires : goal.run_slow-requires
-run_slow-requires g c = let (call, first, h) = c.requires in (call, first, h.1 c.in-Single.slot c.in-Single.is)
+pub run_slow-requires-clause-left : goal.run_slow-requires-clause-left
+run_slow-requires-clause-left g c = let (call, first, h) = c.requires in (call, first, h.1 c.in-Single.slot c.in-Single.is)
 
-pub run_slow-requires-in-Ring : goal.run_slow-requires-in-Ring
-run_slow-requires-in-Ring g c = let (call, first, h) = c.requires in (call, first, h.2 c.in-Ring.ring c.in-Ring.is)
+pub run_slow-requires-in-Ring-clause-left : goal.run_slow-requires-in-Ring-clause-left
+run_slow-requires-in-Ring-clause-left g c = let (call, first, h) = c.requires in (call, first, h.2 c.in-Ring.ring c.in-Ring.is)
 
 pub returns-in-Single : goal.returns-in-Single
 returns-in-Single g c = λ call first h.

@@ -5,8 +5,8 @@ use Rattle.concurrent_queue.proofs.Stops.{first_seat, own_step, taken_up, went_o
 use Rattle.concurrent_queue.proofs.Told.{told_map}
 use Rattle.concurrent_queue.proofs.shared.pending.take_up_at.Goals as goal
 
-pub take_up-requires : goal.take_up-requires
-take_up-requires g c =
+pub take_up-requires-clause-paused : goal.take_up-requires-clause-paused
+take_up-requires-clause-paused g c =
     let s = c.args.seat.now in let l = c.args.left in let t = c.args.table.now.table.shared.table_id in let K = g.K.TableKind.layout in let (v, h) = c.requires in
     ((its_call s.me.0).call, first_seat K t s, (((h.1.kind, h.1.call), taken_up K t (SOLO_STEPS - 1) s l v h), own_step K t s l v h))
 
