@@ -2,6 +2,7 @@
 ghost use Rattle.std.specs.Prelude.{◌≡◌};
 ghost use Rattle.shared_tables.specs.Quitting.{MayQuit, HasQuit};
 
+use crate::clauses::load;
 use crate::seats::PARTIES;
 use crate::table::{SharedTable, TableKind, TableSteps};
 use atomic_table::{Play, Seat};
@@ -28,6 +29,6 @@ impl<T, K: TableSteps<T>, A: Allocator> SharedTable<T, K, A> {
         ensures same { seat.new.table_id ≡ seat.old.table_id }
         ensures quit { HasQuit (K.layout self.now.table.shared.table_id.slots).calls seat.old.me seat.new.me }
     {
-        self.table.shared.load::<Quits<K>>(seat, PARTIES);
+        load::<_, _, Quits<K>>(&self.table.shared, seat, PARTIES);
     }
 }

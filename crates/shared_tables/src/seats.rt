@@ -1,6 +1,7 @@
 //! The seats of parties at the table of a shared queue, and the word that counts them, whatever the queue is made of.
 ghost use Rattle.std.specs.Prelude.{[], ◌≡◌};
 
+use crate::clauses::{fetch_add, fetch_sub, join_seat, load, split_seat};
 use crate::table::{SharedTable, Sizes, TableKind};
 use atomic_table::{Play, Seat};
 use shared_parties::count::{Change, CountAct, PartyCount};
@@ -34,9 +35,9 @@ impl<T, K: Sizes + TableKind<T>, A: Allocator> PartyCount<T, Seat<Option<T>, Cal
     fn act<M: CountAct<T>>(&self, seat: &mut Seat<Option<T>, CallState<T>>) -> u64 {
         let table = &self.table.shared;
         match M::change() {
-            Change::Raise => table.fetch_add::<Counting<M>>(seat, PARTIES, 1),
-            Change::Lower => table.fetch_sub::<Counting<M>>(seat, PARTIES, 1),
-            Change::Look => table.load::<Counting<M>>(seat, PARTIES),
+            Change::Raise => fetch_add::<_, _, Counting<M>>(table, seat, PARTIES, 1),
+            Change::Lower => fetch_sub::<_, _, Counting<M>>(table, seat, PARTIES, 1),
+            Change::Look => load::<_, _, Counting<M>>(table, seat, PARTIES),
         }
     }
 
@@ -45,7 +46,7 @@ impl<T, K: Sizes + TableKind<T>, A: Allocator> PartyCount<T, Seat<Option<T>, Cal
         seat: Seat<Option<T>, CallState<T>>,
     ) -> (Seat<Option<T>, CallState<T>>, Seat<Option<T>, CallState<T>>) {
         let mut first = seat;
-        let second = self.table.shared.split_seat::<Halves>(&mut first);
+        let second = split_seat::<_, _, Halves>(&self.table.shared, &mut first);
         (first, second)
     }
 
@@ -55,7 +56,7 @@ impl<T, K: Sizes + TableKind<T>, A: Allocator> PartyCount<T, Seat<Option<T>, Cal
         second: Seat<Option<T>, CallState<T>>,
     ) -> Seat<Option<T>, CallState<T>> {
         let mut both = first;
-        self.table.shared.join_seat::<Both>(&mut both, second);
+        join_seat::<_, _, Both>(&self.table.shared, &mut both, second);
         both
     }
 }

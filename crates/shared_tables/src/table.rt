@@ -6,6 +6,7 @@ ghost use Rattle.law_common.specs.Operations.{answer_for};
 ghost use Rattle.shared_tables.specs.TableTurns.{Follows, TableCan, TableDoes};
 ghost use Rattle.shared_parties.specs.CallsAt.{Ready};
 
+use crate::clauses::{compare_exchange, fetch_add, fetch_or, fetch_sub, load, store};
 use crate::touching::touch;
 use atomic_table::{Play, Seat, Table, TableRule};
 use call_driver::site::{SharedSite, Site};
@@ -128,22 +129,23 @@ impl<T, K: TableSteps<T>, A: Allocator> SharedTable<T, K, A> {
         let _ = left;
         let table = &self.table.shared;
         match op {
-            Op::Load(word) => Answer::Found(table.load::<Steps<K, J>>(seat, K::place(word))),
+            Op::Load(word) => Answer::Found(load::<_, _, Steps<K, J>>(table, seat, K::place(word))),
             Op::Store(word, new) => {
-                table.store::<Steps<K, J>>(seat, K::place(word), new);
+                store::<_, _, Steps<K, J>>(table, seat, K::place(word), new);
                 Answer::Done
             }
             Op::Add(word, by) => {
-                Answer::Found(table.fetch_add::<Steps<K, J>>(seat, K::place(word), by))
+                Answer::Found(fetch_add::<_, _, Steps<K, J>>(table, seat, K::place(word), by))
             }
             Op::Or(word, bits) => {
-                Answer::Found(table.fetch_or::<Steps<K, J>>(seat, K::place(word), bits))
+                Answer::Found(fetch_or::<_, _, Steps<K, J>>(table, seat, K::place(word), bits))
             }
             // The bits that go are all in the word, so one instruction subtracts them.
             Op::And(word, bits) => {
-                Answer::Found(table.fetch_sub::<Steps<K, J>>(seat, K::place(word), !bits))
+                Answer::Found(fetch_sub::<_, _, Steps<K, J>>(table, seat, K::place(word), !bits))
             }
-            Op::Exchange(word, old, new) => Answer::Found(table.compare_exchange::<Steps<K, J>>(
+            Op::Exchange(word, old, new) => Answer::Found(compare_exchange::<_, _, Steps<K, J>>(
+                table,
                 seat,
                 K::place(word),
                 old,
