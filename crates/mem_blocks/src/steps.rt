@@ -31,7 +31,9 @@ impl<S, V, K, P: WebRule<S, V, K>, A: Allocator> Web<S, V, K, P, A> {
         first: u64,
         second: u64,
     ) -> u64
-        requires { Sits seat.old self.now × InBlock link.ptr × (word < SLOTS) × Allows (P.holds self.now.key) seat.old.id seat.old.sitter link.ptr word (becomes operation first second) (λ n. M.then (step link.ptr word first second) seat.old.sitter (told operation first n)) }
+        requires sits { Sits seat.old self.now }
+        requires there { InBlock link.ptr × (word < SLOTS) }
+        requires allows { Allows (P.holds self.now.key) seat.old.id seat.old.sitter link.ptr word (becomes operation first second) (λ n. M.then (step link.ptr word first second) seat.old.sitter (told operation first n)) }
         ensures { Same seat.new seat.old × IsTold operation first result × M.then (step link.ptr word first second) seat.old.sitter result seat.new.sitter }
     {
         unsafe {
@@ -52,7 +54,9 @@ impl<S, V, K, P: WebRule<S, V, K>, A: Allocator> Web<S, V, K, P, A> {
         link: BlockPtr<S>,
         word: usize,
     ) -> u64
-        requires { Sits seat.old self.now × InBlock link.ptr × (word < SLOTS) × Allows (P.holds self.now.key) seat.old.id seat.old.sitter link.ptr word (λ n. n) (M.then (step link.ptr word 0 0) seat.old.sitter) }
+        requires sits { Sits seat.old self.now }
+        requires there { InBlock link.ptr × (word < SLOTS) }
+        requires allows { Allows (P.holds self.now.key) seat.old.id seat.old.sitter link.ptr word (λ n. n) (M.then (step link.ptr word 0 0) seat.old.sitter) }
         ensures { Same seat.new seat.old × M.then (step link.ptr word 0 0) seat.old.sitter result seat.new.sitter }
     {
         self.operate::<M>(seat, link, word, Operation::Load, 0, 0)
@@ -61,7 +65,8 @@ impl<S, V, K, P: WebRule<S, V, K>, A: Allocator> Web<S, V, K, P, A> {
     /// Reads a word of a block that never leaves the web. It needs no seat, and tells nothing of what it found.
     #[inline(always)]
     pub fn peek(&self, link: BlockPtr<S>, word: usize) -> u64
-        requires { InBlock link.ptr × (word < SLOTS) × StaysIn (P.holds self.now.key) link.ptr }
+        requires there { InBlock link.ptr × (word < SLOTS) }
+        requires stays { StaysIn (P.holds self.now.key) link.ptr }
     {
         unsafe {
             raw::load::<Brand>(
@@ -80,7 +85,9 @@ impl<S, V, K, P: WebRule<S, V, K>, A: Allocator> Web<S, V, K, P, A> {
         word: usize,
         k: u64,
     ) -> u64
-        requires { Sits seat.old self.now × InBlock link.ptr × (word < SLOTS) × Allows (P.holds self.now.key) seat.old.id seat.old.sitter link.ptr word (λ n. (n + k) % 2 ^ 64) (M.then (step link.ptr word k 0) seat.old.sitter) }
+        requires sits { Sits seat.old self.now }
+        requires there { InBlock link.ptr × (word < SLOTS) }
+        requires allows { Allows (P.holds self.now.key) seat.old.id seat.old.sitter link.ptr word (λ n. (n + k) % 2 ^ 64) (M.then (step link.ptr word k 0) seat.old.sitter) }
         ensures { Same seat.new seat.old × M.then (step link.ptr word k 0) seat.old.sitter result seat.new.sitter }
     {
         self.operate::<M>(seat, link, word, Operation::Add, k, 0)
@@ -95,7 +102,9 @@ impl<S, V, K, P: WebRule<S, V, K>, A: Allocator> Web<S, V, K, P, A> {
         word: usize,
         k: u64,
     ) -> u64
-        requires { Sits seat.old self.now × InBlock link.ptr × (word < SLOTS) × Allows (P.holds self.now.key) seat.old.id seat.old.sitter link.ptr word (λ n. (n + (2 ^ 64 - k)) % 2 ^ 64) (M.then (step link.ptr word k 0) seat.old.sitter) }
+        requires sits { Sits seat.old self.now }
+        requires there { InBlock link.ptr × (word < SLOTS) }
+        requires allows { Allows (P.holds self.now.key) seat.old.id seat.old.sitter link.ptr word (λ n. (n + (2 ^ 64 - k)) % 2 ^ 64) (M.then (step link.ptr word k 0) seat.old.sitter) }
         ensures { Same seat.new seat.old × M.then (step link.ptr word k 0) seat.old.sitter result seat.new.sitter }
     {
         self.operate::<M>(seat, link, word, Operation::Subtract, k, 0)
@@ -110,7 +119,9 @@ impl<S, V, K, P: WebRule<S, V, K>, A: Allocator> Web<S, V, K, P, A> {
         word: usize,
         k: u64,
     ) -> u64
-        requires { Sits seat.old self.now × InBlock link.ptr × (word < SLOTS) × Allows (P.holds self.now.key) seat.old.id seat.old.sitter link.ptr word (λ n. bit_or n k) (M.then (step link.ptr word k 0) seat.old.sitter) }
+        requires sits { Sits seat.old self.now }
+        requires there { InBlock link.ptr × (word < SLOTS) }
+        requires allows { Allows (P.holds self.now.key) seat.old.id seat.old.sitter link.ptr word (λ n. bit_or n k) (M.then (step link.ptr word k 0) seat.old.sitter) }
         ensures { Same seat.new seat.old × M.then (step link.ptr word k 0) seat.old.sitter result seat.new.sitter }
     {
         self.operate::<M>(seat, link, word, Operation::Or, k, 0)
@@ -125,7 +136,9 @@ impl<S, V, K, P: WebRule<S, V, K>, A: Allocator> Web<S, V, K, P, A> {
         word: usize,
         new: u64,
     )
-        requires { Sits seat.old self.now × InBlock link.ptr × (word < SLOTS) × Allows (P.holds self.now.key) seat.old.id seat.old.sitter link.ptr word (λ _. new) (λ _. M.then (step link.ptr word new 0) seat.old.sitter new) }
+        requires sits { Sits seat.old self.now }
+        requires there { InBlock link.ptr × (word < SLOTS) }
+        requires allows { Allows (P.holds self.now.key) seat.old.id seat.old.sitter link.ptr word (λ _. new) (λ _. M.then (step link.ptr word new 0) seat.old.sitter new) }
         ensures { Same seat.new seat.old × M.then (step link.ptr word new 0) seat.old.sitter new seat.new.sitter }
     {
         self.operate::<M>(seat, link, word, Operation::Store, new, 0);
@@ -141,7 +154,9 @@ impl<S, V, K, P: WebRule<S, V, K>, A: Allocator> Web<S, V, K, P, A> {
         old: u64,
         new: u64,
     ) -> u64
-        requires { Sits seat.old self.now × InBlock link.ptr × (word < SLOTS) × Allows (P.holds self.now.key) seat.old.id seat.old.sitter link.ptr word (λ n. either (n == old) new n) (M.then (step link.ptr word old new) seat.old.sitter) }
+        requires sits { Sits seat.old self.now }
+        requires there { InBlock link.ptr × (word < SLOTS) }
+        requires allows { Allows (P.holds self.now.key) seat.old.id seat.old.sitter link.ptr word (λ n. either (n == old) new n) (M.then (step link.ptr word old new) seat.old.sitter) }
         ensures { Same seat.new seat.old × M.then (step link.ptr word old new) seat.old.sitter result seat.new.sitter }
     {
         self.operate::<M>(seat, link, word, Operation::Exchange, old, new)
@@ -156,7 +171,9 @@ impl<S, V, K, P: WebRule<S, V, K>, A: Allocator> Web<S, V, K, P, A> {
         operation: LinkOperation,
         new: BlockPtr<S>,
     ) -> BlockPtr<S>
-        requires { Sits seat.old self.now × InBlock link.ptr × AllowsLink (P.holds self.now.key) seat.old.id seat.old.sitter link.ptr (leads_to operation new.ptr) (λ q. M.then seat.old.sitter (told_place operation new.ptr q)) }
+        requires sits { Sits seat.old self.now }
+        requires there { InBlock link.ptr }
+        requires allows { AllowsLink (P.holds self.now.key) seat.old.id seat.old.sitter link.ptr (leads_to operation new.ptr) (λ q. M.then seat.old.sitter (told_place operation new.ptr q)) }
         ensures { Same seat.new seat.old × IsToldPlace operation new.ptr result.ptr × M.then seat.old.sitter result.ptr seat.new.sitter }
     {
         let place = unsafe { &raw const (*link.ptr).next as *const *mut u64 };
@@ -194,7 +211,9 @@ impl<S, V, K, P: WebRule<S, V, K>, A: Allocator> Web<S, V, K, P, A> {
         seat: &mut Seat<S, V, A>,
         link: BlockPtr<S>,
     ) -> BlockPtr<S>
-        requires { Sits seat.old self.now × InBlock link.ptr × AllowsLink (P.holds self.now.key) seat.old.id seat.old.sitter link.ptr (λ q. q) (M.then seat.old.sitter) }
+        requires sits { Sits seat.old self.now }
+        requires there { InBlock link.ptr }
+        requires allows { AllowsLink (P.holds self.now.key) seat.old.id seat.old.sitter link.ptr (λ q. q) (M.then seat.old.sitter) }
         ensures { Same seat.new seat.old × Testable result.ptr × M.then seat.old.sitter result.ptr seat.new.sitter }
     {
         self.operate_link::<M>(seat, link, LinkOperation::Load, link)
@@ -208,7 +227,9 @@ impl<S, V, K, P: WebRule<S, V, K>, A: Allocator> Web<S, V, K, P, A> {
         link: BlockPtr<S>,
         new: BlockPtr<S>,
     )
-        requires { Sits seat.old self.now × InBlock link.ptr × AllowsLink (P.holds self.now.key) seat.old.id seat.old.sitter link.ptr (λ _. new.ptr) (λ _. M.then seat.old.sitter new.ptr) }
+        requires sits { Sits seat.old self.now }
+        requires there { InBlock link.ptr }
+        requires allows { AllowsLink (P.holds self.now.key) seat.old.id seat.old.sitter link.ptr (λ _. new.ptr) (λ _. M.then seat.old.sitter new.ptr) }
         ensures { Same seat.new seat.old × M.then seat.old.sitter new.ptr seat.new.sitter }
     {
         self.operate_link::<M>(seat, link, LinkOperation::Store, new);
@@ -222,7 +243,9 @@ impl<S, V, K, P: WebRule<S, V, K>, A: Allocator> Web<S, V, K, P, A> {
         link: BlockPtr<S>,
         new: BlockPtr<S>,
     ) -> BlockPtr<S>
-        requires { Sits seat.old self.now × InBlock link.ptr × AllowsLink (P.holds self.now.key) seat.old.id seat.old.sitter link.ptr (if_unset new.ptr) (M.then seat.old.sitter) }
+        requires sits { Sits seat.old self.now }
+        requires there { InBlock link.ptr }
+        requires allows { AllowsLink (P.holds self.now.key) seat.old.id seat.old.sitter link.ptr (if_unset new.ptr) (M.then seat.old.sitter) }
         ensures { Same seat.new seat.old × Testable result.ptr × M.then seat.old.sitter result.ptr seat.new.sitter }
     {
         self.operate_link::<M>(seat, link, LinkOperation::Install, new)
@@ -231,7 +254,9 @@ impl<S, V, K, P: WebRule<S, V, K>, A: Allocator> Web<S, V, K, P, A> {
     /// Cuts a seat's view in two, and makes a seat with the second.
     #[inline(always)]
     pub fn split<M: Split<V>>(&self, seat: &mut Seat<S, V, A>, link: BlockPtr<S>) -> Seat<S, V, A>
-        requires { Sits seat.old self.now × InBlock link.ptr × CanFork (P.holds self.now.key) link.ptr seat.old.id seat.old.sitter.view (M.left seat.old.sitter.view) (M.right seat.old.sitter.view) }
+        requires sits { Sits seat.old self.now }
+        requires there { InBlock link.ptr }
+        requires forks { CanFork (P.holds self.now.key) link.ptr seat.old.id seat.old.sitter.view (M.left seat.old.sitter.view) (M.right seat.old.sitter.view) }
         ensures old { Same seat.new seat.old × (seat.new.sitter ≡ sitter (M.left seat.old.sitter.view) seat.old.sitter.hand seat.old.sitter.spare) }
         ensures new { (result.web ≡ seat.old.web) × (result.heap ≡ seat.old.heap) × (result.sitter ≡ sitter (M.right seat.old.sitter.view) None None) }
     {
@@ -249,7 +274,10 @@ impl<S, V, K, P: WebRule<S, V, K>, A: Allocator> Web<S, V, K, P, A> {
         other: &mut Seat<S, V, A>,
         link: BlockPtr<S>,
     )
-        requires { Sits seat.old self.now × Sits other.old self.now × InBlock link.ptr × CanMerge (P.holds self.now.key) link.ptr seat.old.id seat.old.sitter.view other.old.id other.old.sitter.view (M.both seat.old.sitter.view other.old.sitter.view) M.spent }
+        requires sits { Sits seat.old self.now }
+        requires other { Sits other.old self.now }
+        requires there { InBlock link.ptr }
+        requires merges { CanMerge (P.holds self.now.key) link.ptr seat.old.id seat.old.sitter.view other.old.id other.old.sitter.view (M.both seat.old.sitter.view other.old.sitter.view) M.spent }
         ensures { Same seat.new seat.old × (seat.new.sitter ≡ sitter (M.both seat.old.sitter.view other.old.sitter.view) seat.old.sitter.hand seat.old.sitter.spare) }
     {
         unsafe { raw::load::<Brand>(&raw const (*link.ptr).words as *const u64, SeqCst) };
@@ -263,7 +291,11 @@ impl<S, V, K, P: WebRule<S, V, K>, A: Allocator> Web<S, V, K, P, A> {
         mut other: Seat<S, V, A>,
         link: BlockPtr<S>,
     )
-        requires { Sits seat.old self.now × Sits other self.now × (other.sitter.hand ≡ None) × (other.sitter.spare ≡ None) × InBlock link.ptr × CanMerge (P.holds self.now.key) link.ptr seat.old.id seat.old.sitter.view other.id other.sitter.view (M.both seat.old.sitter.view other.sitter.view) M.spent }
+        requires sits { Sits seat.old self.now }
+        requires other { Sits other self.now }
+        requires empty { (other.sitter.hand ≡ None) × (other.sitter.spare ≡ None) }
+        requires there { InBlock link.ptr }
+        requires merges { CanMerge (P.holds self.now.key) link.ptr seat.old.id seat.old.sitter.view other.id other.sitter.view (M.both seat.old.sitter.view other.sitter.view) M.spent }
         ensures { Same seat.new seat.old × (seat.new.sitter ≡ sitter (M.both seat.old.sitter.view other.sitter.view) seat.old.sitter.hand seat.old.sitter.spare) }
     {
         self.merge::<M>(seat, &mut other, link);

@@ -90,7 +90,8 @@ impl<T, A: Allocator> ChainWeb<T, A> {
     #[inline(always)]
     fn word(&self, word: Word<Place<T>>) -> (Place<T>, usize)
         requires { (w : SpecWord ℕ) × (word ≡ word_map link_of w) × HasWord w }
-        ensures { (w : SpecWord ℕ) → word ≡ word_map link_of w → HasWord w → (result.0.ptr ≡ word_place self.now.web.key.tail.ptr self.now.web.key.head.ptr w) × (result.1 ≡ word_index w) × InBlock result.0.ptr × (result.1 < SLOTS) }
+        ensures there { InBlock result.0.ptr × (result.1 < SLOTS) }
+        ensures at { (w : SpecWord ℕ) → word ≡ word_map link_of w → (result.0.ptr ≡ word_place self.now.web.key.tail.ptr self.now.web.key.head.ptr w) × (result.1 ≡ word_index w) }
     {
         match word {
             Word::Tail => (self.tail, TAIL),
@@ -104,7 +105,8 @@ impl<T, A: Allocator> ChainWeb<T, A> {
     #[inline(always)]
     fn link(&self, link: Link<Place<T>>) -> Place<T>
         requires { (l : SpecLink ℕ) × (link ≡ link_map link_of l) }
-        ensures { (l : SpecLink ℕ) → link ≡ link_map link_of l → (result.ptr ≡ link_place self.now.web.key.tail.ptr self.now.web.key.head.ptr l) × InBlock result.ptr }
+        ensures there { InBlock result.ptr }
+        ensures at { (l : SpecLink ℕ) → link ≡ link_map link_of l → result.ptr ≡ link_place self.now.web.key.tail.ptr self.now.web.key.head.ptr l }
     {
         match link {
             Link::TailBlock => self.tail,

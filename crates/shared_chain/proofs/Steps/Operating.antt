@@ -1,11 +1,10 @@
 -- The operation of a ready call's step may be done on the chain, and what it answered at run time is what it answered with names.
-use Rattle.std.proofs.Common.{ℕ, ◌+◌, ◌%◌, ◌^◌, ◌<◌, ◌≡◌, ◌∙◌, true, Option, Some, None, List, [], refl, sym, ap, subst}
+use Rattle.std.proofs.Common.{ℕ, ◌+◌, ◌%◌, ◌^◌, ◌≡◌, ◌∙◌, true, Option, Some, None, List, [], refl, sym, ap, subst}
 use denote.RawPtr.{Ptr, InBlock, Testable, null_ptr}
 use Rattle.law_common.specs.Vocabulary.{Word, Link, Op, Touch, Answer, Local}
 use Rattle.mem_blocks.specs.Web.{State, Block, Sitter, Allows, AllowsLink, sitter}
 use Rattle.mem_blocks.specs.declared.block.BlockPtr.{BlockPtr as Place}
 use Rattle.mem_blocks.specs.declared.hub.TheConstants.{TAIL}
-use Rattle.mem_blocks.specs.declared.sizes.TheConstants.{SLOTS}
 use Rattle.shared_parties.specs.declared.known.CallState.{CallState}
 use Rattle.shared_parties.specs.declared.known.InCall.{InCall}
 use Rattle.shared_parties.specs.Calling.{touched_list}
@@ -50,7 +49,7 @@ once_named T w bits = refl
 
 -- where the word of an operation lies
 abbrev Reached : Ptr → Ptr → Op ℕ → Ptr → ℕ → Type 0
-Reached te he a p i = (p ≡ op_place te he a) × (i ≡ word_index (op_word a)) × InBlock p × (i < SLOTS)
+Reached te he a p i = (p ≡ op_place te he a) × (i ≡ word_index (op_word a))
 
 -- a step tells what it told
 allows_as : {S V : Type 0} (holds : State S V → Type 0) (id : ℕ) (m : Sitter S V) (p : Ptr) (i : ℕ) (f : ℕ → ℕ) (P Q : ℕ → Sitter S V → Type 0) → ((n : ℕ) (q : Sitter S V) → P n q → Q n q) → Allows holds id m p i f P → Allows holds id m p i f Q
@@ -60,36 +59,29 @@ module _ {T : Type 0} (m : Sitter T (CallState T)) (o : Op (Place T)) (c : InCal
   pub named : (a : Op (Place T)) → o ≡ a → Named a c.op
   named a is = subst (λ (x : Op (Place T)). Named x c.op) (can.op ∙ is) (named_map T c.op)
 
-  pub may_as : (a : Op ℕ) → c.op ≡ a → MayDo c.local a c.lends
+  may_as : (a : Op ℕ) → c.op ≡ a → MayDo c.local a c.lends
   may_as a is = subst (λ (x : Op ℕ). MayDo c.local x c.lends) is can.may.0
 
   module _ (te he : Ptr) (id : ℕ) where
     -- an operation on a word, which lies here
-    pub may_do : (a : Op ℕ) (p : Ptr) (i : ℕ) → c.op ≡ a → IsWordOp a → Reached te he a p i → InBlock p × (i < SLOTS) × Allows (Rule te he) id m p i (op_makes a) (λ n q. Follows c (answer_for c.op n) q)
-    may_do a p i is word (at, number, lies, low) = (
-      lies,
-      low,
-      subst (λ (z : Ptr × ℕ). Allows (Rule te he) id m z.0 z.1 (op_makes a) (λ n q. Follows c (answer_for c.op n) q)) (λ j. (sym at j, sym number j))
-          (subst (λ (z : Op ℕ). Allows (Rule te he) id m (op_place te he z) (word_index (op_word z)) (op_makes z) (λ n q. Follows c (answer_for c.op n) q)) is
-          (allows_word te he id m c can.ready can.holds (subst IsWordOp (sym is) word))),
-    )
+    pub may_do : (a : Op ℕ) (p : Ptr) (i : ℕ) → c.op ≡ a → IsWordOp a → Reached te he a p i → Allows (Rule te he) id m p i (op_makes a) (λ n q. Follows c (answer_for c.op n) q)
+    may_do a p i is word (at, number) =
+        subst (λ (z : Ptr × ℕ). Allows (Rule te he) id m z.0 z.1 (op_makes a) (λ n q. Follows c (answer_for c.op n) q)) (λ j. (sym at j, sym number j))
+        (subst (λ (z : Op ℕ). Allows (Rule te he) id m (op_place te he z) (word_index (op_word z)) (op_makes z) (λ n q. Follows c (answer_for c.op n) q)) is
+        (allows_word te he id m c can.ready can.holds (subst IsWordOp (sym is) word)))
 
     -- bits that are set once are added
     pub may_add : (w : Word ℕ) (at_run : Word (Place T)) (bits : ℕ) (p : Ptr) (i : ℕ) → c.op ≡ Op.Or w bits → at_run ≡ word_map link_of w → is_set_once at_run bits ≡ true → Reached te he (Op.Or w bits) p i
-        → InBlock p × (i < SLOTS) × ((by : ℕ) → by ≡ bits → Allows (Rule te he) id m p i (λ n. (n + by) % 2 ^ 64) (λ n q. Follows c (answer_for c.op n) q))
-    may_add w at_run bits p i is stands once (at, number, lies, low) = (
-      lies,
-      low,
-      λ by all. subst (λ (z : Ptr × ℕ × ℕ). Allows (Rule te he) id m z.0 z.1 (λ n. (n + z.2) % 2 ^ 64) (λ n q. Follows c (answer_for c.op n) q)) (λ j. (sym at j, sym number j, sym all j))
-          (subst (λ (z : Op ℕ). Allows (Rule te he) id m (op_place te he z) (word_index (op_word z)) (λ n. (n + bits) % 2 ^ 64) (λ n q. Follows c (answer_for c.op n) q)) is
-          (allows_added te he id m c w bits can.ready can.holds is (sym (once_named T w bits) ∙ (ap (λ (z : Word (Place T)). is_set_once z bits) (sym stands) ∙ once)))),
-    )
+        → (by : ℕ) → by ≡ bits → Allows (Rule te he) id m p i (λ n. (n + by) % 2 ^ 64) (λ n q. Follows c (answer_for c.op n) q)
+    may_add w at_run bits p i is stands once (at, number) by all =
+        subst (λ (z : Ptr × ℕ × ℕ). Allows (Rule te he) id m z.0 z.1 (λ n. (n + z.2) % 2 ^ 64) (λ n q. Follows c (answer_for c.op n) q)) (λ j. (sym at j, sym number j, sym all j))
+        (subst (λ (z : Op ℕ). Allows (Rule te he) id m (op_place te he z) (word_index (op_word z)) (λ n. (n + bits) % 2 ^ 64) (λ n q. Follows c (answer_for c.op n) q)) is
+        (allows_added te he id m c w bits can.ready can.holds is (sym (once_named T w bits) ∙ (ap (λ (z : Word (Place T)). is_set_once z bits) (sym stands) ∙ once))))
 
     -- a store tells the same, whatever it found
-    pub may_store : (w : Word ℕ) (x : ℕ) (p : Ptr) (i : ℕ) → c.op ≡ Op.Store w x → Reached te he (Op.Store w x) p i → InBlock p × (i < SLOTS) × Allows (Rule te he) id m p i (λ n. x) (λ n q. Follows c (answer_for c.op x) q)
+    pub may_store : (w : Word ℕ) (x : ℕ) (p : Ptr) (i : ℕ) → c.op ≡ Op.Store w x → Reached te he (Op.Store w x) p i → Allows (Rule te he) id m p i (λ n. x) (λ n q. Follows c (answer_for c.op x) q)
     may_store w x p i is at =
-        let d = may_do (Op.Store w x) p i is tt at in
-        (d.0, d.1, allows_as (Rule te he) id m p i (λ n. x) (λ n q. Follows c (answer_for c.op n) q) (λ n q. Follows c (answer_for c.op x) q) (λ n q. subst (λ (a : Answer ℕ). Follows c a q) (same n)) d.2)
+        allows_as (Rule te he) id m p i (λ n. x) (λ n q. Follows c (answer_for c.op n) q) (λ n q. Follows c (answer_for c.op x) q) (λ n q. subst (λ (a : Answer ℕ). Follows c a q) (same n)) (may_do (Op.Store w x) p i is tt at)
       where
         same : (n : ℕ) → answer_for c.op n ≡ answer_for c.op x
         same n = ap (λ z. answer_for z n) is ∙ sym (ap (λ z. answer_for z x) is)

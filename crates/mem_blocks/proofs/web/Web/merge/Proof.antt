@@ -26,20 +26,20 @@ merge_spec 𝓤 𝓛 𝓜 𝓡 wired S V K P A M _ _ _ _ _ _ g d ga da dd g' d' 
     let b₂ : ℕ = a.1.1.0.ref_ptr.0 in let o₂ : ℕ = a.1.1.0.ref_ptr.1 in let h₂ : Seat.Denot = a.1.1.0.now in let it : Sitter S.Denot V.Denot = h₂.sitter in let p : Ptr = a.1.1.1.0.ptr in
     let both : V.Denot = g'.both m.view it.view in let others : Fml = fsep (flft κs.1.1.1.0 qs.1.1.1.0) (fsep (flft κs.1.1.1.1.0 qs.1.1.1.1.0) (fsep (flft κs.1.1.1.1.1.0 qs.1.1.1.1.1.0) (fsep (flft κs.1.1.1.1.1.1.0 qs.1.1.1.1.1.1.0) (fsep (flft κs.1.1.1.1.1.1.1.0 qs.1.1.1.1.1.1.1.0) (fsep (flft κs.1.1.1.1.1.1.1.1.0 qs.1.1.1.1.1.1.1.1.0) (ftrue)))))) in
     qed 𝓛 (((‵ (flft κs.0 qs.0) ⊛ ‵ (flft κs.1.0 qs.1.0) ⊛ ‵ (flft κs.1.1.0 qs.1.1.0) ⊛ ‵ others) ⊛ ‵ (owns (types_at goal.signature.params κs) a y.0.4)) ∷ raw (fact 𝓤 _) ∷ raw (fact 𝓤 _) ∷ raw (fact 𝓤 _) ∷ raw (fact 𝓤 _) ∷ raw (fact 𝓤 _) ∷ raw (fact 𝓤 _)
-    ∷ given (Sits h t × Sits h₂ t × InBlock p × CanMerge holds p id m.view h₂.id it.view both g'.spent) (‵ ftrue) ∷ []) ∵
-    keep ! (7 ∷ 0 ∷ []) $ learn ! (λ asked. drop ! $ split ! $ split3 ! $ move ! (2 ∷ []) $ split ! $ move ! (4 ∷ []) $ fsplit3 ! $ fsplit ! $ move ! (2 ∷ []) $ fsplit3 ! $ move ! (5 ∷ []) $ fsplit ! $ fsplit3 ! $
+    ∷ (given (Sits h t) (‵ ftrue) ⊛ given (Sits h₂ t) (‵ ftrue) ⊛ given (InBlock p) (‵ ftrue) ⊛ given (CanMerge holds p id m.view h₂.id it.view both g'.spent) (‵ ftrue)) ∷ []) ∵
+    keep ! (7 ∷ 0 ∷ []) $ split3 ! $ learn ! (λ sits. drop ! $ learn ! (λ other. drop ! $ split ! $ learn ! (λ there. drop ! $ learn ! (λ merges. drop ! $ split ! $ split3 ! $ move ! (2 ∷ []) $ split ! $ move ! (4 ∷ []) $ fsplit3 ! $ fsplit ! $ move ! (2 ∷ []) $ fsplit3 ! $ move ! (5 ∷ []) $ fsplit ! $ fsplit3 ! $
     keep ! (8 ∷ 11 ∷ 5 ∷ 6 ∷ 12 ∷ 1 ∷ 2 ∷ 9 ∷ 10 ∷ []) $ unhide ! $ fsplit ! $ drop ! $ fsplit ! $
-    enters_at ! p asked.2 𝓣.C 𝓣.Λ mir (λ u. vptr a.0.ref_ptr.0 a.0.ref_ptr.1 ∷ vptr a.1.0.ref_ptr.0 a.1.0.ref_ptr.1 ∷ vptr a.1.1.0.ref_ptr.0 a.1.1.0.ref_ptr.1 ∷ place_val u ∷ []) Post $ alloc_all ! (λ l. pass_all ! refl ((tt, tt), ((tt, tt), ((tt, tt), ((tt, (tt, tt)), tt)))) $ let locals = env mir.locals l in
-    begins_step ! tt Seat h (tokens_halve 𝓛 α) b' o' (λ (x : WebId × A.Denot). seat_owns R (ga.dealloc_token x.1) code_of.code x.0 id m) (λ j. (asked.0.0 j, asked.0.1 j)) (λ ts. refl) (λ s ts. move ! (9 ∷ 10 ∷ 11 ∷ []) $ opens_ref ! tt Seat h₂ b₂ o₂ (λ us₂. refl) (λ us₂.
-    rewrite ! 0 (λ (x : WebId × A.Denot). ‵ (seat_owns R (ga.dealloc_token x.1) code_of.code x.0 h₂.id it)) (λ j. (asked.1.0 j, asked.1.1 j)) refl $ first ! $ blocks ! $
+    enters_at ! p there 𝓣.C 𝓣.Λ mir (λ u. vptr a.0.ref_ptr.0 a.0.ref_ptr.1 ∷ vptr a.1.0.ref_ptr.0 a.1.0.ref_ptr.1 ∷ vptr a.1.1.0.ref_ptr.0 a.1.1.0.ref_ptr.1 ∷ place_val u ∷ []) Post $ alloc_all ! (λ l. pass_all ! refl ((tt, tt), ((tt, tt), ((tt, tt), ((tt, (tt, tt)), tt)))) $ let locals = env mir.locals l in
+    begins_step ! tt Seat h (tokens_halve 𝓛 α) b' o' (λ (x : WebId × A.Denot). seat_owns R (ga.dealloc_token x.1) code_of.code x.0 id m) (λ j. (sits.0 j, sits.1 j)) (λ ts. refl) (λ s ts. move ! (9 ∷ 10 ∷ 11 ∷ []) $ opens_ref ! tt Seat h₂ b₂ o₂ (λ us₂. refl) (λ us₂.
+    rewrite ! 0 (λ (x : WebId × A.Denot). ‵ (seat_owns R (ga.dealloc_token x.1) code_of.code x.0 h₂.id it)) (λ j. (other.0 j, other.1 j)) refl $ first ! $ blocks ! $
     let e : ℕ = count_of p + 8 in sets ! (addr ! (from ! (fld ! refl (hop ! (look_in_at ! 4 (sub ! 0 refl (all_of_it !))) (fld ! refl (stop !)))))) refl (tt, tt) $ move ! (6 ∷ 0 ∷ []) $ join ! $ move ! (13 ∷ 12 ∷ 0 ∷ []) $
     let out : ℕ → Fml = λ n. fsep (flft α s) (moves.Merged 𝓛 R token code_of holds z s p id m h₂.id it both g'.spent) in
-    use3 𝓛 (raw (𝓣.C _ (vptr (block_of p) e ∷ seq_cst ∷ []) (λ u. mean 𝓛 (found out u)))) (via 𝓤 _ (moves.absorbs 𝓛 R token code_of holds z s p id m h₂.id it both g'.spent asked.3) (loads 𝓛 𝓜 𝓡 (code.calls-std::sync::atomic::raw::load 𝓡.env wired) (block_ptr (block_of p) e) out)) $
+    use3 𝓛 (raw (𝓣.C _ (vptr (block_of p) e ∷ seq_cst ∷ []) (λ u. mean 𝓛 (found out u)))) (via 𝓤 _ (moves.absorbs 𝓛 R token code_of holds z s p id m h₂.id it both g'.spent merges) (loads 𝓛 𝓜 𝓡 (code.calls-std::sync::atomic::raw::load 𝓡.env wired) (block_ptr (block_of p) e) out)) $
     sets ! (agg ! (and_then ! (lit ! tt) (no_more !))) refl (tt, (record { fits = lit< tt }, tt)) $
     Calls-last ! (fm 𝓛 𝓜 𝓡) (found out) (and_then ! (get ! refl) (and_then ! (get ! refl) (no_more !))) (λ u. finds ! out (λ n fits. lands_last ! refl (tt, record { fits = fits }) $ exec ! 𝓣.C 𝓣.Λ locals (after 1 mir.body) (at_ret locals Post) $
     sets ! (of_opd ! (unit_lit !)) refl (tt, tt) $ fsplit ! $ move ! (12 ∷ 0 ∷ []) $ obor_close ! tt $ drop ! $ move ! (1 ∷ []) $ fsplit ! $
     let m' : Sitter S.Denot V.Denot = sitter both m.hand m.spare in let h' : Seat.Denot = record { marker = h.marker; web = z; heap = t.heap; id = id; sitter = m' } in
     let h₃ : Seat.Denot = record { marker = h₂.marker; web = z; heap = t.heap; id = h₂.id; sitter = sitter g'.spent it.hand it.spare } in let Told : Type 0 = Same h' h × (m' ≡ m') in
     move ! (1 ∷ 3 ∷ 4 ∷ 5 ∷ 6 ∷ 7 ∷ []) $ closes_ref ! tt Seat h₃ us₂ b₂ o₂ refl refl $ alone ! 1 $ move ! (2 ∷ 4 ∷ 5 ∷ 6 ∷ 7 ∷ 8 ∷ []) $ closes_ref ! tt Seat h' ts b' o' refl refl $
-    move ! (0 ∷ 2 ∷ []) $ fjoin ! $ nothing ! $ fjoin ! $ move ! (2 ∷ 4 ∷ []) $ join ! $ move ! (2 ∷ 0 ∷ []) $ join ! $ move ! (2 ∷ 0 ∷ []) $ join ! $ tells ! Told ((sym asked.0.0, sym asked.0.1, refl), refl) $ feq_i ! (List Val) (vunit ∷ []) (vunit ∷ []) refl $
-    returns ! (look_at ! 0 refl) $ free_all ! refl $ keep ! (2 ∷ 3 ∷ 0 ∷ 1 ∷ []) $ by ! (leaves 𝓛 goal kept_of c y vunit tt (tt, (h', (h₃, (tt, tt)))) (tt, (tt, (tt, (tt, tt))))))))))))
+    move ! (0 ∷ 2 ∷ []) $ fjoin ! $ nothing ! $ fjoin ! $ move ! (2 ∷ 4 ∷ []) $ join ! $ move ! (2 ∷ 0 ∷ []) $ join ! $ move ! (2 ∷ 0 ∷ []) $ join ! $ tells ! Told ((sym sits.0, sym sits.1, refl), refl) $ feq_i ! (List Val) (vunit ∷ []) (vunit ∷ []) refl $
+    returns ! (look_at ! 0 refl) $ free_all ! refl $ keep ! (2 ∷ 3 ∷ 0 ∷ 1 ∷ []) $ by ! (leaves 𝓛 goal kept_of c y vunit tt (tt, (h', (h₃, (tt, tt)))) (tt, (tt, (tt, (tt, tt)))))))))))))))

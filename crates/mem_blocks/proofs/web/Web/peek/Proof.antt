@@ -22,17 +22,17 @@ peek_spec 𝓤 𝓛 𝓜 𝓡 wired S V K P A _ _ _ _ _ g d ga da dd _ _ _ =
     let y : (walk_of 𝓛 goal kept_of c).Ghost = ((κs, qs, bounds, a, (vptr a.0.ref_ptr.0 a.0.ref_ptr.1 ∷ [], (place_val a.1.0.ptr ∷ [], (vint w64 a.1.1.0 ∷ [], tt)))), ghost) in let Post : Val → SProp 𝓤 = (walk_of 𝓛 goal kept_of c).post y in
     let t : Web.Denot = a.0.now in let z : WebId = t.id in let α : Lft = age z in let token : Ty → Ptr → Fml = ga.dealloc_token t.heap in let holds = g.holds t.key in let p : Ptr = a.1.0.ptr in let i : ℕ = a.1.1.0 in
     let others : Fml = fsep (flft κs.1.0 qs.1.0) (fsep (flft κs.1.1.0 qs.1.1.0) (fsep (flft κs.1.1.1.0 qs.1.1.1.0) (fsep (flft κs.1.1.1.1.0 qs.1.1.1.1.0) (fsep (flft κs.1.1.1.1.1.0 qs.1.1.1.1.1.0) (ftrue))))) in
-    qed 𝓛 (((‵ (flft κs.0 qs.0) ⊛ ‵ others) ⊛ ‵ (owns (types_at goal.signature.params κs) a y.0.4)) ∷ raw (fact 𝓤 _) ∷ raw (fact 𝓤 _) ∷ raw (fact 𝓤 _) ∷ raw (fact 𝓤 _) ∷ raw (fact 𝓤 _) ∷ given (InBlock p × (i < SLOTS) × StaysIn holds p) (‵ ftrue) ∷ []) ∵
-    keep ! (6 ∷ 0 ∷ []) $ learn ! (λ asked. drop ! $ split ! $ split ! $ move ! (2 ∷ []) $ fsplit ! $ fsplit ! $ drop ! $ unhide ! $ fsplit3 ! $ drop ! $ move ! (2 ∷ []) $ drop ! $
+    qed 𝓛 (((‵ (flft κs.0 qs.0) ⊛ ‵ others) ⊛ ‵ (owns (types_at goal.signature.params κs) a y.0.4)) ∷ raw (fact 𝓤 _) ∷ raw (fact 𝓤 _) ∷ raw (fact 𝓤 _) ∷ raw (fact 𝓤 _) ∷ raw (fact 𝓤 _) ∷ (given (InBlock p × (i < SLOTS)) (‵ ftrue) ⊛ given (StaysIn holds p) (‵ ftrue)) ∷ []) ∵
+    keep ! (6 ∷ 0 ∷ []) $ split ! $ learn ! (λ there. drop ! $ learn ! (λ stays. drop ! $ split ! $ split ! $ move ! (2 ∷ []) $ fsplit ! $ fsplit ! $ drop ! $ unhide ! $ fsplit3 ! $ drop ! $ move ! (2 ∷ []) $ drop ! $
     -- [the web's token, shared; its invariant; the token of the reference; the other tokens]
-    enters_at ! p asked.0 𝓣.C 𝓣.Λ mir (λ u. vptr a.0.ref_ptr.0 a.0.ref_ptr.1 ∷ place_val u ∷ vint w64 a.1.1.0 ∷ []) Post $ alloc_all ! (λ l. pass_all ! refl ((tt, tt), ((tt, (tt, tt)), ((tt, record { fits = are.1.1.0.1 }), tt))) $ let locals = env mir.locals l in
+    enters_at ! p there.0 𝓣.C 𝓣.Λ mir (λ u. vptr a.0.ref_ptr.0 a.0.ref_ptr.1 ∷ place_val u ∷ vint w64 a.1.1.0 ∷ []) Post $ alloc_all ! (λ l. pass_all ! refl ((tt, tt), ((tt, (tt, tt)), ((tt, record { fits = are.1.1.0.1 }), tt))) $ let locals = env mir.locals l in
     move ! (0 ∷ 2 ∷ []) $ shr_bor-open ! tt (tokens_halve 𝓛 α) (λ s. first ! $ blocks ! $
-    let small : i * 8 < 2 ^ 64 = (let near = asked.1 in omega arith) in let e : ℕ = i * 8 + (count_of p + 8) in sets ! (addr ! (from ! (fld ! refl (hop ! (look_in_at ! 2 (sub ! 0 refl (all_of_it !))) (fld ! refl (stop !)))))) refl (tt, tt) $
+    let small : i * 8 < 2 ^ 64 = (let near = there.1 in omega arith) in let e : ℕ = i * 8 + (count_of p + 8) in sets ! (addr ! (from ! (fld ! refl (hop ! (look_in_at ! 2 (sub ! 0 refl (all_of_it !))) (fld ! refl (stop !)))))) refl (tt, tt) $
     sets ! (bin ! (get ! refl) (lit ! tt) (record { fits = small })) refl (tt, record { fits = small }) $ sets ! (bin ! (get ! refl) (get ! refl) tt) refl (tt, tt) $ nothing ! $ move ! (3 ∷ 2 ∷ 0 ∷ []) $ let out : ℕ → Fml = λ n. fsep (flft α s) ftrue in
-    use3 𝓛 (raw (𝓣.C _ (vptr (block_of p) e ∷ seq_cst ∷ []) (λ u. mean 𝓛 (found out u)))) (via 𝓤 _ (moves.peeks 𝓛 R token code_of holds z s p i asked.1 asked.2) (loads 𝓛 𝓜 𝓡 (code.calls-std::sync::atomic::raw::load 𝓡.env wired) (block_ptr (block_of p) e) out)) $
+    use3 𝓛 (raw (𝓣.C _ (vptr (block_of p) e ∷ seq_cst ∷ []) (λ u. mean 𝓛 (found out u)))) (via 𝓤 _ (moves.peeks 𝓛 R token code_of holds z s p i there.1 stays) (loads 𝓛 𝓜 𝓡 (code.calls-std::sync::atomic::raw::load 𝓡.env wired) (block_ptr (block_of p) e) out)) $
     sets ! (agg ! (and_then ! (lit ! tt) (no_more !))) refl (tt, (record { fits = lit< tt }, tt)) $
     Calls-last ! (fm 𝓛 𝓜 𝓡) (found out) (and_then ! (get ! refl) (and_then ! (get ! refl) (no_more !))) (λ u. finds ! out (λ n fits. lands_last ! refl (tt, record { fits = fits }) $ exec ! 𝓣.C 𝓣.Λ locals (after 1 mir.body) (at_ret locals Post) $
     sets ! (of_opd ! (get ! refl)) refl (tt, record { fits = fits }) $ fsplit ! $ move ! (2 ∷ 0 ∷ []) $ obor_close ! tt $ drop ! $ nothing ! $ nothing ! $ fjoin ! $ nothing ! $ fjoin ! $ nothing ! $ fjoin ! $
     -- [what is left of the parameters; the token of the reference; nothing; the other tokens]
     move ! (1 ∷ 3 ∷ []) $ join ! $ nothing ! $ numbers ! n fits $
-    returns ! (look_at ! 0 refl) $ free_all ! refl $ keep ! (2 ∷ 3 ∷ 0 ∷ 1 ∷ []) $ by ! (leaves 𝓛 goal kept_of c y (vint w64 n) n (tt, (tt, (tt, tt))) (tt, (tt, (tt, tt))))))))))
+    returns ! (look_at ! 0 refl) $ free_all ! refl $ keep ! (2 ∷ 3 ∷ 0 ∷ 1 ∷ []) $ by ! (leaves 𝓛 goal kept_of c y (vint w64 n) n (tt, (tt, (tt, tt))) (tt, (tt, (tt, tt)))))))))))

@@ -1,5 +1,5 @@
 -- `split` is one load, by which the seat's view is cut in two.
-use Rattle.mem_blocks.proofs.Walks.{◌≡◌, ℕ, ◌+◌, [], ◌∷◌, sym, refl, lit<, None, Ty, a_type, dcons, dnil, named, Val, vptr, inst_fn, Coded, SProp, via, Lft, Fml, ftrue, fsep, fex, flft, mean, ‵, raw, ◌⊛◌, given, at_ret, ◌$◌, ◌∵◌, !, qed, by, move, keep, drop, use3, join, learn, stop, from, fld, hop, addr, lit, no_more, and_then, first, blocks, exec, Calls-last, returns, alloc_all, pass_all, free_all, look_at, look_in_at, get, sets, lands_last, env, agg, sub, all_of_it, tokens_halve, tables, fact, yes, no, RattleType, owns, types_at, plain, Ptr, block_ptr, block_of, count_of, InBlock, param, bounded, RefOf, mut_vals, mut_Tells, shr_vals, shr_Tells, Tuple, Stays, stay_dropped, stay_ref, walk_of, Goes-dropped, Goes-ref, proved, leaves, fm, seq_cst, found, finds, loads, Sitter, sitter, CanFork, Sits, Same, WebId, age, seat_owns, after, blank_val, place_val, place_told, begins_step, tells, blank, takes_step, ends_step, enters_at}
+use Rattle.mem_blocks.proofs.Walks.{◌≡◌, ℕ, ◌+◌, [], ◌∷◌, sym, refl, lit<, None, Ty, a_type, dcons, dnil, named, Val, vptr, inst_fn, Coded, SProp, via, Lft, Fml, ftrue, fsep, fex, flft, mean, ‵, raw, ◌⊛◌, given, at_ret, ◌$◌, ◌∵◌, !, qed, by, move, keep, drop, use3, join, split3, learn, stop, from, fld, hop, addr, lit, no_more, and_then, first, blocks, exec, Calls-last, returns, alloc_all, pass_all, free_all, look_at, look_in_at, get, sets, lands_last, env, agg, sub, all_of_it, tokens_halve, tables, fact, yes, no, RattleType, owns, types_at, plain, Ptr, block_ptr, block_of, count_of, InBlock, param, bounded, RefOf, mut_vals, mut_Tells, shr_vals, shr_Tells, Tuple, Stays, stay_dropped, stay_ref, walk_of, Goes-dropped, Goes-ref, proved, leaves, fm, seq_cst, found, finds, loads, Sitter, sitter, CanFork, Sits, Same, WebId, age, seat_owns, after, blank_val, place_val, place_told, begins_step, tells, blank, takes_step, ends_step, enters_at}
 use Rattle.mem_blocks.specs.contracts.block.BlockPtr as link
 use Rattle.mem_blocks.specs.contracts.web.Web as web
 use Rattle.mem_blocks.specs.contracts.web.Seat as seat
@@ -24,17 +24,17 @@ split_spec 𝓤 𝓛 𝓜 𝓡 wired S V K P A M _ _ _ _ _ _ g d ga da dd g' d' 
     let κ : Lft = κs.0 in let t : Web.Denot = a.0.now in let z : WebId = t.id in let α : Lft = age z in let token : Ty → Ptr → Fml = ga.dealloc_token t.heap in let holds = g.holds t.key in
     let b' : ℕ = a.1.0.ref_ptr.0 in let o' : ℕ = a.1.0.ref_ptr.1 in let h : Seat.Denot = a.1.0.now in let id : ℕ = h.id in let m : Sitter S.Denot V.Denot = h.sitter in let p : Ptr = a.1.1.0.ptr in
     let l₁ : V.Denot = g'.left m.view in let r₁ : V.Denot = g'.right m.view in let others : Fml = fsep (flft κs.1.1.0 qs.1.1.0) (fsep (flft κs.1.1.1.0 qs.1.1.1.0) (fsep (flft κs.1.1.1.1.0 qs.1.1.1.1.0) (fsep (flft κs.1.1.1.1.1.0 qs.1.1.1.1.1.0) (fsep (flft κs.1.1.1.1.1.1.0 qs.1.1.1.1.1.1.0) (fsep (flft κs.1.1.1.1.1.1.1.0 qs.1.1.1.1.1.1.1.0) (ftrue)))))) in
-    qed 𝓛 (((‵ (flft κs.0 qs.0) ⊛ ‵ (flft κs.1.0 qs.1.0) ⊛ ‵ others) ⊛ ‵ (owns (types_at goal.signature.params κs) a y.0.4)) ∷ raw (fact 𝓤 _) ∷ raw (fact 𝓤 _) ∷ raw (fact 𝓤 _) ∷ raw (fact 𝓤 _) ∷ raw (fact 𝓤 _) ∷ raw (fact 𝓤 _) ∷ given (Sits h t × InBlock p × CanFork holds p id m.view l₁ r₁) (‵ ftrue) ∷ []) ∵
-    keep ! (7 ∷ 0 ∷ []) $ learn ! (λ asked. drop ! $ takes_step ! $
-    enters_at ! p asked.1 𝓣.C 𝓣.Λ mir (λ u. vptr a.0.ref_ptr.0 a.0.ref_ptr.1 ∷ vptr a.1.0.ref_ptr.0 a.1.0.ref_ptr.1 ∷ place_val u ∷ []) Post $ alloc_all ! (λ l. pass_all ! refl ((tt, tt), ((tt, tt), ((tt, (tt, tt)), tt))) $ let locals = env mir.locals l in
-    begins_step ! tt Seat h (tokens_halve 𝓛 α) b' o' (λ (x : WebId × A.Denot). seat_owns R (ga.dealloc_token x.1) code_of.code x.0 id m) (λ j. (asked.0.0 j, asked.0.1 j)) (λ ts. refl) (λ s ts. first ! $ blocks ! $
+    qed 𝓛 (((‵ (flft κs.0 qs.0) ⊛ ‵ (flft κs.1.0 qs.1.0) ⊛ ‵ others) ⊛ ‵ (owns (types_at goal.signature.params κs) a y.0.4)) ∷ raw (fact 𝓤 _) ∷ raw (fact 𝓤 _) ∷ raw (fact 𝓤 _) ∷ raw (fact 𝓤 _) ∷ raw (fact 𝓤 _) ∷ raw (fact 𝓤 _) ∷ (given (Sits h t) (‵ ftrue) ⊛ given (InBlock p) (‵ ftrue) ⊛ given (CanFork holds p id m.view l₁ r₁) (‵ ftrue)) ∷ []) ∵
+    keep ! (7 ∷ 0 ∷ []) $ split3 ! $ learn ! (λ sits. drop ! $ learn ! (λ there. drop ! $ learn ! (λ forks. drop ! $ takes_step ! $
+    enters_at ! p there 𝓣.C 𝓣.Λ mir (λ u. vptr a.0.ref_ptr.0 a.0.ref_ptr.1 ∷ vptr a.1.0.ref_ptr.0 a.1.0.ref_ptr.1 ∷ place_val u ∷ []) Post $ alloc_all ! (λ l. pass_all ! refl ((tt, tt), ((tt, tt), ((tt, (tt, tt)), tt))) $ let locals = env mir.locals l in
+    begins_step ! tt Seat h (tokens_halve 𝓛 α) b' o' (λ (x : WebId × A.Denot). seat_owns R (ga.dealloc_token x.1) code_of.code x.0 id m) (λ j. (sits.0 j, sits.1 j)) (λ ts. refl) (λ s ts. first ! $ blocks ! $
     let e : ℕ = count_of p + 8 in sets ! (addr ! (from ! (fld ! refl (hop ! (look_in_at ! 3 (sub ! 0 refl (all_of_it !))) (fld ! refl (stop !)))))) refl (tt, tt) $
     move ! (8 ∷ 7 ∷ 0 ∷ []) $ let Two : ℕ → Fml = moves.Two 𝓛 R token code_of holds z s p id m l₁ r₁ in let out : ℕ → Fml = λ n. fsep (flft α s) (fex ℕ Two) in
-    use3 𝓛 (raw (𝓣.C _ (vptr (block_of p) e ∷ seq_cst ∷ []) (λ u. mean 𝓛 (found out u)))) (via 𝓤 _ (moves.forks 𝓛 R token code_of holds z s p id m l₁ r₁ asked.2) (loads 𝓛 𝓜 𝓡 (code.calls-std::sync::atomic::raw::load 𝓡.env wired) (block_ptr (block_of p) e) out)) $
+    use3 𝓛 (raw (𝓣.C _ (vptr (block_of p) e ∷ seq_cst ∷ []) (λ u. mean 𝓛 (found out u)))) (via 𝓤 _ (moves.forks 𝓛 R token code_of holds z s p id m l₁ r₁ forks) (loads 𝓛 𝓜 𝓡 (code.calls-std::sync::atomic::raw::load 𝓡.env wired) (block_ptr (block_of p) e) out)) $
     sets ! (agg ! (and_then ! (lit ! tt) (no_more !))) refl (tt, (record { fits = lit< tt }, tt)) $
     Calls-last ! (fm 𝓛 𝓜 𝓡) (found out) (and_then ! (get ! refl) (and_then ! (get ! refl) (no_more !))) (λ u. finds ! out (λ n fits. lands_last ! refl (tt, record { fits = fits }) $ exec ! 𝓣.C 𝓣.Λ locals (after 1 mir.body) (at_ret locals Post) $
     sets ! (agg ! (no_more !)) refl (tt, tt) $ sets ! (agg ! (and_then ! (get ! refl) (no_more !))) refl (tt, (tt, tt)) $
     let m' : Sitter S.Denot V.Denot = sitter l₁ m.hand m.spare in let h' : Seat.Denot = record { marker = h.marker; web = z; heap = t.heap; id = id; sitter = m' } in ends_step ! tt Seat b' o' ts 1 (λ _. h') (λ j. refl) (λ j.
     let new : Seat.Denot = record { marker = record {}; web = z; heap = t.heap; id = j; sitter = sitter r₁ None None } in blank ! (Tuple (R ∷ W ∷ Z ∷ [])) $
-    tells ! ((z ≡ h.web) × (t.heap ≡ h.heap) × (new.sitter ≡ new.sitter)) (sym asked.0.0, sym asked.0.1, refl) $ tells ! (Same h' h × (m' ≡ m')) ((sym asked.0.0, sym asked.0.1, refl), refl) $ join ! $
-    returns ! (look_at ! 0 refl) $ free_all ! refl $ keep ! (2 ∷ 3 ∷ 1 ∷ 0 ∷ []) $ by ! (leaves 𝓛 goal kept_of c y blank_val new (tt, (h', (tt, tt))) (tt, (tt, (tt, tt)))))))))))
+    tells ! ((z ≡ h.web) × (t.heap ≡ h.heap) × (new.sitter ≡ new.sitter)) (sym sits.0, sym sits.1, refl) $ tells ! (Same h' h × (m' ≡ m')) ((sym sits.0, sym sits.1, refl), refl) $ join ! $
+    returns ! (look_at ! 0 refl) $ free_all ! refl $ keep ! (2 ∷ 3 ∷ 1 ∷ 0 ∷ []) $ by ! (leaves 𝓛 goal kept_of c y blank_val new (tt, (h', (tt, tt))) (tt, (tt, (tt, tt)))))))))))))

@@ -1,32 +1,32 @@
-use Rattle.std.proofs.Common.{rules, lit<, ◌≡◌, ◌∙◌, ap, sym, subst}
+use Rattle.std.proofs.Common.{rules, ◌≡◌, ◌∙◌, ap, sym, subst}
 use Rattle.shared_parties.specs.declared.count.Change.TheVariants as change
 use Rattle.shared_parties.specs.PartyCount.{MayAct}
 use Rattle.shared_chain.proofs.Crowds.{recounts}
 use Rattle.shared_chain.proofs.parties.ChainWebPartyCountRestedCallState.act.Goals as goal
 
-pub fetch_add-found-requires : goal.fetch_add-found-requires
-fetch_add-found-requires g c =
+pub fetch_add-found-requires-clause-allows : goal.fetch_add-found-requires-clause-allows
+fetch_add-found-requires-clause-allows g c =
     let w = c.args.self.now in let s = c.take-seat.result in let told = g.M.CountAct.tells in
     let tail : w.tail.ptr ≡ w.web.key.tail.ptr = search rules in
     let known = ap (λ m. m.view) c.take-seat.ensures.seat.3 in
     let asked = subst (λ z. MayAct z told c.args.party.now.id c.args.party.now.view) (sym c.change.ensures ∙ c.in-Raise.is) c.requires.1 in
     let may = subst (λ i. MayAct change.Raise told i s.sitter.view) (sym c.take-seat.ensures.seat.2) (subst (λ d. MayAct change.Raise told c.args.party.now.id d) (sym known) asked) in
-    (search rules, search rules, lit< tt, recounts w.web.key.tail.ptr w.web.key.head.ptr s.id s.sitter w.tail.ptr change.Raise told tail may)
+    recounts w.web.key.tail.ptr w.web.key.head.ptr s.id s.sitter w.tail.ptr change.Raise told tail may
 
-pub fetch_sub-found-requires : goal.fetch_sub-found-requires
-fetch_sub-found-requires g c =
+pub fetch_sub-found-requires-clause-allows : goal.fetch_sub-found-requires-clause-allows
+fetch_sub-found-requires-clause-allows g c =
     let w = c.args.self.now in let s = c.take-seat.result in let told = g.M.CountAct.tells in
     let tail : w.tail.ptr ≡ w.web.key.tail.ptr = search rules in
     let known = ap (λ m. m.view) c.take-seat.ensures.seat.3 in
     let asked = subst (λ z. MayAct z told c.args.party.now.id c.args.party.now.view) (sym c.change.ensures ∙ c.in-Lower.is) c.requires.1 in
     let may = subst (λ i. MayAct change.Lower told i s.sitter.view) (sym c.take-seat.ensures.seat.2) (subst (λ d. MayAct change.Lower told c.args.party.now.id d) (sym known) asked) in
-    (search rules, search rules, lit< tt, recounts w.web.key.tail.ptr w.web.key.head.ptr s.id s.sitter w.tail.ptr change.Lower told tail may)
+    recounts w.web.key.tail.ptr w.web.key.head.ptr s.id s.sitter w.tail.ptr change.Lower told tail may
 
-pub load-found-requires : goal.load-found-requires
-load-found-requires g c =
+pub load-found-requires-clause-allows : goal.load-found-requires-clause-allows
+load-found-requires-clause-allows g c =
     let w = c.args.self.now in let s = c.take-seat.result in let told = g.M.CountAct.tells in
     let tail : w.tail.ptr ≡ w.web.key.tail.ptr = search rules in
     let known = ap (λ m. m.view) c.take-seat.ensures.seat.3 in
     let asked = subst (λ z. MayAct z told c.args.party.now.id c.args.party.now.view) (sym c.change.ensures ∙ c.in-Look.is) c.requires.1 in
     let may = subst (λ i. MayAct change.Look told i s.sitter.view) (sym c.take-seat.ensures.seat.2) (subst (λ d. MayAct change.Look told c.args.party.now.id d) (sym known) asked) in
-    (search rules, search rules, lit< tt, recounts w.web.key.tail.ptr w.web.key.head.ptr s.id s.sitter w.tail.ptr change.Look told tail may)
+    recounts w.web.key.tail.ptr w.web.key.head.ptr s.id s.sitter w.tail.ptr change.Look told tail may

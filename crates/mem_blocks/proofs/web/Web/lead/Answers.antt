@@ -1,5 +1,0 @@
-use Rattle.std.proofs.Common.{rules, tests}
-use Rattle.mem_blocks.proofs.web.Web.lead.Goals as goal
-
-pub operate_link-requires : goal.operate_link-requires
-operate_link-requires g c = search (rules, tests)
