@@ -8,7 +8,7 @@ ghost use Rattle.shared_parties.specs.CallsAt.{Ready};
 
 use crate::clauses::{compare_exchange, fetch_add, fetch_or, fetch_sub, load, store};
 use crate::touching::touch;
-use atomic_table::{Play, Seat, Table, TableRule};
+use atomic_table::{Play, Seat, Shared, Table, TableRule};
 use call_driver::site::{SharedSite, Site};
 use call_steps::KindSteps;
 use queue_steps::model::CallKind;
@@ -105,54 +105,54 @@ impl<T, K: TableSteps<T>, A: Allocator> SharedTable<T, K, A> {
     {
         self.slots
     }
+}
 
-    /// The operation of a step, whose slot was touched. Of which call it is the caller says, by its kind and by where it waits.
-    #[inline(always)]
-    fn operate<J: CallTag<T>>(
-        &self,
-        seat: &mut Seat<Option<T>, CallState<T>>,
-        call: &CallKind,
-        local: &Local<usize>,
-        touched: Touch,
-        op: Op<usize>,
-        left: &Option<T>,
-    ) -> Answer<usize>
-        requires table { seat.old.table_id ≡ self.now.table.shared.table_id }
-        requires ready { Ready (K.layout self.now.table.shared.table_id.slots).calls seat.old.me.0 J.call × (seat.old.me.1 ≡ touched_list J.call.touch J.call.carried J.call.lends) }
-        requires op { (J.call.op ≡ op) × InTable (K.layout self.now.table.shared.table_id.slots) op }
-        ensures same { (seat.new.table_id ≡ seat.old.table_id) × (seat.new.id ≡ seat.old.id) }
-        ensures did { (n : _) × (result ≡ answer_for op n) × Follows (K.layout self.now.table.shared.table_id.slots) J.call n seat.new.me }
-    {
-        let _ = call;
-        let _ = local;
-        let _ = touched;
-        let _ = left;
-        let table = &self.table.shared;
-        match op {
-            Op::Load(word) => Answer::Found(load::<_, _, Steps<K, J>>(table, seat, K::place(word))),
-            Op::Store(word, new) => {
-                store::<_, _, Steps<K, J>>(table, seat, K::place(word), new);
-                Answer::Done
-            }
-            Op::Add(word, by) => {
-                Answer::Found(fetch_add::<_, _, Steps<K, J>>(table, seat, K::place(word), by))
-            }
-            Op::Or(word, bits) => {
-                Answer::Found(fetch_or::<_, _, Steps<K, J>>(table, seat, K::place(word), bits))
-            }
-            // The bits that go are all in the word, so one instruction subtracts them.
-            Op::And(word, bits) => {
-                Answer::Found(fetch_sub::<_, _, Steps<K, J>>(table, seat, K::place(word), !bits))
-            }
-            Op::Exchange(word, old, new) => Answer::Found(compare_exchange::<_, _, Steps<K, J>>(
-                table,
-                seat,
-                K::place(word),
-                old,
-                new,
-            )),
-            _ => unreachable!(),
+/// The operation of a step, whose slot was touched. Of which call it is the caller says, by its kind and by where it waits.
+#[inline(always)]
+fn operate<T, K: TableSteps<T>, J: CallTag<T>>(
+    table: &Shared<Option<T>, CallState<T>, usize, RuleOf<K>>,
+    seat: &mut Seat<Option<T>, CallState<T>>,
+    call: &CallKind,
+    local: &Local<usize>,
+    touched: Touch,
+    op: Op<usize>,
+    left: &Option<T>,
+) -> Answer<usize>
+    requires table { seat.old.table_id ≡ table.now.table_id }
+    requires sized { (table.now.table_id.words ≡ K.words table.now.table_id.slots) × (table.now.key ≡ table.now.table_id.slots) × (K.least ≤ table.now.table_id.slots) × (table.now.table_id.slots ≤ K.most) }
+    requires ready { Ready (K.layout table.now.table_id.slots).calls seat.old.me.0 J.call × (seat.old.me.1 ≡ touched_list J.call.touch J.call.carried J.call.lends) }
+    requires op { (J.call.op ≡ op) × InTable (K.layout table.now.table_id.slots) op }
+    ensures same { (seat.new.table_id ≡ seat.old.table_id) × (seat.new.id ≡ seat.old.id) }
+    ensures did { (n : _) × (result ≡ answer_for op n) × Follows (K.layout table.now.table_id.slots) J.call n seat.new.me }
+{
+    let _ = call;
+    let _ = local;
+    let _ = touched;
+    let _ = left;
+    match op {
+        Op::Load(word) => Answer::Found(load::<_, _, Steps<K, J>>(table, seat, K::place(word))),
+        Op::Store(word, new) => {
+            store::<_, _, Steps<K, J>>(table, seat, K::place(word), new);
+            Answer::Done
         }
+        Op::Add(word, by) => {
+            Answer::Found(fetch_add::<_, _, Steps<K, J>>(table, seat, K::place(word), by))
+        }
+        Op::Or(word, bits) => {
+            Answer::Found(fetch_or::<_, _, Steps<K, J>>(table, seat, K::place(word), bits))
+        }
+        // The bits that go are all in the word, so one instruction subtracts them.
+        Op::And(word, bits) => {
+            Answer::Found(fetch_sub::<_, _, Steps<K, J>>(table, seat, K::place(word), !bits))
+        }
+        Op::Exchange(word, old, new) => Answer::Found(compare_exchange::<_, _, Steps<K, J>>(
+            table,
+            seat,
+            K::place(word),
+            old,
+            new,
+        )),
+        _ => unreachable!(),
     }
 }
 
@@ -215,7 +215,7 @@ impl<T, K: TableSteps<T>, A: Allocator> Site for SharedTable<T, K, A> {
         ensures { TableDoes K.layout queue.now.table.shared.table_id (seat.old.table_id, seat.old.me) call.now local.now todo op carried.old result (seat.new.table_id, seat.new.me) carried.new }
     {
         touch(&queue.table.shared, seat, todo, carried);
-        queue.operate::<Brand>(seat, call, local, todo, op, carried)
+        operate::<T, K, Brand>(&queue.table.shared, seat, call, local, todo, op, carried)
     }
 
     /// No reply has a block, so nothing is done.
