@@ -1,4 +1,4 @@
-use Rattle.std.proofs.Common.{◌≡◌, ◌-◌, ◌∙◌, true, false, subst}
+use Rattle.std.proofs.Common.{◌≡◌, ◌-◌, ◌∙◌, true, false, subst, sym}
 use Rattle.law_common.specs.Vocabulary.{SOLO_STEPS}
 use Rattle.shared_calls.specs.Settling.{MayWait}
 use Rattle.shared_site.specs.Halts.{next_at}
@@ -10,6 +10,11 @@ carry_on-requires-clause-left g c = let (call, is, first, at) = c.requires.left 
 
 pub returns-in-Break : goal.returns-in-Break
 returns-in-Break g c = λ call first at. c.in-Break.ensures call first at
+
+pub settle-requires-clause-kind : goal.settle-requires-clause-kind
+settle-requires-clause-kind g c =
+    let t = c.args.table.now.table.shared.table_id in let (call, is, first, at) = c.requires.left in
+    subst (λ k. g.K.Steps.KindSteps.has_kind k) (sym (c.in-Continue.ensures call first at).0.0.0) (g.met.K.TableSteps.steps_fit t.slots)
 
 pub settle-requires-clause-stood : goal.settle-requires-clause-stood
 settle-requires-clause-stood g c = let (call, is, first, at) = c.requires.left in (call, first, (c.in-Continue.ensures call first at).0)

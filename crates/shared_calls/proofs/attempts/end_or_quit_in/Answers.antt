@@ -17,6 +17,9 @@ look-requires-clause-calls g c =
     let paused = c.in-Continue.ensures call first at in
     at_call w first c.carry_on.new.seat call c.in-Continue.left paused.0.0.0 paused.0.1 paused.1
 
+pub settle-requires-clause-kind : goal.settle-requires-clause-kind
+settle-requires-clause-kind g c = let (call, push, first, at) = c.requires in (c.in-Continue.ensures call first at).0.0.0
+
 pub settle-requires-clause-stood : goal.settle-requires-clause-stood
 settle-requires-clause-stood g c =
     let w = c.args.queue.now.chain in let (call, push, first, at) = c.requires in

@@ -4,6 +4,12 @@ use Rattle.concurrent_queue.specs.Shared.{form_id}
 use Rattle.concurrent_queue.proofs.TableCalls.{ends_here}
 use Rattle.concurrent_queue.proofs.shared.Form.end_at.Goals as goal
 
+pub run_slow-requires-clause-kind : goal.run_slow-requires-clause-kind
+run_slow-requires-clause-kind g c = let (call, first, h) = c.requires in (h.1 c.in-Single.slot c.in-Single.is).0.0
+
+pub run_slow-requires-in-Ring-clause-kind : goal.run_slow-requires-in-Ring-clause-kind
+run_slow-requires-in-Ring-clause-kind g c = let (call, first, h) = c.requires in (_, (h.2 c.in-Ring.ring c.in-Ring.is).0.0)
+
 pub run_slow-requires-clause-left : goal.run_slow-requires-clause-left
 run_slow-requires-clause-left g c = let (call, first, h) = c.requires in (call, first, h.1 c.in-Single.slot c.in-Single.is)
 
