@@ -13,9 +13,8 @@ ghost use Rattle.shared_calls.specs.Settling.{MayWait};
 ghost use Rattle.shared_calls.specs.Trying.{SomeLeft, EndsOrQuits};
 
 use crate::pausing::{carry_on, settle};
-use crate::waiting::run_fast;
+use crate::waiting::run_usual;
 use atomic_table::Seat;
-use call_driver::fast::Usual;
 use call_driver::gate::Open;
 use call_driver::site::Site;
 use mem_blocks::item::Place;
@@ -108,12 +107,7 @@ pub fn attempt_in<T, A: NullTestable, W>(
     ensures { MatchControlFlow result (λ value. EndedAt party.old calls.Capacity (replies.Capacity None) party.new × (value ≡ call_value call)) (λ answer. EndedAt party.old call answer party.new) }
 {
     let mut asking: Asking<T, A, Granting> = Asking::wake(&queue.chain, party);
-    let told = match run_fast::<Asking<T, A, Granting>, Open, Usual<W>>(
-        queue,
-        &Open,
-        &mut asking,
-        call,
-    ) {
+    let told = match run_usual::<Asking<T, A, Granting>, Open, W>(queue, &Open, &mut asking, call) {
         ControlFlow::Break(answer) => ControlFlow::Break(answer),
         ControlFlow::Continue(left) => retold(end_or_quit_in(queue, &mut asking, left.apart())),
     };

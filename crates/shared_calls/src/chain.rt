@@ -4,9 +4,8 @@ ghost use Rattle.queue_steps.specs.WaitFree.{is_wait_free};
 ghost use Rattle.shared_chain.specs.Turning.{web_of};
 ghost use Rattle.shared_calls.specs.InWeb.{RestsAt, EndedAt};
 
-use crate::waiting::{run_fast, run_slow};
+use crate::waiting::{run_slow, run_usual};
 use call_driver::driver::drive_wait_free;
-use call_driver::fast::Usual;
 use call_driver::gate::Gate;
 use mem_blocks::web::Rested;
 use queue_steps::model::{Call, Reply};
@@ -31,7 +30,7 @@ pub fn answer<T, A: Allocator, Q: Source<T, A>, G: Gate, R: Wait, W>(
     ensures { EndedAt party.old call result party.new }
 {
     let mut asking: Asking<T, A, Q> = Asking::wake(&queue.chain, party);
-    let reply = match run_fast::<Asking<T, A, Q>, G, Usual<W>>(queue, gate, &mut asking, call) {
+    let reply = match run_usual::<Asking<T, A, Q>, G, W>(queue, gate, &mut asking, call) {
         ControlFlow::Break(reply) => reply,
         ControlFlow::Continue(left) => run_slow::<Asking<T, A, Q>, G, R>(
             queue,

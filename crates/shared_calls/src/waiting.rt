@@ -5,7 +5,7 @@ ghost use Rattle.call_driver.specs.OnWay.{CanEnd, EndsRightly};
 ghost use Rattle.shared_calls.specs.Leaving.{IsLeft};
 
 use call_driver::driver::{begin, leave};
-use call_driver::fast::{OfRing, Row};
+use call_driver::fast::{OfRing, Row, Usual};
 use call_driver::gate::Gate;
 use call_driver::progress::Progress;
 use call_driver::retry::{End, retry};
@@ -105,6 +105,20 @@ pub fn run_fast<M: Site, G: Gate, F: Row<M, G>>(
             carried,
         }),
     }
+}
+
+/// The same by the row of a chain. It is a function of its own, since to name the row where the site is known takes the prover long.
+#[inline(always)]
+pub fn run_usual<M: Site, G: Gate, W>(
+    site: &M::Shared,
+    gate: &G,
+    seat: &mut M::Seat,
+    call: Call<M::Item>,
+) -> ControlFlow<Reply<M::Item>, Left<M::Item, M::Block>>
+    requires { M.rests site.now seat.old }
+    ensures { MatchControlFlow result (λ left. IsLeft M.Site site.now seat.old call left seat.new) (λ reply. M.ended site.now seat.old call reply seat.new) }
+{
+    run_fast::<M, G, Usual<W>>(site, gate, seat, call)
 }
 
 /// The calls of `W` once more. It does nothing but tell one copy of a row from the other.

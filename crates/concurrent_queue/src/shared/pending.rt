@@ -1,6 +1,7 @@
 //! Calls that never wait: one that meets another call half done is handed back as it stands, and taken up again later.
 ghost use Rattle.std.specs.Prelude.{◌≡◌, None};
 ghost use Rattle.std.specs.ControlFlow.{MatchControlFlow};
+ghost use Rattle.shared_calls.specs.Pausing.{IsPaused};
 ghost use Rattle.concurrent_queue.specs.Begun.{Begun as SpecBegun};
 ghost use Rattle.concurrent_queue.specs.Calling.{IsHeldAt, HasEnded};
 ghost use Rattle.concurrent_queue.specs.Pending.{StopsHere, begun_with};
@@ -11,8 +12,9 @@ use super::{Begins, Form};
 use crate::party::{Party, SeatPlace};
 use crate::shared::ConcurrentQueue;
 use atomic_table::Seat;
-use call_driver::fast::{OfRing, Row, Short, Usual};
+use call_driver::fast::{Short, Usual};
 use call_driver::gate::Open;
+use call_driver::site::Site;
 use mem_blocks::item::Place;
 use mem_blocks::null_testable::NullTestable;
 use queue_steps::model::{Call, Reply};
@@ -25,8 +27,6 @@ use shared_tables::table::{SharedTable, TableSteps};
 use std::alloc::{Allocator, Global};
 use std::marker::Model;
 use std::ops::ControlFlow;
-use table_kinds::ring::Rings;
-use table_kinds::slot::Slots;
 
 /// Where a call stands that is on its way, with its party's seat.
 pub(crate) enum CallPlace<T, A: Allocator> {
@@ -106,9 +106,28 @@ impl<T, A: Allocator> Pending<T, A> {
     }
 }
 
-/// Sets out on a call at a table of any kind, with its fast steps `F` first.
+/// Sets out on a call, with the short row of fast steps first or the usual one.
 #[inline(always)]
-fn set_out_at<T, K: TableSteps<T>, A: Allocator, F: Row<SharedTable<T, K, A>, Open>>(
+fn set_out_by<M: Site>(
+    is_short: bool,
+    site: &M::Shared,
+    seat: &mut M::Seat,
+    call: Call<M::Item>,
+) -> ControlFlow<Reply<M::Item>, Left<M::Item, M::Block>>
+    requires { M.rests site.now seat.old }
+    ensures { MatchControlFlow result (λ paused. IsPaused M.Site site.now seat.old call paused seat.new) (λ reply. M.ended site.now seat.old call reply seat.new) }
+{
+    if is_short {
+        set_out::<M, Open, Short<Begins>>(site, &Open, seat, call)
+    } else {
+        set_out::<M, Open, Usual<Begins>>(site, &Open, seat, call)
+    }
+}
+
+/// The same at a table of any kind.
+#[inline(always)]
+fn set_out_at<T, K: TableSteps<T>, A: Allocator>(
+    is_short: bool,
     table: &SharedTable<T, K, A>,
     seat: &mut Seat<Option<T>, CallState<T>>,
     call: Call<T>,
@@ -116,7 +135,7 @@ fn set_out_at<T, K: TableSteps<T>, A: Allocator, F: Row<SharedTable<T, K, A>, Op
     requires { IsHeldAt K.layout table.now.table.shared.table_id seat.old }
     ensures { MatchControlFlow result (λ left. StopsHere K.layout table.now.table.shared.table_id seat.new left (begun_with seat.old call)) (λ reply. HasEnded (begun_with seat.old call) reply seat.new) }
 {
-    set_out::<SharedTable<T, K, A>, Open, F>(table, &Open, seat, call)
+    set_out_by::<SharedTable<T, K, A>>(is_short, table, seat, call)
 }
 
 /// Takes up a call at a table of any kind.
@@ -142,7 +161,7 @@ impl<T, A: NullTestable> ConcurrentQueue<T, A> {
     {
         match (&self.form, party.place) {
             (Form::Single(slot), SeatPlace::Table(mut seat)) => {
-                match set_out_at::<T, Slots, A, Short<Begins>>(slot, &mut seat, call) {
+                match set_out_at(true, slot, &mut seat, call) {
                     ControlFlow::Break(reply) => {
                         Outcome::Done(Party::at(SeatPlace::Table(seat)), reply)
                     }
@@ -152,7 +171,7 @@ impl<T, A: NullTestable> ConcurrentQueue<T, A> {
                 }
             }
             (Form::Ring(ring), SeatPlace::Table(mut seat)) => {
-                match set_out_at::<T, Rings, A, OfRing<Begins>>(ring, &mut seat, call) {
+                match set_out_at(false, ring, &mut seat, call) {
                     ControlFlow::Break(reply) => {
                         Outcome::Done(Party::at(SeatPlace::Table(seat)), reply)
                     }
@@ -163,12 +182,7 @@ impl<T, A: NullTestable> ConcurrentQueue<T, A> {
             }
             (Form::Chain(queue), SeatPlace::Web(mut rested)) => {
                 let mut asking: Asking<T, A, Granting> = Asking::wake(&queue.chain, &mut rested);
-                match set_out::<Asking<T, A, Granting>, Open, Usual<Begins>>(
-                    queue,
-                    &Open,
-                    &mut asking,
-                    call,
-                ) {
+                match set_out_by::<Asking<T, A, Granting>>(false, queue, &mut asking, call) {
                     ControlFlow::Break(reply) => {
                         Outcome::Done(Party::at(SeatPlace::Web(asking.rests())), reply)
                     }

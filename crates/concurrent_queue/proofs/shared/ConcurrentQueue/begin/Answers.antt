@@ -57,38 +57,38 @@ returns-in-Ring-Table g c =
     let is_v = subst (λ p. party_view_of p ≡ c.args.party) b.is-1 c.party.view_is in
     c.at-in-Continue-set_out_at.ensures ∙ ((go_there ring_table b.ring.table.shared.table_id c.set_out_at-in-Ring-Table.new.seat c.in-Continue-set_out_at.left _ c.in-Continue-set_out_at.ensures).1 ∙ (λ i. record { party = is_v i; call = c.args.call }))
 
-pub set_out-requires : goal.set_out-requires
-set_out-requires g c =
+pub set_out_by-requires : goal.set_out_by-requires
+set_out_by-requires g c =
     let b = c.in-Chain-Web in let s = c.wake-asking.ensures.seat in
     let rests : RestsAt (web_of b.queue.chain) b.rested = search rules in
     (s.0, wakes_free _ b.rested c.wake-asking.result.seat.sitter rests s.1)
 
-pub at-requires-in-Break-set_out : goal.at-requires-in-Break-set_out
-at-requires-in-Break-set_out g c =
-    let b = c.in-Chain-Web in let s = c.wake-asking.ensures.seat in let d = c.in-Break-set_out.ensures in let out = c.rests.ensures in
+pub at-requires-in-Break-set_out_by : goal.at-requires-in-Break-set_out_by
+at-requires-in-Break-set_out_by g c =
+    let b = c.in-Chain-Web in let s = c.wake-asking.ensures.seat in let d = c.in-Break-set_out_by.ensures in let out = c.rests.ensures in
     let rests : RestsAt (web_of b.queue.chain) b.rested = search rules in
     let none = ap (λ (z : QueueId). z.cap) (c.requires ∙ (sym c.self.view_is ∙ ap form_id b.is-0)) in
-    let ends : EndedAt b.rested c.args.call c.in-Break-set_out.reply c.rests.result =
-    rests_ended b.rested c.rests.result c.wake-asking.result.seat.sitter c.set_out.new.seat.seat.sitter c.args.call c.in-Break-set_out.reply s.1 d.0.1 d.1 out.0 (out.1 ∙ (d.0.0.0 ∙ sym rests.1)) out.2 in
+    let ends : EndedAt b.rested c.args.call c.in-Break-set_out_by.reply c.rests.result =
+    rests_ended b.rested c.rests.result c.wake-asking.result.seat.sitter c.set_out_by.new.seat.seat.sitter c.args.call c.in-Break-set_out_by.reply s.1 d.0.1 d.1 out.0 (out.1 ∙ (d.0.0.0 ∙ sym rests.1)) out.2 in
     (web_ends _ (place.Web c.rests.result) b.rested c.rests.result c.args.party c.args.call _ _ b.is-1 c.party.invariant refl refl c.party.view_is none ends).0
 
-pub returns-in-Break-set_out : goal.returns-in-Break-set_out
-returns-in-Break-set_out g c =
-    let b = c.in-Chain-Web in let s = c.wake-asking.ensures.seat in let d = c.in-Break-set_out.ensures in let out = c.rests.ensures in
+pub returns-in-Break-set_out_by : goal.returns-in-Break-set_out_by
+returns-in-Break-set_out_by g c =
+    let b = c.in-Chain-Web in let s = c.wake-asking.ensures.seat in let d = c.in-Break-set_out_by.ensures in let out = c.rests.ensures in
     let rests : RestsAt (web_of b.queue.chain) b.rested = search rules in
     let none = ap (λ (z : QueueId). z.cap) (c.requires ∙ (sym c.self.view_is ∙ ap form_id b.is-0)) in
-    let ends : EndedAt b.rested c.args.call c.in-Break-set_out.reply c.rests.result =
-    rests_ended b.rested c.rests.result c.wake-asking.result.seat.sitter c.set_out.new.seat.seat.sitter c.args.call c.in-Break-set_out.reply s.1 d.0.1 d.1 out.0 (out.1 ∙ (d.0.0.0 ∙ sym rests.1)) out.2 in
-    subst (λ p. Calls c.args.party c.args.call c.in-Break-set_out.reply p) (sym c.at-in-Break-set_out.ensures)
+    let ends : EndedAt b.rested c.args.call c.in-Break-set_out_by.reply c.rests.result =
+    rests_ended b.rested c.rests.result c.wake-asking.result.seat.sitter c.set_out_by.new.seat.seat.sitter c.args.call c.in-Break-set_out_by.reply s.1 d.0.1 d.1 out.0 (out.1 ∙ (d.0.0.0 ∙ sym rests.1)) out.2 in
+    subst (λ p. Calls c.args.party c.args.call c.in-Break-set_out_by.reply p) (sym c.at-in-Break-set_out_by.ensures)
     (web_ends _ (place.Web c.rests.result) b.rested c.rests.result c.args.party c.args.call _ _ b.is-1 c.party.invariant refl refl c.party.view_is none ends).1
 
-pub at-requires-in-Continue-set_out : goal.at-requires-in-Continue-set_out
-at-requires-in-Continue-set_out g c =
-    let b = c.in-Chain-Web in let e = c.in-Continue-set_out.ensures in
-    (started_in b.queue.chain b.rested _ c.wake-asking.result c.set_out.new.seat c.in-Continue-set_out.left c.args.party c.args.call b.is-1 c.party.invariant c.party.view_is (c.requires ∙ (sym c.self.view_is ∙ ap form_id b.is-0)) c.wake-asking.ensures.seat.1 e.0.0.0 e.0.0.1 e.0.1 e.1).1
+pub at-requires-in-Continue-set_out_by : goal.at-requires-in-Continue-set_out_by
+at-requires-in-Continue-set_out_by g c =
+    let b = c.in-Chain-Web in let e = c.in-Continue-set_out_by.ensures in
+    (started_in b.queue.chain b.rested _ c.wake-asking.result c.set_out_by.new.seat c.in-Continue-set_out_by.left c.args.party c.args.call b.is-1 c.party.invariant c.party.view_is (c.requires ∙ (sym c.self.view_is ∙ ap form_id b.is-0)) c.wake-asking.ensures.seat.1 e.0.0.0 e.0.0.1 e.0.1 e.1).1
 
 pub returns-in-Chain-Web : goal.returns-in-Chain-Web
 returns-in-Chain-Web g c =
-    let b = c.in-Chain-Web in let e = c.in-Continue-set_out.ensures in
-    c.at-in-Continue-set_out.ensures
-    ∙ (started_in b.queue.chain b.rested _ c.wake-asking.result c.set_out.new.seat c.in-Continue-set_out.left c.args.party c.args.call b.is-1 c.party.invariant c.party.view_is (c.requires ∙ (sym c.self.view_is ∙ ap form_id b.is-0)) c.wake-asking.ensures.seat.1 e.0.0.0 e.0.0.1 e.0.1 e.1).2
+    let b = c.in-Chain-Web in let e = c.in-Continue-set_out_by.ensures in
+    c.at-in-Continue-set_out_by.ensures
+    ∙ (started_in b.queue.chain b.rested _ c.wake-asking.result c.set_out_by.new.seat c.in-Continue-set_out_by.left c.args.party c.args.call b.is-1 c.party.invariant c.party.view_is (c.requires ∙ (sym c.self.view_is ∙ ap form_id b.is-0)) c.wake-asking.ensures.seat.1 e.0.0.0 e.0.0.1 e.0.1 e.1).2
