@@ -1,6 +1,6 @@
 //! The driver of a call: it asks for the next step, has it done where such steps are done, and asks again, until the reply.
 //!
-//! A call takes fast steps first, which stand one after another. Any other step leaves for the slow path: the steps of a block's end, and then a loop.
+//! A call takes fast steps first, which stand one after another. Any other step leaves for the slow path: on a chain the steps of a block's end, and then a loop.
 ghost use Rattle.std.specs.Prelude.{◌≡◌, ℕ, suc, true};
 ghost use Rattle.queue_steps.specs.declared.model.Call.{Call as SpecCall};
 ghost use Rattle.queue_steps.specs.declared.sizes.TheConstants.{SOLO_STEPS};
@@ -9,7 +9,7 @@ ghost use Rattle.queue_steps.specs.WaitFree.{is_wait_free};
 ghost use Rattle.call_driver.specs.Apart.{IsCall, FitsCall};
 ghost use Rattle.call_driver.specs.OnWay.{OnWay, CanEnd, EndsRightly, EndsWith};
 
-use crate::fast::{Row, pass_block_end};
+use crate::fast::Row;
 use crate::gate::Gate;
 use crate::progress::Progress;
 use crate::retry::End;
@@ -61,11 +61,7 @@ fn slow_path<M: Site, G: Gate, E: End<M> + Drop>(
     requires can { CanEnd M.Site kind call site.now progress carried.old seat.old }
     ensures { EndsRightly M.Site kind call site.now progress carried.old seat.old carried.new seat.new result }
 {
-    let mut progress = progress;
-    match pass_block_end::<M, G>(site, gate, kind, call, seat, &mut progress, carried) {
-        ControlFlow::Break(reply) => reply,
-        ControlFlow::Continue(()) => end.finish(site, gate, kind, call, seat, progress, carried),
-    }
+    end.finish(site, gate, kind, call, seat, progress, carried)
 }
 
 /// Goes on where no step is known to be common. What the slow path is handed is made here alone, so that the fast steps write none of it. So the carried value goes to a place of its own and back: the slow path never gets the place that the fast steps are lent, and a word stays in a register there.

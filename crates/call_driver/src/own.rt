@@ -9,7 +9,7 @@ use crate::cells::OwnCells;
 use crate::driver::{drive as drive_at, drive_in_loop as drive_in_loop_at};
 use crate::fast::Usual;
 use crate::gate::Open;
-use crate::retry::Within;
+use crate::retry::{OverBlocks, Within};
 use crate::site::{Site, SoloSite};
 use call_steps::KindSteps;
 use queue_steps::model::{Call, CallKind, Reply, ReplyKind};
@@ -108,7 +108,8 @@ pub fn drive<C: OwnCells, W>(
     ensures idle { C.idle cells.new }
     ensures sequential { SequentialApart (C.owned cells.old) call carried.old result carried.new (C.owned cells.new) }
 {
-    drive_at::<Own<C>, Open, Within, Usual<W>>(&(), &Open, Within, cells, call, carried)
+    let end = OverBlocks { then: Within };
+    drive_at::<Own<C>, Open, OverBlocks<Within>, Usual<W>>(&(), &Open, end, cells, call, carried)
 }
 
 /// Runs a call to its end, in the loop alone.

@@ -3,6 +3,7 @@ ghost use Rattle.std.specs.Prelude.{◌≡◌, ℕ, true};
 ghost use Rattle.queue_steps.specs.CommonNext.{is_walk_of};
 ghost use Rattle.call_driver.specs.OnWay.{IsUnderWay, CanEnd, TakesStep, EndsRightly};
 
+use crate::fast::pass_block_end;
 use crate::gate::Gate;
 use crate::progress::Progress;
 use crate::site::{Site, SoloSite};
@@ -84,6 +85,40 @@ pub trait End<M: Site> {
         requires kind { M.Steps.has_kind kind }
         requires can { CanEnd M.Site kind call site.now progress carried.old seat.old }
         ensures { EndsRightly M.Site kind call site.now progress carried.old seat.old carried.new seat.new result };
+}
+
+/// The end of a call where there are blocks: it takes the steps of a block's end first.
+#[derive(Drop)]
+pub struct OverBlocks<E> {
+    /// What comes after those.
+    pub then: E,
+}
+
+impl<M: Site, E: End<M> + Drop> End<M> for OverBlocks<E> {
+    #[inline(always)]
+    fn finish<G: Gate>(
+        self,
+        site: &M::Shared,
+        gate: &G,
+        kind: Kind,
+        call: CallKind,
+        seat: &mut M::Seat,
+        progress: Progress<M::Block>,
+        carried: &mut Option<M::Item>,
+    ) -> ReplyKind
+        requires kind { M.Steps.has_kind kind }
+        requires can { CanEnd M.Site kind call site.now progress carried.old seat.old }
+        ensures { EndsRightly M.Site kind call site.now progress carried.old seat.old carried.new seat.new result }
+    {
+        let OverBlocks { then } = self;
+        let mut progress = progress;
+        match pass_block_end::<M, G>(site, gate, kind, call, seat, &mut progress, carried) {
+            ControlFlow::Break(reply) => reply,
+            ControlFlow::Continue(()) => {
+                then.finish(site, gate, kind, call, seat, progress, carried)
+            }
+        }
+    }
 }
 
 /// The end of a call that runs alone: it comes within a number of steps.

@@ -14,11 +14,15 @@ use Rattle.atomic_table.specs.Seated.{TableId}
 use Rattle.shared_parties.specs.Calling.{cap_of}
 use Rattle.shared_tables.specs.TableRule.{TableOf}
 use Rattle.concurrent_queue.specs.Begun.{Begun}
-use Rattle.concurrent_queue.specs.Shared.{IsPartyOf, IsHeld, Calls, at_table, form_id, party_view_of}
+use Rattle.concurrent_queue.specs.Shared.{QueueId, IsPartyOf, IsHeld, Calls, at_table, form_id, party_view_of}
+
+-- the queue at a table of this kind
+abbrev pub queue_at : {T : Type 0} → (ℕ → TableOf T) → TableId → QueueId
+queue_at K t = record { name = at_table t; cap = cap_of (K t.slots).calls }
 
 -- the seat is that of a party of the queue at this table, between its calls
 abbrev pub IsHeldAt : {T : Type 0} → (ℕ → TableOf T) → TableId → Seat (Option T) (CallState T) → Type 0
-IsHeldAt K t s = IsHeld (place.Table s) × IsPartyOf (party_view_of (place.Table s)) (record { name = at_table t; cap = cap_of (K t.slots).calls })
+IsHeldAt K t s = IsHeld (place.Table s) × IsPartyOf (party_view_of (place.Table s)) (queue_at K t)
 
 -- the call of v has ended with this reply, and its party has this seat
 abbrev pub HasEnded : {T : Type 0} → Begun T → Reply T → Seat (Option T) (CallState T) → Type 0

@@ -19,8 +19,9 @@ use mem_blocks::null_testable::NullTestable;
 use queue_steps::errors::{ForcePushError, PopError, PushError};
 use queue_steps::model::{Call, Reply};
 use queue_steps::steps::Kind;
+use shared_calls::beginning::{FastSteps, OnRing, OnSlot};
 use shared_calls::chain;
-use shared_calls::waiting::{run_either, run_slow};
+use shared_calls::waiting::{Waiting, run_slow};
 use shared_chain::source::{Granting, Refusing, Source};
 use shared_chain::web::ChainWeb;
 use shared_site::allocated_chain::AllocatedChain;
@@ -42,7 +43,7 @@ pub mod pending;
 mod trying;
 mod wait_free;
 
-use calling::run_short;
+use calling::on_ring;
 pub use iter::TryIter;
 pub use pending::{Outcome, Pending};
 
@@ -231,21 +232,36 @@ impl<T, A: Allocator> ConcurrentQueue<T, A> {
         // In place, as in `pop`: each function that may wait costs a test behind its call. And by form, so that what a ring leaves is put together for a ring.
         let reply = match (&self.form, &mut party.place) {
             (Form::Single(slot), SeatPlace::Table(seat)) => {
-                match run_short::<SharedTable<T, Slots, A>, Open, Pushes>(slot, &Open, seat, call) {
+                let begun = <OnSlot as FastSteps<SharedTable<T, Slots, A>>>::run::<Open, Pushes>(
+                    OnSlot, slot, &Open, seat, call,
+                );
+                match begun {
                     ControlFlow::Break(reply) => reply,
-                    ControlFlow::Continue(left) => run_slow::<SharedTable<T, Slots, A>, Open, R>(
-                        slot, rt, &Open, seat, left,
+                    ControlFlow::Continue(left) => run_slow::<SharedTable<T, Slots, A>, Open, _>(
+                        slot,
+                        &Open,
+                        Waiting { rt },
+                        seat,
+                        left,
                     ),
                 }
             }
             (Form::Ring(ring), SeatPlace::Table(seat)) => {
-                let is_masked = ring.slots().is_power_of_two();
-                match run_either::<SharedTable<T, Rings, A>, Open, Pushes>(
-                    is_masked, ring, &Open, seat, call,
-                ) {
+                let begun = <OnRing as FastSteps<SharedTable<T, Rings, A>>>::run::<Open, Pushes>(
+                    on_ring(ring),
+                    ring,
+                    &Open,
+                    seat,
+                    call,
+                );
+                match begun {
                     ControlFlow::Break(reply) => reply,
-                    ControlFlow::Continue(left) => run_slow::<SharedTable<T, Rings, A>, Open, R>(
-                        ring, rt, &Open, seat, left,
+                    ControlFlow::Continue(left) => run_slow::<SharedTable<T, Rings, A>, Open, _>(
+                        ring,
+                        &Open,
+                        Waiting { rt },
+                        seat,
+                        left,
                     ),
                 }
             }

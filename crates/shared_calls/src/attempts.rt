@@ -12,8 +12,8 @@ ghost use Rattle.shared_calls.specs.InWeb.{RestsAt, EndedAt};
 ghost use Rattle.shared_calls.specs.Settling.{MayWait};
 ghost use Rattle.shared_calls.specs.Trying.{SomeLeft, EndsOrQuits};
 
+use crate::beginning::{FastSteps, OnChain};
 use crate::pausing::{carry_on, settle};
-use crate::waiting::run_usual;
 use atomic_table::Seat;
 use call_driver::gate::Open;
 use call_driver::site::Site;
@@ -107,7 +107,14 @@ pub fn attempt_in<T, A: NullTestable, W>(
     ensures { MatchControlFlow result (λ value. EndedAt party.old calls.Capacity (replies.Capacity None) party.new × (value ≡ call_value call)) (λ answer. EndedAt party.old call answer party.new) }
 {
     let mut asking: Asking<T, A, Granting> = Asking::wake(&queue.chain, party);
-    let told = match run_usual::<Asking<T, A, Granting>, Open, W>(queue, &Open, &mut asking, call) {
+    let begun = <OnChain as FastSteps<Asking<T, A, Granting>>>::run::<Open, W>(
+        OnChain,
+        queue,
+        &Open,
+        &mut asking,
+        call,
+    );
+    let told = match begun {
         ControlFlow::Break(answer) => ControlFlow::Break(answer),
         ControlFlow::Continue(left) => retold(end_or_quit_in(queue, &mut asking, left.apart())),
     };

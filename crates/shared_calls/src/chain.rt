@@ -4,9 +4,11 @@ ghost use Rattle.queue_steps.specs.WaitFree.{is_wait_free};
 ghost use Rattle.shared_chain.specs.Turning.{web_of};
 ghost use Rattle.shared_calls.specs.InWeb.{RestsAt, EndedAt};
 
-use crate::waiting::{run_slow, run_usual};
+use crate::beginning::{FastSteps, OnChain};
+use crate::waiting::{Waiting, run_slow};
 use call_driver::driver::drive_wait_free;
 use call_driver::gate::Gate;
+use call_driver::retry::OverBlocks;
 use mem_blocks::web::Rested;
 use queue_steps::model::{Call, Reply};
 use shared_chain::source::{Refusing, Source};
@@ -30,12 +32,21 @@ pub fn answer<T, A: Allocator, Q: Source<T, A>, G: Gate, R: Wait, W>(
     ensures { EndedAt party.old call result party.new }
 {
     let mut asking: Asking<T, A, Q> = Asking::wake(&queue.chain, party);
-    let reply = match run_usual::<Asking<T, A, Q>, G, W>(queue, gate, &mut asking, call) {
+    let begun = <OnChain as FastSteps<Asking<T, A, Q>>>::run::<G, W>(
+        OnChain,
+        queue,
+        gate,
+        &mut asking,
+        call,
+    );
+    let reply = match begun {
         ControlFlow::Break(reply) => reply,
-        ControlFlow::Continue(left) => run_slow::<Asking<T, A, Q>, G, R>(
+        ControlFlow::Continue(left) => run_slow::<Asking<T, A, Q>, G, _>(
             queue,
-            rt,
             gate,
+            OverBlocks {
+                then: Waiting { rt },
+            },
             &mut asking,
             left,
         ),

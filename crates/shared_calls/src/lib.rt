@@ -2,6 +2,7 @@
 #![tactic(auto)]
 
 pub mod attempts;
+pub mod beginning;
 pub mod chain;
 pub mod pausing;
 pub mod waiting;

@@ -5,7 +5,7 @@ ghost use Rattle.call_driver.specs.OnWay.{CanEnd, EndsRightly};
 ghost use Rattle.shared_calls.specs.Leaving.{IsLeft};
 
 use call_driver::driver::{begin, leave};
-use call_driver::fast::{OfRing, Row, Usual};
+use call_driver::fast::Row;
 use call_driver::gate::Gate;
 use call_driver::progress::Progress;
 use call_driver::retry::{End, retry};
@@ -13,7 +13,6 @@ use call_driver::site::Site;
 use queue_steps::model::{Call, CallKind, Reply, ReplyKind};
 use queue_steps::steps::{BoundedLocal, Kind, Local, UnboundedLocal};
 use shared_site::left::Left;
-use std::marker::PhantomData;
 use std::ops::ControlFlow;
 use std::sync::Wait;
 use std::thread::yield_now;
@@ -107,50 +106,12 @@ pub fn run_fast<M: Site, G: Gate, F: Row<M, G>>(
     }
 }
 
-/// The same by the row of a chain. It is a function of its own, since to name the row where the site is known takes the prover long.
-#[inline(always)]
-pub fn run_usual<M: Site, G: Gate, W>(
-    site: &M::Shared,
-    gate: &G,
-    seat: &mut M::Seat,
-    call: Call<M::Item>,
-) -> ControlFlow<Reply<M::Item>, Left<M::Item, M::Block>>
-    requires { M.rests site.now seat.old }
-    ensures { MatchControlFlow result (λ left. IsLeft M.Site site.now seat.old call left seat.new) (λ reply. M.ended site.now seat.old call reply seat.new) }
-{
-    run_fast::<M, G, Usual<W>>(site, gate, seat, call)
-}
-
-/// The calls of `W` once more. It does nothing but tell one copy of a row from the other.
-struct Again<W> {
-    of: PhantomData<W>,
-}
-
-/// The same on a ring, by one of two copies of its row, made for the two answers of a test that each step would make: so it is made once in a call, and the compiler knows in each copy how it came out.
-#[inline(always)]
-pub fn run_either<M: Site, G: Gate, W>(
-    is_so: bool,
-    site: &M::Shared,
-    gate: &G,
-    seat: &mut M::Seat,
-    call: Call<M::Item>,
-) -> ControlFlow<Reply<M::Item>, Left<M::Item, M::Block>>
-    requires { M.rests site.now seat.old }
-    ensures { MatchControlFlow result (λ left. IsLeft M.Site site.now seat.old call left seat.new) (λ reply. M.ended site.now seat.old call reply seat.new) }
-{
-    if is_so {
-        run_fast::<M, G, OfRing<Again<W>>>(site, gate, seat, call)
-    } else {
-        run_fast::<M, G, OfRing<W>>(site, gate, seat, call)
-    }
-}
-
 /// Runs a call to its end that has left its fast steps.
 #[inline(always)]
-pub fn run_slow<M: Site, G: Gate, R: Wait>(
+pub fn run_slow<M: Site, G: Gate, E: End<M> + Drop>(
     site: &M::Shared,
-    rt: &R,
     gate: &G,
+    end: E,
     seat: &mut M::Seat,
     left: Left<M::Item, M::Block>,
 ) -> Reply<M::Item>
@@ -164,15 +125,6 @@ pub fn run_slow<M: Site, G: Gate, R: Wait>(
         progress,
         mut carried,
     } = left;
-    let reply = leave::<M, G, _>(
-        site,
-        gate,
-        Waiting { rt },
-        kind,
-        call,
-        seat,
-        &progress,
-        &mut carried,
-    );
+    let reply = leave::<M, G, E>(site, gate, end, kind, call, seat, &progress, &mut carried);
     Reply::fill(reply, carried)
 }

@@ -3,12 +3,11 @@ ghost use Rattle.std.specs.ControlFlow.{MatchControlFlow};
 ghost use Rattle.queue_steps.specs.declared.model.Call.{Call as SpecCall};
 ghost use Rattle.shared_calls.specs.Pausing.{IsPaused};
 
-use call_driver::fast::Row;
 use call_driver::gate::Gate;
 use call_driver::site::Site;
 use queue_steps::model::{Call, Reply};
+use shared_calls::beginning::FastSteps;
 use shared_calls::pausing::carry_on;
-use shared_calls::waiting::run_fast;
 use shared_site::left::Left;
 use std::ops::ControlFlow;
 
@@ -26,17 +25,19 @@ pub fn take_up<M: Site, G: Gate>(
     carry_on::<M, G>(site, gate, seat, left)
 }
 
-/// Sets out on a call, with its fast steps `F` first: until its reply, or until it has met another call half done.
-pub fn set_out<M: Site, G: Gate, F: Row<M, G>>(
+/// Sets out on a call, with its fast steps first: until its reply, or until it has met another call half done.
+pub fn set_out<M: Site, G: Gate, F: FastSteps<M> + Drop, W>(
+    steps: F,
     site: &M::Shared,
     gate: &G,
     seat: &mut M::Seat,
     call: Call<M::Item>,
 ) -> ControlFlow<Reply<M::Item>, Left<M::Item, M::Block>>
-    requires { M.rests site.now seat.old }
+    requires kind { M.Steps.has_kind (M.kind_of site.now seat.old) }
+    requires rests { M.rests site.now seat.old }
     ensures { MatchControlFlow result (λ paused. IsPaused M.Site site.now seat.old call paused seat.new) (λ reply. M.ended site.now seat.old call reply seat.new) }
 {
-    match run_fast::<M, G, F>(site, gate, seat, call) {
+    match steps.run::<G, W>(site, gate, seat, call) {
         ControlFlow::Break(reply) => ControlFlow::Break(reply),
         ControlFlow::Continue(left) => carry_on::<M, G>(site, gate, seat, left),
     }

@@ -7,16 +7,15 @@ ghost use Rattle.shared_parties.specs.declared.known.CallState.{CallState as Spe
 ghost use Rattle.concurrent_queue.specs.declared.party.SeatPlace.TheVariants as place;
 ghost use Rattle.concurrent_queue.specs.declared.shared.Form.TheVariants as form;
 ghost use Rattle.concurrent_queue.specs.Shared.{Calls, IsHeld, party_view_of};
-ghost use Rattle.shared_calls.specs.Leaving.{IsLeft};
 ghost use Rattle.concurrent_queue.specs.Calling.{IsHeldIn, HasLeft};
 
 use super::Form;
 use atomic_table::Seat;
-use call_driver::fast::Short;
 use call_driver::gate::Gate;
 use call_driver::site::Site;
 use queue_steps::model::{Call, Reply};
-use shared_calls::waiting::{run_either, run_fast, run_slow};
+use shared_calls::beginning::{FastSteps, OnRing, OnSlot};
+use shared_calls::waiting::{Waiting, run_slow};
 use shared_parties::known::CallState;
 use shared_site::left::Left;
 use shared_tables::table::SharedTable;
@@ -26,18 +25,12 @@ use std::sync::Wait;
 use table_kinds::ring::Rings;
 use table_kinds::slot::Slots;
 
-/// Begins a call and takes its fast steps, by the short row.
+/// The row of a call on this ring.
 #[inline(always)]
-pub(crate) fn run_short<M: Site, G: Gate, W>(
-    site: &M::Shared,
-    gate: &G,
-    seat: &mut M::Seat,
-    call: Call<M::Item>,
-) -> ControlFlow<Reply<M::Item>, Left<M::Item, M::Block>>
-    requires { M.rests site.now seat.old }
-    ensures { MatchControlFlow result (λ left. IsLeft M.Site site.now seat.old call left seat.new) (λ reply. M.ended site.now seat.old call reply seat.new) }
-{
-    run_fast::<M, G, Short<W>>(site, gate, seat, call)
+pub(crate) fn on_ring<T, A: Allocator>(ring: &SharedTable<T, Rings, A>) -> OnRing {
+    OnRing {
+        is_masked: ring.slots().is_power_of_two(),
+    }
 }
 
 impl<T, A: Allocator> Form<T, A> {
@@ -54,11 +47,18 @@ impl<T, A: Allocator> Form<T, A> {
     {
         match self {
             Form::Single(slot) => {
-                run_short::<SharedTable<T, Slots, A>, G, W>(slot, gate, seat, call)
+                <OnSlot as FastSteps<SharedTable<T, Slots, A>>>::run::<G, W>(
+                    OnSlot, slot, gate, seat, call,
+                )
             }
             Form::Ring(ring) => {
-                let is_masked = ring.slots().is_power_of_two();
-                run_either::<SharedTable<T, Rings, A>, G, W>(is_masked, ring, gate, seat, call)
+                <OnRing as FastSteps<SharedTable<T, Rings, A>>>::run::<G, W>(
+                    on_ring(ring),
+                    ring,
+                    gate,
+                    seat,
+                    call,
+                )
             }
             Form::Chain(_) => unreachable!(),
         }
@@ -77,11 +77,19 @@ impl<T, A: Allocator> Form<T, A> {
         ensures { (call : SpecCall T) (first : SpecSeat (SpecOption T) (SpecState T)) → HasLeft ⟦<SharedTable<T, Slots, A> as Site>⟧ ⟦<SharedTable<T, Rings, A> as Site>⟧ form.Single form.Ring self.now first call left seat.old → IsHeld (place.Table seat.new) × Calls (party_view_of (place.Table first)) call result (party_view_of (place.Table seat.new)) }
     {
         match self {
-            Form::Single(slot) => run_slow::<SharedTable<T, Slots, A>, G, R>(
-                slot, rt, gate, seat, left,
+            Form::Single(slot) => run_slow::<SharedTable<T, Slots, A>, G, _>(
+                slot,
+                gate,
+                Waiting { rt },
+                seat,
+                left,
             ),
-            Form::Ring(ring) => run_slow::<SharedTable<T, Rings, A>, G, R>(
-                ring, rt, gate, seat, left,
+            Form::Ring(ring) => run_slow::<SharedTable<T, Rings, A>, G, _>(
+                ring,
+                gate,
+                Waiting { rt },
+                seat,
+                left,
             ),
             Form::Chain(_) => unreachable!(),
         }

@@ -1,23 +1,24 @@
 //! Calls that never wait: one that meets another call half done is handed back as it stands, and taken up again later.
 ghost use Rattle.std.specs.Prelude.{◌≡◌, None};
 ghost use Rattle.std.specs.ControlFlow.{MatchControlFlow};
-ghost use Rattle.shared_calls.specs.Pausing.{IsPaused};
+ghost use Rattle.concurrent_queue.specs.declared.party.SeatPlace.TheVariants as place;
 ghost use Rattle.concurrent_queue.specs.Begun.{Begun as SpecBegun};
-ghost use Rattle.concurrent_queue.specs.Calling.{IsHeldAt, HasEnded};
+ghost use Rattle.concurrent_queue.specs.Calling.{HasEnded, queue_at};
 ghost use Rattle.concurrent_queue.specs.Pending.{StopsHere, begun_with};
 ghost use Rattle.concurrent_queue.specs.OneHeap.{IsOneHeap};
-ghost use Rattle.concurrent_queue.specs.Shared.{IsPartyOf};
+ghost use Rattle.concurrent_queue.specs.Shared.{IsHeld, IsPartyOf, party_view_of};
 
+use super::calling::on_ring;
 use super::{Begins, Form};
 use crate::party::{Party, SeatPlace};
 use crate::shared::ConcurrentQueue;
 use atomic_table::Seat;
-use call_driver::fast::{Short, Usual};
 use call_driver::gate::Open;
 use call_driver::site::Site;
 use mem_blocks::item::Place;
 use mem_blocks::null_testable::NullTestable;
 use queue_steps::model::{Call, Reply};
+use shared_calls::beginning::{FastSteps, OnChain, OnSlot};
 use shared_chain::source::Granting;
 use shared_parties::known::CallState;
 use shared_pauses::parts::{set_out, take_up};
@@ -106,36 +107,19 @@ impl<T, A: Allocator> Pending<T, A> {
     }
 }
 
-/// Sets out on a call, with the short row of fast steps first or the usual one.
+/// Sets out on a call at a table of any kind.
 #[inline(always)]
-fn set_out_by<M: Site>(
-    is_short: bool,
-    site: &M::Shared,
-    seat: &mut M::Seat,
-    call: Call<M::Item>,
-) -> ControlFlow<Reply<M::Item>, Left<M::Item, M::Block>>
-    requires { M.rests site.now seat.old }
-    ensures { MatchControlFlow result (λ paused. IsPaused M.Site site.now seat.old call paused seat.new) (λ reply. M.ended site.now seat.old call reply seat.new) }
-{
-    if is_short {
-        set_out::<M, Open, Short<Begins>>(site, &Open, seat, call)
-    } else {
-        set_out::<M, Open, Usual<Begins>>(site, &Open, seat, call)
-    }
-}
-
-/// The same at a table of any kind.
-#[inline(always)]
-fn set_out_at<T, K: TableSteps<T>, A: Allocator>(
-    is_short: bool,
+fn set_out_at<T, K: TableSteps<T>, A: Allocator, F: FastSteps<SharedTable<T, K, A>> + Drop>(
+    steps: F,
     table: &SharedTable<T, K, A>,
     seat: &mut Seat<Option<T>, CallState<T>>,
     call: Call<T>,
 ) -> ControlFlow<Reply<T>, Left<T, usize>>
-    requires { IsHeldAt K.layout table.now.table.shared.table_id seat.old }
+    requires held { IsHeld (place.Table seat.old) }
+    requires of { IsPartyOf (party_view_of (place.Table seat.old)) (queue_at K.layout table.now.table.shared.table_id) }
     ensures { MatchControlFlow result (λ left. StopsHere K.layout table.now.table.shared.table_id seat.new left (begun_with seat.old call)) (λ reply. HasEnded (begun_with seat.old call) reply seat.new) }
 {
-    set_out_by::<SharedTable<T, K, A>>(is_short, table, seat, call)
+    set_out::<SharedTable<T, K, A>, Open, F, Begins>(steps, table, &Open, seat, call)
 }
 
 /// Takes up a call at a table of any kind.
@@ -161,7 +145,7 @@ impl<T, A: NullTestable> ConcurrentQueue<T, A> {
     {
         match (&self.form, party.place) {
             (Form::Single(slot), SeatPlace::Table(mut seat)) => {
-                match set_out_at(true, slot, &mut seat, call) {
+                match set_out_at(OnSlot, slot, &mut seat, call) {
                     ControlFlow::Break(reply) => {
                         Outcome::Done(Party::at(SeatPlace::Table(seat)), reply)
                     }
@@ -171,7 +155,7 @@ impl<T, A: NullTestable> ConcurrentQueue<T, A> {
                 }
             }
             (Form::Ring(ring), SeatPlace::Table(mut seat)) => {
-                match set_out_at(false, ring, &mut seat, call) {
+                match set_out_at(on_ring(ring), ring, &mut seat, call) {
                     ControlFlow::Break(reply) => {
                         Outcome::Done(Party::at(SeatPlace::Table(seat)), reply)
                     }
@@ -182,7 +166,14 @@ impl<T, A: NullTestable> ConcurrentQueue<T, A> {
             }
             (Form::Chain(queue), SeatPlace::Web(mut rested)) => {
                 let mut asking: Asking<T, A, Granting> = Asking::wake(&queue.chain, &mut rested);
-                match set_out_by::<Asking<T, A, Granting>>(false, queue, &mut asking, call) {
+                let begun = set_out::<Asking<T, A, Granting>, Open, OnChain, Begins>(
+                    OnChain,
+                    queue,
+                    &Open,
+                    &mut asking,
+                    call,
+                );
+                match begun {
                     ControlFlow::Break(reply) => {
                         Outcome::Done(Party::at(SeatPlace::Web(asking.rests())), reply)
                     }

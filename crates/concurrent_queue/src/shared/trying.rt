@@ -7,15 +7,13 @@ ghost use Rattle.law_chain.specs.ChainEarly.{IsPush};
 ghost use Rattle.shared_parties.specs.Calling.{cap_of};
 ghost use Rattle.shared_calls.specs.Settling.{MayWait};
 ghost use Rattle.shared_calls.specs.Trying.{SomeLeft, EndsOrQuits};
-ghost use Rattle.std.specs.ControlFlow.{MatchControlFlow};
-ghost use Rattle.shared_calls.specs.Leaving.{IsLeft};
 ghost use Rattle.concurrent_queue.specs.declared.party.SeatPlace.TheVariants as place;
 ghost use Rattle.concurrent_queue.specs.Calling.{IsHeldAt};
 ghost use Rattle.concurrent_queue.specs.Shared.{IsPartyOf, IsHeld, PartyView, party_view_of};
 ghost use Rattle.concurrent_queue.specs.Tries.{Tries, TriesPush, TriesForcePush, TriesPop};
 
 use super::Form;
-use super::calling::run_short;
+use super::calling::on_ring;
 use crate::party::{Party, SeatPlace};
 use crate::shared::ConcurrentQueue;
 use crate::try_errors::{TryForcePushError, TryPopError, TryPushError};
@@ -26,7 +24,7 @@ use mem_blocks::null_testable::NullTestable;
 use queue_steps::errors::{ForcePushError, PopError, PushError};
 use queue_steps::model::{Call, Reply};
 use shared_calls::attempts::{attempt_in, end_or_quit_at, retold};
-use shared_calls::waiting::run_either;
+use shared_calls::beginning::{FastSteps, OnRing, OnSlot};
 use shared_parties::known::CallState;
 use shared_site::left::Left;
 use shared_tables::table::{SharedTable, TableSteps};
@@ -178,37 +176,16 @@ fn end_or_quit<T, K: TableSteps<T>, A: Allocator>(
     retold(end_or_quit_at(table, seat, left.apart()))
 }
 
-/// Which row of fast steps a call at a table takes.
-enum FastRow {
-    /// The short one.
-    Short,
-    /// The usual one, in the copy for a capacity that is a power of two or in the other.
-    Usual { is_masked: bool },
-}
-
-/// Begins a call and takes its fast steps.
-#[inline(always)]
-fn run_row<M: Site, W>(
-    row: FastRow,
-    site: &M::Shared,
-    seat: &mut M::Seat,
-    call: Call<M::Item>,
-) -> ControlFlow<Reply<M::Item>, Left<M::Item, M::Block>>
-    requires { M.rests site.now seat.old }
-    ensures { MatchControlFlow result (λ left. IsLeft M.Site site.now seat.old call left seat.new) (λ reply. M.ended site.now seat.old call reply seat.new) }
-{
-    match row {
-        FastRow::Short => run_short::<M, Open, W>(site, &Open, seat, call),
-        FastRow::Usual { is_masked } => run_either::<M, Open, W>(
-            is_masked, site, &Open, seat, call,
-        ),
-    }
-}
-
 /// Makes a call at a table which gives up where it would wait. Each way out makes what the caller is told in place, so that the compiler knows there what the call was answered.
 #[inline(always)]
-fn attempt_at<T, K: TableSteps<T>, A: Allocator, W: Attempt<T>>(
-    row: FastRow,
+fn attempt_at<
+    T,
+    K: TableSteps<T>,
+    A: Allocator,
+    F: FastSteps<SharedTable<T, K, A>> + Drop,
+    W: Attempt<T>,
+>(
+    steps: F,
     table: &SharedTable<T, K, A>,
     seat: &mut Seat<Option<T>, CallState<T>>,
     given: W::Given,
@@ -218,7 +195,7 @@ fn attempt_at<T, K: TableSteps<T>, A: Allocator, W: Attempt<T>>(
     ensures { IsHeld (place.Table seat.new) × W.tells (party_view_of (place.Table seat.old)) given result (party_view_of (place.Table seat.new)) }
 {
     let call = W::ask(given);
-    match run_row::<SharedTable<T, K, A>, W>(row, table, seat, call) {
+    match steps.run::<Open, W>(table, &Open, seat, call) {
         ControlFlow::Break(reply) => W::tell(ControlFlow::Break(reply)),
         ControlFlow::Continue(left) => W::tell(end_or_quit(table, seat, left)),
     }
@@ -234,11 +211,10 @@ impl<T, A: NullTestable> ConcurrentQueue<T, A> {
     {
         match (&self.form, &mut party.place) {
             (Form::Single(slot), SeatPlace::Table(seat)) => {
-                attempt_at::<T, Slots, A, W>(FastRow::Short, slot, seat, given)
+                attempt_at::<T, Slots, A, OnSlot, W>(OnSlot, slot, seat, given)
             }
             (Form::Ring(ring), SeatPlace::Table(seat)) => {
-                let is_masked = ring.slots().is_power_of_two();
-                attempt_at::<T, Rings, A, W>(FastRow::Usual { is_masked }, ring, seat, given)
+                attempt_at::<T, Rings, A, OnRing, W>(on_ring(ring), ring, seat, given)
             }
             (Form::Chain(queue), SeatPlace::Web(rested)) => {
                 let call = W::ask(given);

@@ -8,15 +8,15 @@ use Rattle.shared_calls.proofs.Wakes.{wakes_free, rests_ended}
 use Rattle.shared_calls.proofs.attempts.attempt_in.Goals.{in-Break, in-Continue}
 use Rattle.shared_calls.proofs.attempts.attempt_in.Goals as goal
 
-pub run_usual-requires : goal.run_usual-requires
-run_usual-requires g c = let s = c.wake-asking.ensures.seat in (s.0, wakes_free _ c.args.party.now c.wake-asking.result.seat.sitter c.requires.rests s.1)
+pub run-begun-requires-clause-rests : goal.run-begun-requires-clause-rests
+run-begun-requires-clause-rests g c = let s = c.wake-asking.ensures.seat in (s.0, wakes_free _ c.args.party.now c.wake-asking.result.seat.sitter c.requires.rests s.1)
 
 pub end_or_quit_in-requires : goal.end_or_quit_in-requires
 end_or_quit_in-requires g c = rw c.apart.ensures (c.args.call, c.requires.push, c.wake-asking.result, c.in-Continue.ensures)
 
 pub rests-requires : goal.rests-requires
 rests-requires g c =
-    let m = c.match-run_usual in let k = c.args.call in let w = c.args.queue.now.chain in let p = c.wake-asking.result in
+    let m = c.match-begun in let k = c.args.call in let w = c.args.queue.now.chain in let p = c.wake-asking.result in
     let d : ToldIn w p k m.told m.asking = elim m.branch [
       | in-Break b ↦ subst (λ x. ToldIn w p k x m.asking) (sym b.told-is) (subst (λ a. ToldIn w p k (Break b.in-Break.answer) a) (sym b.asking-is) b.in-Break.ensures)
       | in-Continue b ↦ let e = b.end_or_quit_in in subst (λ x. ToldIn w p k x m.asking) (sym (b.told-is ∙ b.retold-told.ensures)) (subst (λ a. ToldIn w p k e.result a) (sym b.asking-is) (e.ensures k p (rw b.apart.ensures b.in-Continue.ensures)))
@@ -25,7 +25,7 @@ rests-requires g c =
 
 pub returns : goal.returns
 returns g c =
-    let m = c.match-run_usual in let k = c.args.call in let w = c.args.queue.now.chain in let p = c.wake-asking.result in let r = c.args.party.now in let q = c.rests.result in
+    let m = c.match-begun in let k = c.args.call in let w = c.args.queue.now.chain in let p = c.wake-asking.result in let r = c.args.party.now in let q = c.rests.result in
     let s = c.wake-asking.ensures.seat in let out = c.rests.ensures in
     let d : ToldIn w p k m.told m.asking = elim m.branch [
       | in-Break b ↦ subst (λ x. ToldIn w p k x m.asking) (sym b.told-is) (subst (λ a. ToldIn w p k (Break b.in-Break.answer) a) (sym b.asking-is) b.in-Break.ensures)

@@ -4,12 +4,12 @@ use Rattle.shared_calls.proofs.Wakes.{wakes_free, rests_ended}
 use Rattle.shared_calls.proofs.chain.answer.Goals.{in-Break, in-Continue}
 use Rattle.shared_calls.proofs.chain.answer.Goals as goal
 
-pub run_usual-requires : goal.run_usual-requires
-run_usual-requires g c = let s = c.wake-asking.ensures.seat in (s.0, wakes_free _ c.args.party.now c.wake-asking.result.seat.sitter c.requires s.1)
+pub run-begun-requires-clause-rests : goal.run-begun-requires-clause-rests
+run-begun-requires-clause-rests g c = let s = c.wake-asking.ensures.seat in (s.0, wakes_free _ c.args.party.now c.wake-asking.result.seat.sitter c.requires s.1)
 
 pub returns : goal.returns
 returns g c =
-    let s = c.wake-asking.ensures.seat in let out = c.rests.ensures in let m = c.match-run_usual in let k = c.args.call in let q = c.args.queue.now.chain in let p = c.wake-asking.result in
+    let s = c.wake-asking.ensures.seat in let out = c.rests.ensures in let m = c.match-begun in let k = c.args.call in let q = c.args.queue.now.chain in let p = c.wake-asking.result in
     let d : ChainEnded q p.seat k m.reply m.asking.seat = elim m.branch [
       | in-Break w ↦ subst (λ r. ChainEnded q p.seat k r m.asking.seat) (sym w.reply-is) (subst (λ a. ChainEnded q p.seat k w.in-Break.reply a.seat) (sym w.asking-is) w.in-Break.ensures)
       | in-Continue w ↦ let r' = w.run_slow-reply in subst (λ r. ChainEnded q p.seat k r m.asking.seat) (sym w.reply-is) (subst (λ a. ChainEnded q p.seat k r'.result a.seat) (sym w.asking-is) (r'.ensures k p w.in-Continue.ensures))

@@ -8,7 +8,7 @@ use Rattle.concurrent_queue.proofs.shared.Form.begin_at.Goals as goal
 
 pub returns-in-Single : goal.returns-in-Single
 returns-in-Single g c =
-    let b = c.in-Single in let p = c.args.seat.now in let q = c.run_short.new.seat in
+    let b = c.in-Single in let p = c.args.seat.now in let q = c.run.new.seat in
     told_map
     (λ l left. (
       c.requires,
@@ -16,11 +16,11 @@ returns-in-Single g c =
       λ r e. let h : form.Single b.slot ≡ form.Ring r = sym b.is ∙ e in absurd cc,
     ))
     (λ r ended. ends_here (place.Table p) p _ _ _ refl c.requires.0 refl (c.requires.1 ∙ ap form_id b.is) q (place.Table q) c.args.call r r refl refl ended)
-    c.run_short.result c.run_short.ensures
+    c.run.result c.run.ensures
 
 pub returns-in-Ring : goal.returns-in-Ring
 returns-in-Ring g c =
-    let b = c.in-Ring in let p = c.args.seat.now in let q = c.run_either.new.seat in
+    let b = c.in-Ring in let p = c.args.seat.now in let q = c.run-in-Ring.new.seat in
     told_map
     (λ l left. (
       c.requires,
@@ -28,4 +28,4 @@ returns-in-Ring g c =
       λ r e. let h : form.Ring b.ring ≡ form.Ring r = sym b.is ∙ e in let i : b.ring ≡ r = cc in rw (sym i) left,
     ))
     (λ r ended. ends_here (place.Table p) p _ _ _ refl c.requires.0 refl (c.requires.1 ∙ ap form_id b.is) q (place.Table q) c.args.call r r refl refl ended)
-    c.run_either.result c.run_either.ensures
+    c.run-in-Ring.result c.run-in-Ring.ensures

@@ -7,8 +7,8 @@ use Rattle.concurrent_queue.proofs.TableCalls.{begins_here}
 use Rattle.concurrent_queue.proofs.Told.{told_here, tells}
 use Rattle.concurrent_queue.proofs.shared.trying.attempt_at.Goals as goal
 
-pub run_row-requires : goal.run_row-requires
-run_row-requires g c =
+pub run-requires-clause-rests : goal.run-requires-clause-rests
+run-requires-clause-rests g c =
     let s = c.args.seat.now in let t = c.args.table.now.table.shared.table_id in
     begins_here (place.Table s) s (cap_of (g.K.TableKind.layout t.slots).calls) t (party_view_of (place.Table s)) refl c.requires.held.0 refl c.requires.held.1
 
@@ -20,7 +20,7 @@ end_or_quit-requires-clause-ends g c = c.requires.ends
 
 pub tell-requires : goal.tell-requires
 tell-requires g c =
-    let s = c.args.seat.now in let q = c.run_row.new.seat in let t = c.args.table.now.table.shared.table_id in let v = party_view_of (place.Table s) in
+    let s = c.args.seat.now in let q = c.run.new.seat in let t = c.args.table.now.table.shared.table_id in let v = party_view_of (place.Table s) in
     let h = told_here (place.Table s) s (cap_of (g.K.TableKind.layout t.slots).calls) t v refl c.requires.held.0 refl c.requires.held.1 q (place.Table q) c.ask-call.result (Break c.in-Break.reply) refl c.in-Break.ensures in
     (v, _, c.args.given, subst (λ z. Tries v z (Break c.in-Break.reply) (party_view_of (place.Table q))) c.ask-call.ensures h.1)
 
@@ -32,7 +32,7 @@ tell-requires-in-Continue g c =
 
 pub returns-in-Break : goal.returns-in-Break
 returns-in-Break g c =
-    let s = c.args.seat.now in let q = c.run_row.new.seat in let t = c.args.table.now.table.shared.table_id in let v = party_view_of (place.Table s) in let k = c.ask-call.result in
+    let s = c.args.seat.now in let q = c.run.new.seat in let t = c.args.table.now.table.shared.table_id in let v = party_view_of (place.Table s) in let k = c.ask-call.result in
     let h = told_here (place.Table s) s (cap_of (g.K.TableKind.layout t.slots).calls) t v refl c.requires.held.0 refl c.requires.held.1 q (place.Table q) k (Break c.in-Break.reply) refl c.in-Break.ensures in
     tells g.W.Attempt.asks g.W.Attempt.tells v (place.Table q) c.args.given k (Break c.in-Break.reply) _ _ h c.ask-call.ensures c.tell.ensures refl
 
