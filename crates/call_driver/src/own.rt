@@ -75,7 +75,7 @@ impl<C: OwnCells> Site for Own<C> {
         op: Op<C::Block>,
         carried: &mut Option<C::Item>,
     ) -> Answer<C::Block>
-        requires { MayTake C.can_touch C.touches C.can_perform C.performs cells.old touch op carried.old }
+        requires may { MayTake C.can_touch C.touches C.can_perform C.performs cells.old touch op carried.old }
         ensures { Took C.can_touch C.touches C.can_perform C.performs cells.old touch op carried.old result cells.new carried.new }
     {
         let _ = call;

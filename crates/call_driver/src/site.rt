@@ -69,12 +69,12 @@ pub trait Site {
         op: Op<Self::Block>,
         carried: &mut Option<Self::Item>,
     ) -> Answer<Self::Block>
-        requires { can site.now seat.old call.now local.now touch op carried.old }
+        requires may { can site.now seat.old call.now local.now touch op carried.old }
         ensures { does site.now seat.old call.now local.now touch op carried.old result seat.new carried.new };
 
     /// Gives up a block that a reply hands out.
     fn give_up(site: &Self::Shared, seat: &mut Self::Seat, block: Self::Block)
-        requires { spares site.now seat.old block }
+        requires may { spares site.now seat.old block }
         ensures { gives site.now seat.old block seat.new };
 
     /// The steps are those of the kind.

@@ -15,7 +15,7 @@ use std::ops::ControlFlow;
 /// Gives up the block that a reply hands out.
 #[inline(always)]
 pub(crate) fn end<M: Site>(site: &M::Shared, seat: &mut M::Seat, spare: Option<M::Block>)
-    requires { MayGive M.spares site.now seat.old spare }
+    requires may { MayGive M.spares site.now seat.old spare }
     ensures { Gave M.gives site.now seat.old spare seat.new }
 {
     if let Some(block) = spare {

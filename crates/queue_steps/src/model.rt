@@ -102,7 +102,7 @@ impl<T> Reply<T> {
     // Each case is here, and none is handed to a `FillReply`: handed on, a value of 64 bytes is copied, which takes 36 to 80 instructions a pair more.
     #[inline(always)]
     pub fn fill(kind: ReplyKind, carried: Option<T>) -> Reply<T>
-        requires { IsSome (filled kind carried) }
+        requires fits { IsSome (filled kind carried) }
         ensures { filled kind carried ≡ Some result }
     {
         match (kind, carried) {

@@ -66,7 +66,7 @@ fn end_or_quit_in<T, A: NullTestable>(
     asking: &mut Asking<T, A, Granting>,
     left: Left<T, Place<T>>,
 ) -> ControlFlow<Reply<T>, Option<T>>
-    requires { SomeLeft ⟦<Asking<T, A, Granting> as Site>⟧ (λ c. IsPush c) queue.now left asking.old }
+    requires left { SomeLeft ⟦<Asking<T, A, Granting> as Site>⟧ (λ c. IsPush c) queue.now left asking.old }
     ensures { EndsOrQuits ⟦<Asking<T, A, Granting> as Site>⟧ None queue.now left asking.old result asking.new }
 {
     let left = match carry_on::<Asking<T, A, Granting>, Open>(queue, &Open, asking, left) {

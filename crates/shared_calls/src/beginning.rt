@@ -23,7 +23,6 @@ pub trait FastSteps<M: Site> {
         seat: &mut M::Seat,
         call: Call<M::Item>,
     ) -> ControlFlow<Reply<M::Item>, Left<M::Item, M::Block>>
-        requires kind { M.Steps.has_kind (M.kind_of site.now seat.old) }
         requires rests { M.rests site.now seat.old }
         ensures { MatchControlFlow result (λ left. IsLeft M.Site site.now seat.old call left seat.new) (λ reply. M.ended site.now seat.old call reply seat.new) };
 }
@@ -41,7 +40,6 @@ impl<M: Site> FastSteps<M> for OnSlot {
         seat: &mut M::Seat,
         call: Call<M::Item>,
     ) -> ControlFlow<Reply<M::Item>, Left<M::Item, M::Block>>
-        requires kind { M.Steps.has_kind (M.kind_of site.now seat.old) }
         requires rests { M.rests site.now seat.old }
         ensures { MatchControlFlow result (λ left. IsLeft M.Site site.now seat.old call left seat.new) (λ reply. M.ended site.now seat.old call reply seat.new) }
     {
@@ -70,7 +68,6 @@ impl<M: Site> FastSteps<M> for OnRing {
         seat: &mut M::Seat,
         call: Call<M::Item>,
     ) -> ControlFlow<Reply<M::Item>, Left<M::Item, M::Block>>
-        requires kind { M.Steps.has_kind (M.kind_of site.now seat.old) }
         requires rests { M.rests site.now seat.old }
         ensures { MatchControlFlow result (λ left. IsLeft M.Site site.now seat.old call left seat.new) (λ reply. M.ended site.now seat.old call reply seat.new) }
     {
@@ -95,7 +92,6 @@ impl<M: Site> FastSteps<M> for OnChain {
         seat: &mut M::Seat,
         call: Call<M::Item>,
     ) -> ControlFlow<Reply<M::Item>, Left<M::Item, M::Block>>
-        requires kind { M.Steps.has_kind (M.kind_of site.now seat.old) }
         requires rests { M.rests site.now seat.old }
         ensures { MatchControlFlow result (λ left. IsLeft M.Site site.now seat.old call left seat.new) (λ reply. M.ended site.now seat.old call reply seat.new) }
     {

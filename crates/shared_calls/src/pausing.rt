@@ -28,7 +28,7 @@ const SETTLE_STEPS: usize = 5;
 
 /// Gives up the block that a reply hands out.
 fn give_back<M: Site>(site: &M::Shared, seat: &mut M::Seat, spare: Option<M::Block>)
-    requires { MayGive M.spares site.now seat.old spare }
+    requires may { MayGive M.spares site.now seat.old spare }
     ensures { Gave M.gives site.now seat.old spare seat.new }
 {
     if let Some(block) = spare {

@@ -86,7 +86,7 @@ pub fn run_fast<M: Site, G: Gate, F: Row<M, G>>(
     seat: &mut M::Seat,
     call: Call<M::Item>,
 ) -> ControlFlow<Reply<M::Item>, Left<M::Item, M::Block>>
-    requires { M.rests site.now seat.old }
+    requires rests { M.rests site.now seat.old }
     ensures { MatchControlFlow result (λ left. IsLeft M.Site site.now seat.old call left seat.new) (λ reply. M.ended site.now seat.old call reply seat.new) }
 {
     let (call, mut carried) = call.split();

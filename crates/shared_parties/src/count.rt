@@ -125,7 +125,8 @@ pub trait PartyCount<T, S> {
 
     /// Acts on the count, and answers with it as it was.
     fn act<A: CountAct<T>>(&self, seat: &mut S) -> u64
-        requires { sits self.now seat.old × MayAct A.changes A.tells (id seat.old) (knows seat.old) }
+        requires sits { sits self.now seat.old }
+        requires may { MayAct A.changes A.tells (id seat.old) (knows seat.old) }
         ensures { sits self.now seat.new × (id seat.new ≡ id seat.old) × A.tells result (knows seat.old) (knows seat.new) };
 
     /// Parts the seat of two parties.

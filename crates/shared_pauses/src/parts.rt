@@ -33,7 +33,6 @@ pub fn set_out<M: Site, G: Gate, F: FastSteps<M> + Drop, W>(
     seat: &mut M::Seat,
     call: Call<M::Item>,
 ) -> ControlFlow<Reply<M::Item>, Left<M::Item, M::Block>>
-    requires kind { M.Steps.has_kind (M.kind_of site.now seat.old) }
     requires rests { M.rests site.now seat.old }
     ensures { MatchControlFlow result (λ paused. IsPaused M.Site site.now seat.old call paused seat.new) (λ reply. M.ended site.now seat.old call reply seat.new) }
 {

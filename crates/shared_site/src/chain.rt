@@ -78,7 +78,7 @@ impl<T, A: Allocator, Q: Source<T, A>> Site for Asking<T, A, Q> {
         op: Op<Place<T>>,
         carried: &mut Option<T>,
     ) -> Answer<Place<T>>
-        requires { ChainCan queue.now.chain asking.old.seat call.now local.now todo op carried.old }
+        requires may { ChainCan queue.now.chain asking.old.seat call.now local.now todo op carried.old }
         ensures { ChainDoes asking.old.seat call.now local.now todo op carried.old result asking.new.seat carried.new }
     {
         queue.chain.take_step::<Q>(
@@ -93,7 +93,7 @@ impl<T, A: Allocator, Q: Source<T, A>> Site for Asking<T, A, Q> {
     }
 
     fn give_up(queue: &AllocatedChain<T, A>, asking: &mut Asking<T, A, Q>, block: Place<T>)
-        requires { SitsAt queue.now.chain asking.old.seat × Carries (Some block) asking.old.seat.sitter }
+        requires may { SitsAt queue.now.chain asking.old.seat × Carries (Some block) asking.old.seat.sitter }
         ensures { GaveUp asking.old.seat asking.new.seat }
     {
         queue.chain.give_up(&queue.alloc, &mut asking.seat, block);
@@ -124,7 +124,7 @@ impl<T, A: Allocator, Q> Asking<T, A, Q> {
     /// The party rests again.
     #[inline(always)]
     pub fn rests(self) -> Rested<CallState<T>>
-        requires { (self.seat.sitter.hand ≡ None) × (self.seat.sitter.spare ≡ None) }
+        requires free { (self.seat.sitter.hand ≡ None) × (self.seat.sitter.spare ≡ None) }
         ensures { (result.asleep ≡ true) × (result.web ≡ self.seat.web) × (result.view ≡ self.seat.sitter.view) }
     {
         let Asking { seat, source: _ } = self;

@@ -211,7 +211,7 @@ impl<T, K: TableSteps<T>, A: Allocator> Site for SharedTable<T, K, A> {
         op: Op<usize>,
         carried: &mut Option<T>,
     ) -> Answer<usize>
-        requires { TableCan K.layout queue.now.table.shared.table_id (seat.old.table_id, seat.old.me) call.now local.now todo op carried.old }
+        requires may { TableCan K.layout queue.now.table.shared.table_id (seat.old.table_id, seat.old.me) call.now local.now todo op carried.old }
         ensures { TableDoes K.layout queue.now.table.shared.table_id (seat.old.table_id, seat.old.me) call.now local.now todo op carried.old result (seat.new.table_id, seat.new.me) carried.new }
     {
         touch(&queue.table.shared, seat, todo, carried);

@@ -73,7 +73,7 @@ impl<T, A: Allocator> Form<T, A> {
         seat: &mut Seat<Option<T>, CallState<T>>,
         left: Left<T, usize>,
     ) -> Reply<T>
-        requires { (call : SpecCall T) × (first : SpecSeat (SpecOption T) (SpecState T)) × HasLeft ⟦<SharedTable<T, Slots, A> as Site>⟧ ⟦<SharedTable<T, Rings, A> as Site>⟧ form.Single form.Ring self.now first call left seat.old }
+        requires left { (call : SpecCall T) × (first : SpecSeat (SpecOption T) (SpecState T)) × HasLeft ⟦<SharedTable<T, Slots, A> as Site>⟧ ⟦<SharedTable<T, Rings, A> as Site>⟧ form.Single form.Ring self.now first call left seat.old }
         ensures { (call : SpecCall T) (first : SpecSeat (SpecOption T) (SpecState T)) → HasLeft ⟦<SharedTable<T, Slots, A> as Site>⟧ ⟦<SharedTable<T, Rings, A> as Site>⟧ form.Single form.Ring self.now first call left seat.old → IsHeld (place.Table seat.new) × Calls (party_view_of (place.Table first)) call result (party_view_of (place.Table seat.new)) }
     {
         match self {

@@ -51,7 +51,7 @@ pub(crate) trait Attempt<T> {
 
     /// What its caller is told where it was answered so, or came back.
     fn tell(told: ControlFlow<Reply<T>, Option<T>>) -> Self::Told
-        requires { (v w : PartyView T) × (x : Self.Given) × Tries v (asks x) told w }
+        requires told { (v w : PartyView T) × (x : Self.Given) × Tries v (asks x) told w }
         ensures { (v w : PartyView T) (x : Self.Given) → Tries v (asks x) told w → tells v x result w };
 }
 
@@ -77,7 +77,7 @@ impl<T> Attempt<T> for TryPushes {
 
     #[inline(always)]
     fn tell(told: ControlFlow<Reply<T>, Option<T>>) -> Result<(), TryPushError<T>>
-        requires { (v w : PartyView T) × (x : T) × Tries v (call.Push x) told w }
+        requires told { (v w : PartyView T) × (x : T) × Tries v (call.Push x) told w }
         ensures { (v w : PartyView T) (x : T) → Tries v (call.Push x) told w → TriesPush v x result w }
     {
         match told {
@@ -113,7 +113,7 @@ impl<T> Attempt<T> for TryDisplaces {
 
     #[inline(always)]
     fn tell(told: ControlFlow<Reply<T>, Option<T>>) -> Result<Option<T>, TryForcePushError<T>>
-        requires { (v w : PartyView T) × (x : T) × Tries v (call.ForcePush x) told w }
+        requires told { (v w : PartyView T) × (x : T) × Tries v (call.ForcePush x) told w }
         ensures { (v w : PartyView T) (x : T) → Tries v (call.ForcePush x) told w → TriesForcePush v x result w }
     {
         match told {
@@ -146,7 +146,7 @@ impl<T> Attempt<T> for TryPops {
 
     #[inline(always)]
     fn tell(told: ControlFlow<Reply<T>, Option<T>>) -> Result<T, TryPopError>
-        requires { (v w : PartyView T) × Unit {0} × Tries v call.Pop told w }
+        requires told { (v w : PartyView T) × Unit {0} × Tries v call.Pop told w }
         ensures { (v w : PartyView T) → Unit {0} → Tries v call.Pop told w → TriesPop v result w }
     {
         match told {

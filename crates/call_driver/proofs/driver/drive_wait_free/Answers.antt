@@ -17,7 +17,7 @@ loop-init g c =
 
 pub take_step-answer-requires : goal.take_step-answer-requires
 take_step-answer-requires g c =
-    (step g.M.Site (SOLO_STEPS - 1) c.kind-kind.result c.split-call.result.0 c.args.site.now c.args.seat.now c.args.call c.loop.local c.loop.answer c.in-Step.after c.in-Step.touch c.in-Step.op c.loop.seat c.loop.carried c.next-todo.ensures c.in-Step.is c.loop.invariant.0).0
+    record { may = (step g.M.Site (SOLO_STEPS - 1) c.kind-kind.result c.split-call.result.0 c.args.site.now c.args.seat.now c.args.call c.loop.local c.loop.answer c.in-Step.after c.in-Step.touch c.in-Step.op c.loop.seat c.loop.carried c.next-todo.ensures c.in-Step.is c.loop.invariant.0).0 }
 
 pub loop-preserved : goal.loop-preserved
 loop-preserved g c =
@@ -28,12 +28,12 @@ loop-preserved g c =
     (on, ends-step c.loop.counter c.kind-kind.result c.loop.local c.loop.answer c.in-Step.after c.in-Step.touch c.in-Step.op c.take_step-answer.result c.loop-test.true c.next-todo.ensures c.in-Step.is c.loop.invariant.1 on.1.0)
 
 pub end-requires : goal.end-requires
-end-requires g c = (replies g.M.Site (SOLO_STEPS - 1) c.kind-kind.result c.split-call.result.0 c.args.site.now c.args.seat.now c.args.call c.loop.local c.loop.answer c.in-Reply.reply c.in-Reply.spare c.loop.seat c.loop.carried c.next-todo.ensures c.in-Reply.is c.loop.invariant.0).0
+end-requires g c = record { may = (replies g.M.Site (SOLO_STEPS - 1) c.kind-kind.result c.split-call.result.0 c.args.site.now c.args.seat.now c.args.call c.loop.local c.loop.answer c.in-Reply.reply c.in-Reply.spare c.loop.seat c.loop.carried c.next-todo.ensures c.in-Reply.is c.loop.invariant.0).0 }
 
 pub fill-requires : goal.fill-requires
 fill-requires g c =
     let h = (replies g.M.Site (SOLO_STEPS - 1) c.kind-kind.result c.split-call.result.0 c.args.site.now c.args.seat.now c.args.call c.loop.local c.loop.answer c.in-Reply.reply c.in-Reply.spare c.loop.seat c.loop.carried c.next-todo.ensures c.in-Reply.is c.loop.invariant.0).1 c.end.new.seat c.end.ensures in
-    rw h.1 refl
+    record { fits = rw h.1 refl }
 
 pub returns-in-Reply : goal.returns-in-Reply
 returns-in-Reply g c =

@@ -8,7 +8,7 @@ pub fill-requires : goal.fill-requires
 fill-requires g c =
     let owned = g.S.Sealed.owned in
     let told = c.settle-reply.ensures.sequential c.args.call (call-parts c.split-call.result c.args.call c.split-call.ensures) in
-    apart-fits (owned c.args.store.now) (owned c.settle-reply.new.self) c.args.call c.settle-reply.result c.settle-reply.new.carried told
+    record { fits = apart-fits (owned c.args.store.now) (owned c.settle-reply.new.self) c.args.call c.settle-reply.result c.settle-reply.new.carried told }
 
 pub returns-clause-sequential : goal.returns-clause-sequential
 returns-clause-sequential g c =

@@ -8,11 +8,11 @@ use Rattle.shared_calls.proofs.Wakes.{wakes_free, rests_ended}
 use Rattle.shared_calls.proofs.attempts.attempt_in.Goals.{in-Break, in-Continue}
 use Rattle.shared_calls.proofs.attempts.attempt_in.Goals as goal
 
-pub run-begun-requires-clause-rests : goal.run-begun-requires-clause-rests
-run-begun-requires-clause-rests g c = let s = c.wake-asking.ensures.seat in (s.0, wakes_free _ c.args.party.now c.wake-asking.result.seat.sitter c.requires.rests s.1)
+pub run-begun-requires : goal.run-begun-requires
+run-begun-requires g c = let s = c.wake-asking.ensures.seat in record { rests = (s.0, wakes_free _ c.args.party.now c.wake-asking.result.seat.sitter c.requires.rests s.1) }
 
 pub end_or_quit_in-requires : goal.end_or_quit_in-requires
-end_or_quit_in-requires g c = rw c.apart.ensures (c.args.call, c.requires.push, c.wake-asking.result, c.in-Continue.ensures)
+end_or_quit_in-requires g c = record { left = rw c.apart.ensures (c.args.call, c.requires.push, c.wake-asking.result, c.in-Continue.ensures) }
 
 pub rests-requires : goal.rests-requires
 rests-requires g c =
@@ -21,7 +21,7 @@ rests-requires g c =
       | in-Break b ↦ subst (λ x. ToldIn w p k x m.asking) (sym b.told-is) (subst (λ a. ToldIn w p k (Break b.in-Break.answer) a) (sym b.asking-is) b.in-Break.ensures)
       | in-Continue b ↦ let e = b.end_or_quit_in in subst (λ x. ToldIn w p k x m.asking) (sym (b.told-is ∙ b.retold-told.ensures)) (subst (λ a. ToldIn w p k e.result a) (sym b.asking-is) (e.ensures k p (rw b.apart.ensures b.in-Continue.ensures)))
     ] in
-    let free = told_free w p k m.told m.asking d in (free.0, free.1)
+    let free = told_free w p k m.told m.asking d in record { free = (free.0, free.1) }
 
 pub returns : goal.returns
 returns g c =

@@ -4,8 +4,8 @@ use Rattle.shared_calls.proofs.Wakes.{wakes_free, rests_ended}
 use Rattle.shared_calls.proofs.chain.answer.Goals.{in-Break, in-Continue}
 use Rattle.shared_calls.proofs.chain.answer.Goals as goal
 
-pub run-begun-requires-clause-rests : goal.run-begun-requires-clause-rests
-run-begun-requires-clause-rests g c = let s = c.wake-asking.ensures.seat in (s.0, wakes_free _ c.args.party.now c.wake-asking.result.seat.sitter c.requires s.1)
+pub run-begun-requires : goal.run-begun-requires
+run-begun-requires g c = let s = c.wake-asking.ensures.seat in record { rests = (s.0, wakes_free _ c.args.party.now c.wake-asking.result.seat.sitter c.requires s.1) }
 
 pub returns : goal.returns
 returns g c =

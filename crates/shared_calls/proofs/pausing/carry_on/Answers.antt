@@ -13,7 +13,7 @@ pub fill-requires-in-Break-retry : goal.fill-requires-in-Break-retry
 fill-requires-in-Break-retry g c =
     let h = c.loop.invariant.going in let n = SOLO_STEPS - 1 in
     let told = c.in-Break-retry.ensures n h.0 h.1 (again g.M.Site g.met.M.Site.goes_on g.met.M.Site.more n c.args.left.kind c.args.left.call c.args.site.now h.1 h.0 c.loop.progress c.loop.carried c.loop.seat h.2) in
-    is_filled c.in-Break-retry.reply c.retry-in-loop.new.carried told.0 told.1
+    record { fits = is_filled c.in-Break-retry.reply c.retry-in-loop.new.carried told.0 told.1 }
 
 pub returns-in-Break-retry : goal.returns-in-Break-retry
 returns-in-Break-retry g c = λ call first on.

@@ -7,15 +7,17 @@ use Rattle.shared_calls.proofs.pausing.pause.Goals as goal
 pub give_back-requires : goal.give_back-requires
 give_back-requires g c =
     let h = c.requires.stood in let n = SOLO_STEPS - 1 in
-    (replies g.M.Site n c.args.kind c.args.call c.args.site.now h.1 h.0 c.args.progress.local c.args.progress.answer c.in-Reply.reply c.in-Reply.spare c.args.seat.now c.args.carried c.next-todo.ensures c.in-Reply.is
-    (again g.M.Site g.met.M.Site.goes_on g.met.M.Site.more n c.args.kind c.args.call c.args.site.now h.1 h.0 c.args.progress c.args.carried c.args.seat.now h.2)).0
+    record {
+      may = (replies g.M.Site n c.args.kind c.args.call c.args.site.now h.1 h.0 c.args.progress.local c.args.progress.answer c.in-Reply.reply c.in-Reply.spare c.args.seat.now c.args.carried c.next-todo.ensures c.in-Reply.is
+          (again g.M.Site g.met.M.Site.goes_on g.met.M.Site.more n c.args.kind c.args.call c.args.site.now h.1 h.0 c.args.progress c.args.carried c.args.seat.now h.2)).0;
+    }
 
 pub fill-requires : goal.fill-requires
 fill-requires g c =
     let h = c.requires.stood in let n = SOLO_STEPS - 1 in
     let told = (replies g.M.Site n c.args.kind c.args.call c.args.site.now h.1 h.0 c.args.progress.local c.args.progress.answer c.in-Reply.reply c.in-Reply.spare c.args.seat.now c.args.carried c.next-todo.ensures c.in-Reply.is
     (again g.M.Site g.met.M.Site.goes_on g.met.M.Site.more n c.args.kind c.args.call c.args.site.now h.1 h.0 c.args.progress c.args.carried c.args.seat.now h.2)).1 c.give_back.new.seat c.give_back.ensures in
-    is_filled c.in-Reply.reply c.args.carried told.0 told.1
+    record { fits = is_filled c.in-Reply.reply c.args.carried told.0 told.1 }
 
 pub returns-in-Reply : goal.returns-in-Reply
 returns-in-Reply g c = λ call first stood.

@@ -11,15 +11,17 @@ use Rattle.shared_calls.proofs.pausing.settle_step.Goals as goal
 pub give_back-requires : goal.give_back-requires
 give_back-requires g c =
     let h = c.requires.stood in let n = SOLO_STEPS - 1 in let l = c.args.left in
-    (replies g.M.Site n l.kind l.call c.args.site.now h.1 h.0 l.progress.local l.progress.answer c.in-Reply.reply c.in-Reply.spare c.args.seat.now l.carried c.next-todo.ensures c.in-Reply.is
-    (again g.M.Site g.met.M.Site.goes_on g.met.M.Site.more n l.kind l.call c.args.site.now h.1 h.0 l.progress l.carried c.args.seat.now h.2)).0
+    record {
+      may = (replies g.M.Site n l.kind l.call c.args.site.now h.1 h.0 l.progress.local l.progress.answer c.in-Reply.reply c.in-Reply.spare c.args.seat.now l.carried c.next-todo.ensures c.in-Reply.is
+          (again g.M.Site g.met.M.Site.goes_on g.met.M.Site.more n l.kind l.call c.args.site.now h.1 h.0 l.progress l.carried c.args.seat.now h.2)).0;
+    }
 
 pub fill-requires : goal.fill-requires
 fill-requires g c =
     let h = c.requires.stood in let n = SOLO_STEPS - 1 in let l = c.args.left in
     let told = (replies g.M.Site n l.kind l.call c.args.site.now h.1 h.0 l.progress.local l.progress.answer c.in-Reply.reply c.in-Reply.spare c.args.seat.now l.carried c.next-todo.ensures c.in-Reply.is
     (again g.M.Site g.met.M.Site.goes_on g.met.M.Site.more n l.kind l.call c.args.site.now h.1 h.0 l.progress l.carried c.args.seat.now h.2)).1 c.give_back.new.seat c.give_back.ensures in
-    is_filled c.in-Reply.reply l.carried told.0 told.1
+    record { fits = is_filled c.in-Reply.reply l.carried told.0 told.1 }
 
 pub returns-in-Reply-clause-stood : goal.returns-in-Reply-clause-stood
 returns-in-Reply-clause-stood g c = λ call first stood.
@@ -32,8 +34,10 @@ returns-in-Reply-clause-stood g c = λ call first stood.
 pub take_step-answer-requires : goal.take_step-answer-requires
 take_step-answer-requires g c =
     let h = c.requires.stood in let n = SOLO_STEPS - 1 in let l = c.args.left in
-    (step g.M.Site n l.kind l.call c.args.site.now h.1 h.0 l.progress.local l.progress.answer c.in-Step.local c.in-Step.touch c.in-Step.op c.args.seat.now l.carried c.next-todo.ensures c.in-Step.is
-    (again g.M.Site g.met.M.Site.goes_on g.met.M.Site.more n l.kind l.call c.args.site.now h.1 h.0 l.progress l.carried c.args.seat.now h.2)).0
+    record {
+      may = (step g.M.Site n l.kind l.call c.args.site.now h.1 h.0 l.progress.local l.progress.answer c.in-Step.local c.in-Step.touch c.in-Step.op c.args.seat.now l.carried c.next-todo.ensures c.in-Step.is
+          (again g.M.Site g.met.M.Site.goes_on g.met.M.Site.more n l.kind l.call c.args.site.now h.1 h.0 l.progress l.carried c.args.seat.now h.2)).0;
+    }
 
 pub returns-else-is_early-clause-stood : goal.returns-else-is_early-clause-stood
 returns-else-is_early-clause-stood g c = λ call first stood.

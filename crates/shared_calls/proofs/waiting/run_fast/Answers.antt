@@ -13,7 +13,7 @@ pub fill-requires : goal.fill-requires
 fill-requires g c =
     let h = call-parts c.split-call.result c.args.call c.split-call.ensures in
     let told = c.in-Break.ensures (SOLO_STEPS - 1) c.args.call c.args.seat.now (rw h.1 (c.begin-kind.ensures.begun c.args.call (SOLO_STEPS - 1) h.0 refl)) in
-    is_filled c.in-Break.reply c.run.new.carried told.0 told.1
+    record { fits = is_filled c.in-Break.reply c.run.new.carried told.0 told.1 }
 
 pub returns-in-Break : goal.returns-in-Break
 returns-in-Break g c =

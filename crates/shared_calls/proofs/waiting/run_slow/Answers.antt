@@ -10,7 +10,7 @@ pub fill-requires : goal.fill-requires
 fill-requires g c =
     let (call, first, on) = c.requires.left in
     let told = c.leave-reply.ensures (SOLO_STEPS - 1) call first refl on in
-    is_filled c.leave-reply.result c.leave-reply.new.carried told.0 told.1
+    record { fits = is_filled c.leave-reply.result c.leave-reply.new.carried told.0 told.1 }
 
 pub returns : goal.returns
 returns g c = λ call first on.

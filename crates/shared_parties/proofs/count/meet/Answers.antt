@@ -2,10 +2,14 @@ use Rattle.shared_parties.proofs.Crowds.{looks_on}
 use Rattle.shared_parties.proofs.Meetings as meeting
 use Rattle.shared_parties.proofs.count.meet.Goals as goal
 
-pub act-requires : goal.act-requires
-act-requires g c =
+pub act-requires-clause-sits : goal.act-requires-clause-sits
+act-requires-clause-sits g c =
+    c.pair-seat.ensures.0
+
+pub act-requires-clause-may : goal.act-requires-clause-may
+act-requires-clause-may g c =
     let d = g.C.PartyCount.knows in let s = c.pair-seat.result in
-    (c.pair-seat.ensures.0, λ n vs k at. looks_on k (g.C.PartyCount.id s) (d s) (d c.args.first).known (d c.args.second).known at c.pair-seat.ensures.1)
+    λ n vs k at. looks_on k (g.C.PartyCount.id s) (d s) (d c.args.first).known (d c.args.second).known at c.pair-seat.ensures.1
 
 pub returns-clause-met : goal.returns-clause-met
 returns-clause-met g c =

@@ -8,7 +8,7 @@ use Rattle.concurrent_queue.proofs.shared.ConcurrentQueue.answer.Goals.{Joined-p
 use Rattle.concurrent_queue.proofs.shared.ConcurrentQueue.answer.Goals as goal
 
 pub end_at-requires : goal.end_at-requires
-end_at-requires g c = (c.args.call, c.in-Table.seat, c.in-Continue.ensures)
+end_at-requires g c = record { left = (c.args.call, c.in-Table.seat, c.in-Continue.ensures) }
 
 ends : (g : Over) (c : Joined-party g) → IsHeld c.match-party.party-inside.place × Calls c.args.party.now c.args.call c.match-party.result (party_view_of c.match-party.party-inside.place)
 ends g c = elim c.match-party.branch [

@@ -10,7 +10,7 @@ use Rattle.concurrent_queue.proofs.shared.ConcurrentQueue.pop.Goals.{In-Pop, in-
 use Rattle.concurrent_queue.proofs.shared.ConcurrentQueue.pop.Goals as goal
 
 pub end_at-requires : goal.end_at-requires
-end_at-requires g c = (call.Pop, c.in-Table.seat, c.in-Continue.ensures)
+end_at-requires g c = record { left = (call.Pop, c.in-Table.seat, c.in-Continue.ensures) }
 
 ends : (g : Over) (c : In-Pop g) → IsHeld c.match-party.party-inside.place × Calls c.args.party.now call.Pop c.match-party.reply (party_view_of c.match-party.party-inside.place)
 ends g c = elim c.match-party.branch [

@@ -5,16 +5,16 @@ use Rattle.concurrent_queue.proofs.TableCalls.{ends_here}
 use Rattle.concurrent_queue.proofs.shared.Form.end_at.Goals as goal
 
 pub run_slow-requires-clause-kind : goal.run_slow-requires-clause-kind
-run_slow-requires-clause-kind g c = let (call, first, h) = c.requires in (h.1 c.in-Single.slot c.in-Single.is).0.0
+run_slow-requires-clause-kind g c = let (call, first, h) = c.requires.left in (h.1 c.in-Single.slot c.in-Single.is).0.0
 
 pub run_slow-requires-in-Ring-clause-kind : goal.run_slow-requires-in-Ring-clause-kind
-run_slow-requires-in-Ring-clause-kind g c = let (call, first, h) = c.requires in (_, (h.2 c.in-Ring.ring c.in-Ring.is).0.0)
+run_slow-requires-in-Ring-clause-kind g c = let (call, first, h) = c.requires.left in (_, (h.2 c.in-Ring.ring c.in-Ring.is).0.0)
 
 pub run_slow-requires-clause-left : goal.run_slow-requires-clause-left
-run_slow-requires-clause-left g c = let (call, first, h) = c.requires in (call, first, h.1 c.in-Single.slot c.in-Single.is)
+run_slow-requires-clause-left g c = let (call, first, h) = c.requires.left in (call, first, h.1 c.in-Single.slot c.in-Single.is)
 
 pub run_slow-requires-in-Ring-clause-left : goal.run_slow-requires-in-Ring-clause-left
-run_slow-requires-in-Ring-clause-left g c = let (call, first, h) = c.requires in (call, first, h.2 c.in-Ring.ring c.in-Ring.is)
+run_slow-requires-in-Ring-clause-left g c = let (call, first, h) = c.requires.left in (call, first, h.2 c.in-Ring.ring c.in-Ring.is)
 
 pub returns-in-Single : goal.returns-in-Single
 returns-in-Single g c = λ call first h.

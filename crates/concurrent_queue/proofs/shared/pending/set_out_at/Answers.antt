@@ -8,10 +8,10 @@ use Rattle.concurrent_queue.proofs.Stops.{started}
 use Rattle.concurrent_queue.proofs.Told.{told_map}
 use Rattle.concurrent_queue.proofs.shared.pending.set_out_at.Goals as goal
 
-pub set_out-requires-clause-rests : goal.set_out-requires-clause-rests
-set_out-requires-clause-rests g c =
+pub set_out-requires : goal.set_out-requires
+set_out-requires g c =
     let s = c.args.seat.now in let t = c.args.table.now.table.shared.table_id in
-    begins_here (place.Table s) s (cap_of (g.K.TableKind.layout t.slots).calls) t (party_view_of (place.Table s)) refl c.requires.held refl c.requires.of
+    record { rests = begins_here (place.Table s) s (cap_of (g.K.TableKind.layout t.slots).calls) t (party_view_of (place.Table s)) refl c.requires.held refl c.requires.of }
 
 pub returns : goal.returns
 returns g c =

@@ -7,10 +7,10 @@ use Rattle.concurrent_queue.proofs.TableCalls.{begins_here}
 use Rattle.concurrent_queue.proofs.Told.{told_here, tells}
 use Rattle.concurrent_queue.proofs.shared.trying.attempt_at.Goals as goal
 
-pub run-requires-clause-rests : goal.run-requires-clause-rests
-run-requires-clause-rests g c =
+pub run-requires : goal.run-requires
+run-requires g c =
     let s = c.args.seat.now in let t = c.args.table.now.table.shared.table_id in
-    begins_here (place.Table s) s (cap_of (g.K.TableKind.layout t.slots).calls) t (party_view_of (place.Table s)) refl c.requires.held.0 refl c.requires.held.1
+    record { rests = begins_here (place.Table s) s (cap_of (g.K.TableKind.layout t.slots).calls) t (party_view_of (place.Table s)) refl c.requires.held.0 refl c.requires.held.1 }
 
 pub end_or_quit-requires-clause-left : goal.end_or_quit-requires-clause-left
 end_or_quit-requires-clause-left g c = (c.ask-call.result, tt, c.args.seat.now, c.in-Continue.ensures)
@@ -22,13 +22,13 @@ pub tell-requires : goal.tell-requires
 tell-requires g c =
     let s = c.args.seat.now in let q = c.run.new.seat in let t = c.args.table.now.table.shared.table_id in let v = party_view_of (place.Table s) in
     let h = told_here (place.Table s) s (cap_of (g.K.TableKind.layout t.slots).calls) t v refl c.requires.held.0 refl c.requires.held.1 q (place.Table q) c.ask-call.result (Break c.in-Break.reply) refl c.in-Break.ensures in
-    (v, _, c.args.given, subst (λ z. Tries v z (Break c.in-Break.reply) (party_view_of (place.Table q))) c.ask-call.ensures h.1)
+    record { told = (v, _, c.args.given, subst (λ z. Tries v z (Break c.in-Break.reply) (party_view_of (place.Table q))) c.ask-call.ensures h.1) }
 
 pub tell-requires-in-Continue : goal.tell-requires-in-Continue
 tell-requires-in-Continue g c =
     let s = c.args.seat.now in let q = c.end_or_quit.new.seat in let t = c.args.table.now.table.shared.table_id in let v = party_view_of (place.Table s) in let k = c.ask-call.result in
     let h = told_here (place.Table s) s (cap_of (g.K.TableKind.layout t.slots).calls) t v refl c.requires.held.0 refl c.requires.held.1 q (place.Table q) k c.end_or_quit.result refl (c.end_or_quit.ensures k s c.in-Continue.ensures) in
-    (v, _, c.args.given, subst (λ z. Tries v z c.end_or_quit.result (party_view_of (place.Table q))) c.ask-call.ensures h.1)
+    record { told = (v, _, c.args.given, subst (λ z. Tries v z c.end_or_quit.result (party_view_of (place.Table q))) c.ask-call.ensures h.1) }
 
 pub returns-in-Break : goal.returns-in-Break
 returns-in-Break g c =
