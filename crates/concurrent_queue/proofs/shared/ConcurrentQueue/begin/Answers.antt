@@ -67,34 +67,34 @@ pub set_out-begun-requires : goal.set_out-begun-requires
 set_out-begun-requires g c =
     let b = c.in-Chain-Web in let s = c.wake-asking.ensures.seat in
     let rests : RestsAt (web_of b.queue.chain) b.rested = search rules in
-    (s.0, wakes_free _ b.rested c.wake-asking.result.seat.sitter rests s.1)
+    record { rests = (s.0, wakes_free _ b.rested c.wake-asking.result.seat.sitter rests s.1) }
 
-pub at-requires-in-Break-set_out-begun : goal.at-requires-in-Break-set_out-begun
-at-requires-in-Break-set_out-begun g c =
-    let b = c.in-Chain-Web in let s = c.wake-asking.ensures.seat in let d = c.in-Break-set_out-begun.ensures in let out = c.rests.ensures in
+pub at-requires-in-Break-begun : goal.at-requires-in-Break-begun
+at-requires-in-Break-begun g c =
+    let b = c.in-Chain-Web in let s = c.wake-asking.ensures.seat in let d = c.in-Break-begun.ensures in let out = c.rests.ensures in
     let rests : RestsAt (web_of b.queue.chain) b.rested = search rules in
     let none = ap (λ (z : QueueId). z.cap) (c.requires ∙ (sym c.self.view_is ∙ ap form_id b.is-0)) in
-    let ends : EndedAt b.rested c.args.call c.in-Break-set_out-begun.reply c.rests.result =
-    rests_ended b.rested c.rests.result c.wake-asking.result.seat.sitter c.set_out-begun.new.seat.seat.sitter c.args.call c.in-Break-set_out-begun.reply s.1 d.0.1 d.1 out.0 (out.1 ∙ (d.0.0.0 ∙ sym rests.1)) out.2 in
+    let ends : EndedAt b.rested c.args.call c.in-Break-begun.reply c.rests.result =
+    rests_ended b.rested c.rests.result c.wake-asking.result.seat.sitter c.set_out-begun.new.seat.seat.sitter c.args.call c.in-Break-begun.reply s.1 d.0.1 d.1 out.0 (out.1 ∙ (d.0.0.0 ∙ sym rests.1)) out.2 in
     (web_ends _ (place.Web c.rests.result) b.rested c.rests.result c.args.party c.args.call _ _ b.is-1 c.party.invariant refl refl c.party.view_is none ends).0
 
-pub returns-in-Break-set_out-begun : goal.returns-in-Break-set_out-begun
-returns-in-Break-set_out-begun g c =
-    let b = c.in-Chain-Web in let s = c.wake-asking.ensures.seat in let d = c.in-Break-set_out-begun.ensures in let out = c.rests.ensures in
+pub returns-in-Break-begun : goal.returns-in-Break-begun
+returns-in-Break-begun g c =
+    let b = c.in-Chain-Web in let s = c.wake-asking.ensures.seat in let d = c.in-Break-begun.ensures in let out = c.rests.ensures in
     let rests : RestsAt (web_of b.queue.chain) b.rested = search rules in
     let none = ap (λ (z : QueueId). z.cap) (c.requires ∙ (sym c.self.view_is ∙ ap form_id b.is-0)) in
-    let ends : EndedAt b.rested c.args.call c.in-Break-set_out-begun.reply c.rests.result =
-    rests_ended b.rested c.rests.result c.wake-asking.result.seat.sitter c.set_out-begun.new.seat.seat.sitter c.args.call c.in-Break-set_out-begun.reply s.1 d.0.1 d.1 out.0 (out.1 ∙ (d.0.0.0 ∙ sym rests.1)) out.2 in
-    subst (λ p. Calls c.args.party c.args.call c.in-Break-set_out-begun.reply p) (sym c.at-in-Break-set_out-begun.ensures)
+    let ends : EndedAt b.rested c.args.call c.in-Break-begun.reply c.rests.result =
+    rests_ended b.rested c.rests.result c.wake-asking.result.seat.sitter c.set_out-begun.new.seat.seat.sitter c.args.call c.in-Break-begun.reply s.1 d.0.1 d.1 out.0 (out.1 ∙ (d.0.0.0 ∙ sym rests.1)) out.2 in
+    subst (λ p. Calls c.args.party c.args.call c.in-Break-begun.reply p) (sym c.at-in-Break-begun.ensures)
     (web_ends _ (place.Web c.rests.result) b.rested c.rests.result c.args.party c.args.call _ _ b.is-1 c.party.invariant refl refl c.party.view_is none ends).1
 
-pub at-requires-in-Continue-set_out-begun : goal.at-requires-in-Continue-set_out-begun
-at-requires-in-Continue-set_out-begun g c =
-    let b = c.in-Chain-Web in let e = c.in-Continue-set_out-begun.ensures in
-    (started_in b.queue.chain b.rested _ c.wake-asking.result c.set_out-begun.new.seat c.in-Continue-set_out-begun.left c.args.party c.args.call b.is-1 c.party.invariant c.party.view_is (c.requires ∙ (sym c.self.view_is ∙ ap form_id b.is-0)) c.wake-asking.ensures.seat.1 e.0.0.0 e.0.0.1 e.0.1 e.1).1
+pub at-requires-in-Continue-begun : goal.at-requires-in-Continue-begun
+at-requires-in-Continue-begun g c =
+    let b = c.in-Chain-Web in let e = c.in-Continue-begun.ensures in
+    (started_in b.queue.chain b.rested _ c.wake-asking.result c.set_out-begun.new.seat c.in-Continue-begun.left c.args.party c.args.call b.is-1 c.party.invariant c.party.view_is (c.requires ∙ (sym c.self.view_is ∙ ap form_id b.is-0)) c.wake-asking.ensures.seat.1 e.0.0.0 e.0.0.1 e.0.1 e.1).1
 
 pub returns-in-Chain-Web : goal.returns-in-Chain-Web
 returns-in-Chain-Web g c =
-    let b = c.in-Chain-Web in let e = c.in-Continue-set_out-begun.ensures in
-    c.at-in-Continue-set_out-begun.ensures
-    ∙ (started_in b.queue.chain b.rested _ c.wake-asking.result c.set_out-begun.new.seat c.in-Continue-set_out-begun.left c.args.party c.args.call b.is-1 c.party.invariant c.party.view_is (c.requires ∙ (sym c.self.view_is ∙ ap form_id b.is-0)) c.wake-asking.ensures.seat.1 e.0.0.0 e.0.0.1 e.0.1 e.1).2
+    let b = c.in-Chain-Web in let e = c.in-Continue-begun.ensures in
+    c.at-in-Continue-begun.ensures
+    ∙ (started_in b.queue.chain b.rested _ c.wake-asking.result c.set_out-begun.new.seat c.in-Continue-begun.left c.args.party c.args.call b.is-1 c.party.invariant c.party.view_is (c.requires ∙ (sym c.self.view_is ∙ ap form_id b.is-0)) c.wake-asking.ensures.seat.1 e.0.0.0 e.0.0.1 e.0.1 e.1).2

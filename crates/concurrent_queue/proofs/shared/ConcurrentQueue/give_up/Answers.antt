@@ -106,7 +106,7 @@ quit_in-requires g c =
     record { sits = h.0; halts = (h.1.kind, its_call s.seat.sitter.view, h.1.local, h.1.answer, h.1.local_is, h.1.answer_is, h.1.can, h.1.after) }
 
 pub rests-requires : goal.rests-requires
-rests-requires g c = let e = c.in-Ok-quit_in.ensures.quits in (e.1.1, e.1.2)
+rests-requires g c = let e = c.in-Ok-quit_in.ensures.quits in record { free = (e.1.1, e.1.2) }
 
 pub at-requires-in-Ok-quit_in : goal.at-requires-in-Ok-quit_in
 at-requires-in-Ok-quit_in g c =

@@ -107,7 +107,7 @@ rests-requires g c =
     let same = same_web s.seat.web w.web.id (ap (λ (z : Begun _). z.party.queue.name) there.1 ∙ ap (λ (z : QueueId). z.name) (c.requires.of ∙ (sym c.self.view_is ∙ ap form_id c.in-Chain-form-3.is))) in
     let h : StopsInside w s b.left v = ((same, c.requires.heap (ap (λ (z : QueueId). z.cap) (sym c.self.view_is ∙ ap form_id c.in-Chain-form-3.is)) s.seat.heap w.web.heap), there.0, there.1) in
     let e = (c.in-Break-take_up.ensures (its_call s.seat.sitter.view).call (first_asking w s) (((h.1.kind, h.1.call), taken_up_in w s b.left v h), own_step_in w s b.left v h)) in
-    (e.0.1.0, e.0.1.1)
+    record { free = (e.0.1.0, e.0.1.1) }
 
 pub at-requires-in-Break-take_up : goal.at-requires-in-Break-take_up
 at-requires-in-Break-take_up g c =
