@@ -1,28 +1,22 @@
 -- A try that was refused, and then a call that conforms, are one call that conforms: the failed try adds no place, and what its party has seen only grows.
-use Rattle.std.proofs.Common.{◌≡◌, ◌⊎◌, ℕ, zero, suc, ◌+◌, ◌≤◌, Bool, true, false, Option, None, Err, List, [], ◌∷◌, ◌++◌, length, refl, ap, sym, ◌∙◌, subst, ⊎_elim, append_assoc, append-nil, arith}
-use mathlib.Core.Option.{some, some-injective, some-ne-none}
+use Rattle.std.proofs.Common.{◌≡◌, ◌⊎◌, ℕ, ◌+◌, ◌≤◌, Option, None, Err, List, [], ◌∷◌, ◌++◌, length, refl, ap, sym, ◌∙◌, subst, append_assoc, append-nil, arith}
 use mathlib.Core.List.{IsPrefix}
 use Rattle.std.proofs.Common.{length-append}
-use lib.ListN.{get_elem?}
 use Rattle.queue_steps.specs.declared.model.Call.{Call}
 use Rattle.queue_steps.specs.declared.model.Call.TheVariants as call
 use Rattle.queue_steps.specs.declared.model.Reply.{Reply}
 use Rattle.queue_steps.specs.declared.model.Reply.TheVariants as reply
 use Rattle.queue_steps.specs.declared.model.Effect.{Effect}
-use Rattle.queue_steps.specs.declared.model.Effect.TheVariants as effect
 use Rattle.queue_steps.specs.declared.errors.PopError.TheVariants as pop
 use Rattle.queue_steps.specs.declared.errors.PushError.TheVariants as push
-use Rattle.queue_steps.specs.State.{State, start}
-use Rattle.queue_steps.specs.Effect.{Runs, IsHistory, made, after_from, after}
+use Rattle.queue_steps.specs.Effect.{after}
 use Rattle.queue_steps.specs.Replies.{LacksMemory, Tells}
 use Rattle.queue_steps.specs.Shares.{Share, IsEntire}
 use Rattle.queue_steps.specs.Parties.{View, StandAt, Displaces, SharedCall}
 use Rattle.queue_steps.specs.Sequential.{sequential_reply, sequential_state}
 use Rattle.queue_steps.specs.Legal.{IsShown}
 use Rattle.queue_steps.specs.SequentialCalls.{SequentialCall}
-use Rattle.queue_steps.proofs.Keeping.{stays_closed}
 use Rattle.concurrent_queue.specs.Shared.{QueueId, PartyView, Calls}
-use Rattle.counted_channel.specs.Channel.{Ends}
 
 module _ {T : Type 0} where
   prefix_same : (s : List (Effect T)) → IsPrefix s s
@@ -112,40 +106,6 @@ module _ {T : Type 0} where
     λ all. subst (λ (q : QueueId). SequentialCall q.cap u.view w.view c r) same
         (conforms_alone v.queue.cap u.view v.view w.view c r (tried.same all) (called.2 (subst (λ (s : Share). IsEntire s) (sym tried.share) all))),
   )
-
-  -- a queue that was seen closed stays so
-  closed_on : (Q : State T) (s d : List (Effect T)) → Runs Q (s ++ d) → (after_from Q s).closed ≡ true → (after_from Q (s ++ d)).closed ≡ true
-  closed_on Q [] d runs closed = stays_closed Q d runs closed
-  closed_on Q (e ∷ s) d runs closed = closed_on (made e Q) s d runs.1 closed
-
-  still_closed : (cap : Option ℕ) (s t : List (Effect T)) → IsPrefix s t → IsHistory cap t → (after cap s).closed ≡ true → (after cap t).closed ≡ true
-  still_closed cap s t (d, is) legal closed =
-      subst (λ (h : List (Effect T)). (after cap h).closed ≡ true) is (closed_on (start cap 0) s d (subst (IsHistory cap) (sym is) legal) closed)
-
-  -- where a close stands, the queue is closed then
-  close_stands : (Q : State T) (t : List (Effect T)) (p : ℕ) → Runs Q t → get_elem? t p ≡ some effect.Close → (after_from Q t).closed ≡ true
-  close_stands Q [] p runs at = absurd (some-ne-none effect.Close (sym at))
-  close_stands Q (e ∷ es) zero runs at = stays_closed (made e Q) es runs.1 (ap (λ (f : Effect T). (made f Q).closed) (some-injective e effect.Close at))
-  close_stands Q (e ∷ es) (suc p) runs at = close_stands (made e Q) es p runs.1 at
-
-  close_at : (cap : Option ℕ) (n : ℕ) (t : List (Effect T)) (ps : List ℕ) (es : List (Effect T)) → es ≡ effect.Close ∷ [] → IsHistory cap t → StandAt t n ps es → (after cap t).closed ≡ true
-  close_at cap n t [] es is legal s = absurd (subst (StandAt t n []) is s)
-  close_at cap n t (p ∷ ps) es is legal s = let s' = subst (StandAt t n (p ∷ ps)) is s in close_stands (start cap 0) t p legal s'.1
-
-  sees_closed_at : (cap : Option ℕ) (v w : View T) (closed : Bool) → SharedCall cap v w call.Close (reply.Close closed) → (after cap w.seen).closed ≡ true
-  sees_closed_at cap v w true called = close_at cap (length v.seen) w.seen called.places called.effects called.tells called.legal called.stand
-  sees_closed_at cap v w false called =
-      let right = called.right called.tells in
-      still_closed cap right.0 w.seen right.2 called.legal (⊎_elim (λ closed. closed) (λ lacks. absurd lacks) right.3)
-
-  -- a party that called close has seen the queue closed
-  pub sees_closed : (v w : PartyView T) (closed : Bool) → Calls v call.Close (reply.Close closed) w → (after w.queue.cap w.view.seen).closed ≡ true
-  sees_closed v w closed called = subst (λ (q : QueueId). (after q.cap w.view.seen).closed ≡ true) (sym called.0) (sees_closed_at v.queue.cap v.view w.view closed called.1)
-
-  -- the last end of a side has closed the queue
-  pub ended_last : (v w : PartyView T) (last : Bool) → last ≡ true → (closed : Bool) → Calls v call.Close (reply.Close closed) w → Ends v w last
-  ended_last v w true is closed called = ((closed, called), sees_closed v w closed called)
-  ended_last v w false is closed called = cc
 
   -- refusals
   pub full_is_refused : (v w : T) → IsRefused (call.Push v) (reply.Push (Err (push.Full w)))

@@ -1,21 +1,14 @@
 -- A channel over a shared queue: which calls of the queue its calls are.
-use Rattle.std.specs.Prelude.{◌≡◌, ℕ, Bool, true, false, Result, Ok, Err, Option, Some, None}
+use Rattle.std.specs.Prelude.{◌≡◌, ℕ}
 use mathlib.Core.List.{IsPrefix}
 use Rattle.atomic_table.specs.Seated.{TableId}
 use Rattle.queue_steps.specs.declared.model.Call.{Call}
-use Rattle.queue_steps.specs.declared.model.Call.TheVariants as call
 use Rattle.queue_steps.specs.declared.model.Reply.{Reply}
-use Rattle.queue_steps.specs.declared.model.Reply.TheVariants as reply
-use Rattle.queue_steps.specs.declared.errors.PopError.TheVariants as pop
-use Rattle.queue_steps.specs.declared.errors.PushError.TheVariants as push
-use Rattle.queue_steps.specs.declared.errors.ForcePushError.TheVariants as force
-use Rattle.queue_steps.specs.Effect.{IsHistory, after}
+use Rattle.queue_steps.specs.Effect.{IsHistory}
 use Rattle.queue_steps.specs.Shares.{Share, SamePart, IsPart, entire, half, plus}
 use Rattle.concurrent_queue.specs.Shared.{QueueId, PartyView, Calls, Parts, Joins}
+pub use Rattle.channel_calls.specs.Calls.{Ends, sent, force_sent, received}
 use Rattle.counted_channel.specs.declared.counting.SeatCounts.{SeatCounts}
-use Rattle.counted_channel.specs.declared.errors.SendError.{SendError}
-use Rattle.counted_channel.specs.declared.errors.SendError.TheVariants as send
-use Rattle.counted_channel.specs.declared.errors.Disconnected.{Disconnected}
 use Rattle.counted_channel.specs.Counting.{stake_at}
 
 -- which channel: its queue, and the table that counts its ends
@@ -37,38 +30,9 @@ end_at i p c v = record { party = p; counts = c; stake = stake_at i v }
 abbrev pub IsEndOf : {T : Type 0} → End T → ChannelId → Type 0
 IsEndOf e c = (e.party.queue ≡ c.queue) × (e.counts ≡ c.counts)
 
--- the replies of the queue that the channel's answers stand for
-abbrev pub sent : {T : Type 0} → Result (Unit {0}) (SendError T) → Reply T
-sent (Ok done) = reply.Push (Ok done)
-sent (Err (send.Closed v)) = reply.Push (Err (push.Closed v))
-sent (Err (send.NoMemory v)) = reply.Push (Err (push.NoMemory v))
-
-abbrev pub force_sent : {T : Type 0} → Result (Option T) (SendError T) → Reply T
-force_sent (Ok old) = reply.ForcePush (Ok old)
-force_sent (Err (send.Closed v)) = reply.ForcePush (Err (force.Closed v))
-force_sent (Err (send.NoMemory v)) = reply.ForcePush (Err (force.NoMemory v))
-
-abbrev pub received : {T : Type 0} → Result T Disconnected → Reply T
-received (Ok x) = reply.Pop (Ok x)
-received (Err why) = reply.Pop (Err pop.Closed)
-
--- those of one try, which may find the queue full, or open and empty
-abbrev pub sent_or_full : {T : Type 0} → Result (Result (Unit {0}) (SendError T)) T → Reply T
-sent_or_full (Ok answer) = sent answer
-sent_or_full (Err v) = reply.Push (Err (push.Full v))
-
-abbrev pub received_or_empty : {T : Type 0} → Option (Result T Disconnected) → Reply T
-received_or_empty (Some answer) = received answer
-received_or_empty None = reply.Pop (Err pop.Empty)
-
 -- the end d becomes e by one call of the queue, however often it was tried
 abbrev pub ChannelCall : {T : Type 0} → End T → Call T → Reply T → End T → Type 0
 ChannelCall d c r e = Calls d.party c r e.party × (e.counts ≡ d.counts) × (e.stake ≡ d.stake)
-
--- The end is no more, and its party v is given back as w. Where it was the last of its side, w has called close, and has seen the queue closed; else nothing was called
-abbrev pub Ends : {T : Type 0} → PartyView T → PartyView T → Bool → Type 0
-Ends v w true = ((closed : Bool) × Calls v call.Close (reply.Close closed) w) × ((after w.queue.cap w.view.seen).closed ≡ true)
-Ends v w false = w ≡ v
 
 -- the ends a and b become w, which has the stakes of both; these are together no more than one
 abbrev pub EndJoins : {T : Type 0} → End T → End T → End T → Type 0

@@ -1,4 +1,4 @@
 pub mod Channel
 pub mod Counting
-pub mod Errors
 pub mod Receiving
+pub use Rattle.channel_calls.specs.Errors

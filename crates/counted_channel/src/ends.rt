@@ -9,11 +9,12 @@ ghost use Rattle.counted_channel.specs.Channel.{IsEndOf, ChannelCall, EndParts, 
 
 use crate::counting::{Counts, RECEIVERS, SENDERS};
 use crate::either::ChannelEnd;
-use crate::errors::{Disconnected, SendError};
 use crate::sides::{SideEnd, end_one, join_ends, split_end};
 use crate::tries::{pop_until, push_until};
 use crate::waiting::Awaited;
 use crate::waking::{force_push, pop, push};
+use channel_calls::ending::finish_queue;
+use channel_calls::{Disconnected, SendError};
 use concurrent_queue::{
     ConcurrentQueue, Exclusive, ForcePushError, NullTestable, Party, PopError, PushError,
 };
@@ -349,7 +350,7 @@ impl<T, A: Allocator> Channel<T, A> {
             counts,
             awaited,
         } = self;
-        match queue.finish(party) {
+        match finish_queue(queue, party) {
             Ok(left) => Ok(left),
             Err((queue, party)) => Err((
                 Channel {

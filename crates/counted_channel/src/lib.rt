@@ -4,7 +4,6 @@
 mod counting;
 mod either;
 mod ends;
-mod errors;
 mod items;
 mod opening;
 mod sides;
@@ -12,9 +11,9 @@ pub mod tries;
 pub mod waiting;
 pub mod waking;
 
+pub use channel_calls::{Disconnected, SendError};
 pub use counting::MAX_ENDS;
 pub use either::ChannelEnd;
 pub use ends::{Channel, Receiver, Sender};
-pub use errors::{Disconnected, SendError};
 pub use items::Items;
 pub use opening::channel;

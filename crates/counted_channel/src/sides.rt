@@ -7,7 +7,7 @@ ghost use Rattle.counted_channel.specs.Counting.{IsEndSeat, stake_at};
 
 use crate::counting::{EndSeat, SharedCounts, leave, part, unite};
 use crate::waiting::Awaited;
-use crate::waking::close;
+use channel_calls::ending::close_after;
 use concurrent_queue::{ConcurrentQueue, Party};
 use std::alloc::Allocator;
 
@@ -92,21 +92,9 @@ pub(crate) fn end_one<T, A: Allocator>(
 {
     let SideEnd { mut party, place } = end;
     let last = leave(words, place, word);
-    close_after(queue, awaited, &mut party, last);
-    (party, last)
-}
-
-/// Closes the queue where the end that has ended was the last of its side.
-fn close_after<T, A: Allocator>(
-    queue: &ConcurrentQueue<T, A>,
-    awaited: &Awaited,
-    party: &mut Party<T>,
-    last: bool,
-)
-    requires { IsPartyOf party.old queue.now }
-    ensures { Ends party.old party.new last }
-{
+    close_after(queue, &mut party, last);
     if last {
-        close(queue, awaited, party);
+        awaited.wake_all();
     }
+    (party, last)
 }

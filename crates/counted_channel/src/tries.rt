@@ -1,14 +1,13 @@
 //! Calls of the queue that are tried again: to the party they are one call.
-ghost use Rattle.std.specs.Prelude.{◌≡◌};
 ghost use Rattle.queue_steps.specs.declared.model.Call.TheVariants as call;
-ghost use Rattle.queue_steps.specs.declared.model.Reply.TheVariants as reply;
 ghost use Rattle.concurrent_queue.specs.Shared.{IsPartyOf, Calls};
-ghost use Rattle.counted_channel.specs.Channel.{sent, received, sent_or_full, received_or_empty};
+ghost use Rattle.counted_channel.specs.Channel.{sent, received};
 
-use crate::errors::{Disconnected, SendError};
 use crate::waiting::{Awaited, Patience, end};
 use crate::waking::{pop, push};
-use concurrent_queue::{ConcurrentQueue, NullTestable, Party, PopError, PushError};
+use channel_calls::answers::{unless_empty, unless_full};
+use channel_calls::{Disconnected, SendError};
+use concurrent_queue::{ConcurrentQueue, NullTestable, Party};
 use std::alloc::Allocator;
 use std::sync::Wait;
 
@@ -43,19 +42,6 @@ pub fn push_until<T, A: NullTestable, R: Wait>(
     unreachable!()
 }
 
-/// The answer of a push, or its value where the queue was full: that is pushed again.
-#[inline]
-fn unless_full<T>(pushed: Result<(), PushError<T>>) -> Result<Result<(), SendError<T>>, T>
-    ensures { sent_or_full result ≡ reply.Push pushed }
-{
-    match pushed {
-        Ok(()) => Ok(Ok(())),
-        Err(PushError::Closed(back)) => Ok(Err(SendError::Closed(back))),
-        Err(PushError::NoMemory(back)) => Ok(Err(SendError::NoMemory(back))),
-        Err(PushError::Full(back)) => Err(back),
-    }
-}
-
 /// Pops, again and again while the queue is open and empty. After a few tries it sleeps between them, until there may be an item.
 ///
 /// # Errors
@@ -82,16 +68,4 @@ pub fn pop_until<T, A: Allocator, R: Wait>(
         }
     }
     unreachable!()
-}
-
-/// The answer of a pop, or nothing where the queue was open and empty: that is tried again.
-#[inline]
-fn unless_empty<T>(popped: Result<T, PopError>) -> Option<Result<T, Disconnected>>
-    ensures { received_or_empty result ≡ reply.Pop popped }
-{
-    match popped {
-        Ok(item) => Some(Ok(item)),
-        Err(PopError::Closed) => Some(Err(Disconnected)),
-        Err(PopError::Empty) => None,
-    }
 }

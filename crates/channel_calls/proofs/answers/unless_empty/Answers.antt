@@ -1,5 +1,5 @@
 use Rattle.std.proofs.Common.{rules}
-use Rattle.counted_channel.proofs.tries.unless_empty.Goals as goal
+use Rattle.channel_calls.proofs.answers.unless_empty.Goals as goal
 
 pub returns-in-Ok : goal.returns-in-Ok
 returns-in-Ok g c = search rules

@@ -1,0 +1,42 @@
+-- Which replies of the queue a channel's answers are, and what its last end does.
+use Rattle.std.specs.Prelude.{◌≡◌, Bool, true, false, Result, Ok, Err, Option, Some, None}
+use Rattle.queue_steps.specs.declared.model.Call.TheVariants as call
+use Rattle.queue_steps.specs.declared.model.Reply.{Reply}
+use Rattle.queue_steps.specs.declared.model.Reply.TheVariants as reply
+use Rattle.queue_steps.specs.declared.errors.PopError.TheVariants as pop
+use Rattle.queue_steps.specs.declared.errors.PushError.TheVariants as push
+use Rattle.queue_steps.specs.declared.errors.ForcePushError.TheVariants as force
+use Rattle.queue_steps.specs.Effect.{after}
+use Rattle.concurrent_queue.specs.Shared.{PartyView, Calls}
+use Rattle.channel_calls.specs.declared.errors.SendError.{SendError}
+use Rattle.channel_calls.specs.declared.errors.SendError.TheVariants as send
+use Rattle.channel_calls.specs.declared.errors.Disconnected.{Disconnected}
+
+-- the replies of the queue that the channel's answers stand for
+abbrev pub sent : {T : Type 0} → Result (Unit {0}) (SendError T) → Reply T
+sent (Ok done) = reply.Push (Ok done)
+sent (Err (send.Closed v)) = reply.Push (Err (push.Closed v))
+sent (Err (send.NoMemory v)) = reply.Push (Err (push.NoMemory v))
+
+abbrev pub force_sent : {T : Type 0} → Result (Option T) (SendError T) → Reply T
+force_sent (Ok old) = reply.ForcePush (Ok old)
+force_sent (Err (send.Closed v)) = reply.ForcePush (Err (force.Closed v))
+force_sent (Err (send.NoMemory v)) = reply.ForcePush (Err (force.NoMemory v))
+
+abbrev pub received : {T : Type 0} → Result T Disconnected → Reply T
+received (Ok x) = reply.Pop (Ok x)
+received (Err why) = reply.Pop (Err pop.Closed)
+
+-- those of one try, which may find the queue full, or open and empty
+abbrev pub sent_or_full : {T : Type 0} → Result (Result (Unit {0}) (SendError T)) T → Reply T
+sent_or_full (Ok answer) = sent answer
+sent_or_full (Err v) = reply.Push (Err (push.Full v))
+
+abbrev pub received_or_empty : {T : Type 0} → Option (Result T Disconnected) → Reply T
+received_or_empty (Some answer) = received answer
+received_or_empty None = reply.Pop (Err pop.Empty)
+
+-- The end is no more, and its party v is given back as w. Where it was the last of its side, w has called close, and has seen the queue closed; else nothing was called
+abbrev pub Ends : {T : Type 0} → PartyView T → PartyView T → Bool → Type 0
+Ends v w true = ((closed : Bool) × Calls v call.Close (reply.Close closed) w) × ((after w.queue.cap w.view.seen).closed ≡ true)
+Ends v w false = w ≡ v
