@@ -159,7 +159,7 @@ module _ {T : Type 0} where
     force_memory result s is = (forced (Err (force.NoMemory v)) (subst Forced is s)).1
 
     pub force_back : (result : Result (Option T) (ForcePushError T)) → Forced result → IfErr result (λ why. force_push_error_value why ≡ v)
-    force_back (Ok gone) s = tt
+    force_back (Ok _) s = tt
     force_back (Err (force.Closed w)) s = (forced (Err (force.Closed w)) s).0
     force_back (Err (force.NoMemory w)) s = (forced (Err (force.NoMemory w)) s).0
 
