@@ -7,7 +7,7 @@ ghost use Rattle.channel_calls.specs.Calls.{Ends};
 use concurrent_queue::{ConcurrentQueue, Exclusive, Party};
 use std::alloc::Allocator;
 
-/// Closes the queue where the end that has ended was the last of its side.
+/// Closes the queue where the end that has ended was the last of its side. It wakes nobody: the caller does.
 pub fn close_after<T, A: Allocator>(queue: &ConcurrentQueue<T, A>, party: &mut Party<T>, last: bool)
     requires { IsPartyOf party.old queue.now }
     ensures { Ends party.old party.new last }
