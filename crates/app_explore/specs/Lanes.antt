@@ -13,7 +13,7 @@ use Rattle.app_text.specs.Calls.{call_text}
 use Rattle.app_text.specs.Effects.{effect_text}
 use Rattle.app_text.specs.Items.{items_text}
 use Rattle.app_text.specs.Replies.{reply_text}
-use Rattle.app_explore.specs.Labels.{label_text}
+use Rattle.machine_memory.specs.Places.{label_text}
 
 -- what the party does: the call that it begins, or the label of its step, and whether the step's request is refused
 abbrev pub move_text : Event ℕ → Option (Local ℕ) → List ℕ

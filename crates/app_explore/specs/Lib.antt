@@ -5,7 +5,6 @@ pub mod Faults
 pub mod Reads
 pub mod Outcomes
 pub mod Schedules
-pub mod Labels
 pub mod Lanes
 pub mod WaitLines
 pub mod Stops

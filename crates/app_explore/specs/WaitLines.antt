@@ -5,7 +5,7 @@ use Rattle.queue_steps.specs.declared.model.Call.{Call}
 use Rattle.machine_explore.specs.declared.waiting.Side.{Side}
 use Rattle.machine_explore.specs.Waiting.{Waiting}
 use Rattle.app_text.specs.Calls.{call_text}
-use Rattle.app_explore.specs.Labels.{label_text}
+use Rattle.machine_memory.specs.Places.{label_text}
 
 abbrev pub party_call_text : ℕ → Option (Call ℕ) → List ℕ
 party_call_text p (Some c) = decimal p ++ codes ": " ++ call_text c

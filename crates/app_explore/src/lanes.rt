@@ -2,13 +2,13 @@
 ghost use Rattle.std.specs.Prelude.{◌≡◌, ◌++◌, [], ◌∷◌, if◌then◌else◌, ◌==◌, IfOk, OnOk, length, map, string_bytes};
 ghost use Rattle.app_explore.specs.Lanes.{cell_text, column, head_text, lanes_text, move_text, row_text, rows_text, told_text, widest};
 
-use crate::labels::label;
 use crate::schedules::party_of;
 use app_text::calls::ShownCall;
 use app_text::effects::ShownEffect;
 use app_text::items::write_items;
 use app_text::replies::ReplyText;
 use machine_explore::trace::TraceEntry;
+use machine_memory::places::label;
 use machine_replay::types::{Event, Told};
 use queue_steps::steps::Local;
 use std::alloc::{AllocError, Allocator};

@@ -5,7 +5,6 @@ pub mod args;
 mod calls;
 pub mod command;
 pub mod faults;
-mod labels;
 pub mod lanes;
 pub mod limits;
 pub mod listing;

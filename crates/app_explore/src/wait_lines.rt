@@ -3,9 +3,9 @@ ghost use Rattle.std.specs.Prelude.{◌≡◌, ◌++◌, map, OnOk, string_bytes
 ghost use Rattle.machine_explore.specs.Waiting.{wait_of};
 ghost use Rattle.app_explore.specs.WaitLines.{party_call_text, side_text, wait_line, waits_text};
 
-use crate::labels::label;
 use app_text::calls::ShownCall;
 use machine_explore::waiting::{Side, Wait};
+use machine_memory::places::label;
 use queue_steps::model::Call;
 use std::alloc::{AllocError, Allocator};
 

@@ -4,3 +4,4 @@ pub mod Blocks
 pub mod SharedMemory
 pub mod Opening
 pub mod Room
+pub mod Places

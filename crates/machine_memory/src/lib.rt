@@ -5,6 +5,7 @@ pub mod blocks;
 pub mod calls;
 pub mod effects;
 pub mod feeding;
+pub mod places;
 pub mod same;
 pub mod shared_memory;
 pub mod types;

@@ -3,8 +3,11 @@ ghost use Rattle.std.specs.Prelude.{◌≡◌, true};
 
 use crate::blocks::BlockPlace;
 use crate::calls::Running;
+use crate::places::{chain_kept, chain_label, ring_kept, ring_label};
 use queue_steps::model::CallKind;
-use queue_steps::steps::{BoundedLocal, Link, Local, Op, SingleLocal, Touch, UnboundedLocal, Word};
+use queue_steps::steps::{
+    BoundedLocal, Link, Local, Op, PushKind, SingleLocal, Touch, UnboundedLocal, Word,
+};
 
 /// Values that can be told to be the same.
 pub trait Same {
@@ -101,171 +104,34 @@ impl Same for SingleLocal {
     }
 }
 
+impl Same for PushKind {
+    fn same(&self, other: &PushKind) -> bool {
+        *self == *other
+    }
+}
+
+impl<X: Same, Y: Same> Same for (X, Y) {
+    fn same(&self, other: &(X, Y)) -> bool {
+        self.0.same(&other.0) && self.1.same(&other.1)
+    }
+}
+
+impl<X: Same, Y: Same, Z: Same> Same for (X, Y, Z) {
+    fn same(&self, other: &(X, Y, Z)) -> bool {
+        self.0.same(&other.0) && self.1.same(&other.1) && self.2.same(&other.2)
+    }
+}
+
+// Two calls at steps of one label that remember the same are at the same place.
 impl Same for BoundedLocal {
     fn same(&self, other: &BoundedLocal) -> bool {
-        match (self, other) {
-            (BoundedLocal::PushTail(kind), BoundedLocal::PushTail(other_kind)) => *kind
-                == *other_kind,
-            (
-                BoundedLocal::PushStamp(kind, word),
-                BoundedLocal::PushStamp(other_kind, other_word),
-            ) => (*kind == *other_kind) & (*word == *other_word),
-            (BoundedLocal::Claiming(kind, word), BoundedLocal::Claiming(other_kind, other_word)) =>
-                (*kind == *other_kind) & (*word == *other_word),
-            (BoundedLocal::Filling(kind), BoundedLocal::Filling(other_kind)) => *kind
-                == *other_kind,
-            (BoundedLocal::PushHead(word), BoundedLocal::PushHead(other_word)) => *word
-                == *other_word,
-            (BoundedLocal::Displacing(word), BoundedLocal::Displacing(other_word)) => *word
-                == *other_word,
-            (BoundedLocal::Arriving(word), BoundedLocal::Arriving(other_word)) => *word
-                == *other_word,
-            (BoundedLocal::Swapping, BoundedLocal::Swapping) => true,
-            (BoundedLocal::ClosingAtLimit(kind), BoundedLocal::ClosingAtLimit(other_kind)) => *kind
-                == *other_kind,
-            (BoundedLocal::PopHead, BoundedLocal::PopHead) => true,
-            (BoundedLocal::PopStamp(word), BoundedLocal::PopStamp(other_word)) => *word
-                == *other_word,
-            (BoundedLocal::Taking(word), BoundedLocal::Taking(other_word)) => *word == *other_word,
-            (BoundedLocal::Emptying, BoundedLocal::Emptying) => true,
-            (BoundedLocal::PopTail(word), BoundedLocal::PopTail(other_word)) => *word
-                == *other_word,
-            (BoundedLocal::LenTail, BoundedLocal::LenTail) => true,
-            (BoundedLocal::LenHead(word), BoundedLocal::LenHead(other_word)) => *word
-                == *other_word,
-            (
-                BoundedLocal::LenAgain(word, second),
-                BoundedLocal::LenAgain(other_word, other_second),
-            ) => (*word == *other_word) & (*second == *other_second),
-            (BoundedLocal::EmptyHead, BoundedLocal::EmptyHead) => true,
-            (BoundedLocal::EmptyTail(word), BoundedLocal::EmptyTail(other_word)) => *word
-                == *other_word,
-            (BoundedLocal::FullTail, BoundedLocal::FullTail) => true,
-            (BoundedLocal::FullHead(word), BoundedLocal::FullHead(other_word)) => *word
-                == *other_word,
-            (BoundedLocal::Closing, BoundedLocal::Closing) => true,
-            (BoundedLocal::ClosedTail, BoundedLocal::ClosedTail) => true,
-            _ => false,
-        }
+        ring_label(*self) == ring_label(*other) && ring_kept(*self).same(&ring_kept(*other))
     }
 }
 
 impl Same for UnboundedLocal<usize> {
     fn same(&self, other: &UnboundedLocal<usize>) -> bool {
-        match (self, other) {
-            (
-                UnboundedLocal::PushTail(kind, spare),
-                UnboundedLocal::PushTail(other_kind, other_spare),
-            ) => (*kind == *other_kind) & spare.same(other_spare),
-            (
-                UnboundedLocal::PushBlock(kind, word, spare),
-                UnboundedLocal::PushBlock(other_kind, other_word, other_spare),
-            ) => (*kind == *other_kind) & (*word == *other_word) & spare.same(other_spare),
-            (
-                UnboundedLocal::Asking(kind, word, spare),
-                UnboundedLocal::Asking(other_kind, other_word, other_spare),
-            ) => (*kind == *other_kind) & (*word == *other_word) & spare.same(other_spare),
-            (
-                UnboundedLocal::Installing(kind, word, block),
-                UnboundedLocal::Installing(other_kind, other_word, other_block),
-            ) => (*kind == *other_kind) & (*word == *other_word) & (*block == *other_block),
-            (
-                UnboundedLocal::Showing(kind, word, block),
-                UnboundedLocal::Showing(other_kind, other_word, other_block),
-            ) => (*kind == *other_kind) & (*word == *other_word) & (*block == *other_block),
-            (
-                UnboundedLocal::Claiming(kind, word, block, spare),
-                UnboundedLocal::Claiming(other_kind, other_word, other_block, other_spare),
-            ) => (*kind == *other_kind)
-                & (*word == *other_word)
-                & (*block == *other_block)
-                & spare.same(other_spare),
-            (
-                UnboundedLocal::Laying(kind, word, block, behind),
-                UnboundedLocal::Laying(other_kind, other_word, other_block, other_behind),
-            ) => (*kind == *other_kind)
-                & (*word == *other_word)
-                & (*block == *other_block)
-                & (*behind == *other_behind),
-            (
-                UnboundedLocal::Opening(kind, word, block, behind),
-                UnboundedLocal::Opening(other_kind, other_word, other_block, other_behind),
-            ) => (*kind == *other_kind)
-                & (*word == *other_word)
-                & (*block == *other_block)
-                & (*behind == *other_behind),
-            (
-                UnboundedLocal::Chaining(kind, word, block, behind),
-                UnboundedLocal::Chaining(other_kind, other_word, other_block, other_behind),
-            ) => (*kind == *other_kind)
-                & (*word == *other_word)
-                & (*block == *other_block)
-                & (*behind == *other_behind),
-            (
-                UnboundedLocal::Writing(kind, spare),
-                UnboundedLocal::Writing(other_kind, other_spare),
-            ) => (*kind == *other_kind) & spare.same(other_spare),
-            (
-                UnboundedLocal::ClosingAtLimit(kind, spare),
-                UnboundedLocal::ClosingAtLimit(other_kind, other_spare),
-            ) => (*kind == *other_kind) & spare.same(other_spare),
-            (UnboundedLocal::PopHead, UnboundedLocal::PopHead) => true,
-            (UnboundedLocal::PopBlock(word), UnboundedLocal::PopBlock(other_word)) => (*word
-                == *other_word),
-            (
-                UnboundedLocal::PopTail(word, spare),
-                UnboundedLocal::PopTail(other_word, other_spare),
-            ) => (*word == *other_word) & spare.same(other_spare),
-            (
-                UnboundedLocal::Taking(word, block),
-                UnboundedLocal::Taking(other_word, other_block),
-            ) => (*word == *other_word) & (*block == *other_block),
-            (
-                UnboundedLocal::Following(word, block),
-                UnboundedLocal::Following(other_word, other_block),
-            ) => (*word == *other_word) & (*block == *other_block),
-            (
-                UnboundedLocal::Peeking(word, block, behind),
-                UnboundedLocal::Peeking(other_word, other_block, other_behind),
-            ) => (*word == *other_word) & (*block == *other_block) & (*behind == *other_behind),
-            (
-                UnboundedLocal::Passing(word, block, is_last),
-                UnboundedLocal::Passing(other_word, other_block, other_is_last),
-            ) => (*word == *other_word) & (*block == *other_block) & (*is_last == *other_is_last),
-            (
-                UnboundedLocal::Entering(word, block),
-                UnboundedLocal::Entering(other_word, other_block),
-            ) => (*word == *other_word) & (*block == *other_block),
-            (
-                UnboundedLocal::Awaiting(word, block),
-                UnboundedLocal::Awaiting(other_word, other_block),
-            ) => (*word == *other_word) & (*block == *other_block),
-            (
-                UnboundedLocal::Reading(block, word),
-                UnboundedLocal::Reading(other_block, other_word),
-            ) => (*block == *other_block) & (*word == *other_word),
-            (
-                UnboundedLocal::Walking(block, word),
-                UnboundedLocal::Walking(other_block, other_word),
-            ) => (*block == *other_block) & (*word == *other_word),
-            (
-                UnboundedLocal::Destroying(block, word),
-                UnboundedLocal::Destroying(other_block, other_word),
-            ) => (*block == *other_block) & (*word == *other_word),
-            (UnboundedLocal::LenTail, UnboundedLocal::LenTail) => true,
-            (UnboundedLocal::LenHead(word), UnboundedLocal::LenHead(other_word)) => (*word
-                == *other_word),
-            (
-                UnboundedLocal::LenAgain(word, second),
-                UnboundedLocal::LenAgain(other_word, other_second),
-            ) => (*word == *other_word) & (*second == *other_second),
-            (UnboundedLocal::EmptyHead, UnboundedLocal::EmptyHead) => true,
-            (UnboundedLocal::EmptyTail(word), UnboundedLocal::EmptyTail(other_word)) => (*word
-                == *other_word),
-            (UnboundedLocal::Closing, UnboundedLocal::Closing) => true,
-            (UnboundedLocal::ClosedTail, UnboundedLocal::ClosedTail) => true,
-            _ => false,
-        }
+        chain_label(*self) == chain_label(*other) && chain_kept(*self).same(&chain_kept(*other))
     }
 }
 
