@@ -1,5 +1,6 @@
 //! How replies are printed.
 ghost use Rattle.std.specs.Prelude.{◌≡◌, ◌++◌, Some};
+ghost use Rattle.queue_steps.specs.declared.model.Reply.TheVariants as reply;
 ghost use Rattle.app_text.specs.Replies.{reply_text, number_text, truth_text};
 
 use queue_steps::errors::{ForcePushError, PopError, PushError};
@@ -16,24 +17,51 @@ impl ReplyText {
         ensures { reply_text self.0 ≡ result.0.now ++ number_text result.1 }
     {
         match self.0 {
-            Reply::Push(Ok(())) | Reply::ForcePush(Ok(None)) => ("ok", None),
-            Reply::ForcePush(Ok(Some(item))) => ("displaced ", Some(item)),
-            Reply::Push(Err(PushError::Full(value))) => ("full ", Some(value)),
-            Reply::Push(Err(PushError::Closed(value))) => ("closed ", Some(value)),
-            Reply::Push(Err(PushError::NoMemory(value))) => ("no memory ", Some(value)),
-            Reply::ForcePush(Err(ForcePushError::Closed(value))) => ("closed ", Some(value)),
-            Reply::ForcePush(Err(ForcePushError::NoMemory(value))) => ("no memory ", Some(value)),
-            Reply::Pop(Ok(item)) => ("item ", Some(item)),
-            Reply::Pop(Err(PopError::Empty)) => ("empty", None),
-            Reply::Pop(Err(PopError::Closed)) => ("closed", None),
+            Reply::Push(result) => push_parts(result),
+            Reply::ForcePush(result) => force_push_parts(result),
+            Reply::Pop(result) => pop_parts(result),
             Reply::Close(answer)
             | Reply::IsClosed(answer)
             | Reply::IsEmpty(answer)
             | Reply::IsFull(answer) => (truth(answer), None),
-            Reply::Len(count) => ("", Some(count as u64)),
-            Reply::Capacity(Some(count)) => ("", Some(count as u64)),
+            Reply::Len(count) | Reply::Capacity(Some(count)) => ("", Some(count as u64)),
             Reply::Capacity(None) => ("none", None),
         }
+    }
+}
+
+// The parts of the reply of a push.
+fn push_parts(told: Result<(), PushError<u64>>) -> (&'static str, Option<u64>)
+    ensures { reply_text (reply.Push told) ≡ result.0.now ++ number_text result.1 }
+{
+    match told {
+        Ok(()) => ("ok", None),
+        Err(PushError::Full(value)) => ("full ", Some(value)),
+        Err(PushError::Closed(value)) => ("closed ", Some(value)),
+        Err(PushError::NoMemory(value)) => ("no memory ", Some(value)),
+    }
+}
+
+// The same of a forced push.
+fn force_push_parts(told: Result<Option<u64>, ForcePushError<u64>>) -> (&'static str, Option<u64>)
+    ensures { reply_text (reply.ForcePush told) ≡ result.0.now ++ number_text result.1 }
+{
+    match told {
+        Ok(None) => ("ok", None),
+        Ok(Some(item)) => ("displaced ", Some(item)),
+        Err(ForcePushError::Closed(value)) => ("closed ", Some(value)),
+        Err(ForcePushError::NoMemory(value)) => ("no memory ", Some(value)),
+    }
+}
+
+// The same of a pop.
+fn pop_parts(told: Result<u64, PopError>) -> (&'static str, Option<u64>)
+    ensures { reply_text (reply.Pop told) ≡ result.0.now ++ number_text result.1 }
+{
+    match told {
+        Ok(item) => ("item ", Some(item)),
+        Err(PopError::Empty) => ("empty", None),
+        Err(PopError::Closed) => ("closed", None),
     }
 }
 
