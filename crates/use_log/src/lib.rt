@@ -15,6 +15,7 @@ use std::marker::Model;
 /// The newest entries, as many as its capacity, in the order in which they came.
 ///
 /// A contract sees the capacity, the entries that are held, and how many were ever appended, which are at most `LIMIT`.
+#[derive(Drop)]
 pub struct Log<T, A: Allocator = Global> {
     ring: Exclusive<T, A>,
 }
@@ -29,13 +30,6 @@ impl<T, A: Allocator> Model for Log<T, A> {
     ghost view = { λ log. held_by log.ring };
 
     ghost invariant = { λ log. IsLog log.ring };
-}
-
-impl<T: Drop, A: Allocator> Drop for Log<T, A> {
-    fn drop(self) {
-        let Log { ring } = self;
-        drop(ring);
-    }
 }
 
 impl<T, A: Allocator + Clone> Log<T, A> {

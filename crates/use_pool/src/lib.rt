@@ -12,6 +12,7 @@ use std::marker::Model;
 /// A pool of places, which have the numbers from 0 on.
 ///
 /// A contract sees how many places there are, the free ones in the order in which they will be handed out, and how many were ever put in.
+#[derive(Drop)]
 pub struct Pool<A: Allocator = Global> {
     ring: Exclusive<u64, A>,
 }
@@ -26,13 +27,6 @@ impl<A: Allocator> Model for Pool<A> {
     ghost view = { λ pool. places_of pool.ring };
 
     ghost invariant = { λ pool. IsPool pool.ring };
-}
-
-impl<A: Allocator> Drop for Pool<A> {
-    fn drop(self) {
-        let Pool { ring } = self;
-        drop(ring);
-    }
 }
 
 impl<A: Allocator + Clone> Pool<A> {
