@@ -5,7 +5,7 @@ use crate::asserts::{is, is_in};
 use std::alloc::Global;
 use std::process::Abort;
 use test_support::allocators::{Heap, Refusal};
-use use_log::Log;
+use use_owner::log::Log;
 
 /// Appends 0, 1, .. up to `count`, which is left out, to a log, and takes out what it holds. Asserts that the oldest gave way, and that the newest came out.
 fn give_way(rt: &impl Abort, heap: &Heap, capacity: usize, count: u64)

@@ -5,7 +5,7 @@ use crate::asserts::is_in;
 use std::alloc::Global;
 use std::process::Abort;
 use test_support::allocators::{Heap, Refusal};
-use use_pool::Pool;
+use use_owner::pool::Pool;
 
 /// Takes all places of a pool but the last. Gives whether each came in its turn.
 fn takes_all_but_one(pool: &mut Pool<&Heap>, count: usize) -> bool {

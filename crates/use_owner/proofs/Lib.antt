@@ -1,0 +1,4 @@
+pub mod Newest
+pub mod LogRings
+pub mod Places
+pub mod PoolRings

@@ -1,0 +1,4 @@
+pub mod Log
+pub mod LogRings
+pub mod Pool
+pub mod PoolRings

@@ -1,2 +1,0 @@
-pub mod Pool
-pub mod Rings
