@@ -58,8 +58,7 @@ impl<T: Drop, A: Allocator + Clone> Handle<T, A> {
         ensures limited { MAX_CAPACITY < cap → IsErr result }
     {
         let (queue, party) = ConcurrentQueue::bounded(alloc.clone()?, cap)?;
-        let queue = Arc::new(alloc, queue)?;
-        Ok(Handle { queue, party })
+        Self::first(alloc, queue, party)
     }
 
     /// The only handle of an empty open queue without a capacity.
@@ -73,6 +72,14 @@ impl<T: Drop, A: Allocator + Clone> Handle<T, A> {
         ensures { IfOk result (λ h. (h.queue.cap ≡ None) × (h.view ≡ record { seen = []; mine = []; share = entire })) }
     {
         let (queue, party) = ConcurrentQueue::unbounded(alloc.clone()?)?;
+        Self::first(alloc, queue, party)
+    }
+
+    /// The first handle of a new queue.
+    fn first(alloc: A, queue: ConcurrentQueue<T, A>, party: Party<T>) -> Result<Self, AllocError>
+        requires of { IsPartyOf party queue }
+        ensures { IfOk result (λ h. h ≡ party) }
+    {
         let queue = Arc::new(alloc, queue)?;
         Ok(Handle { queue, party })
     }

@@ -12,7 +12,7 @@ use crate::channel::ends::Call::{
 use crate::channel::opening::{Left, end_both, left, opened_over};
 use crate::channel::stories::{Line, Story, tell};
 use crate::opening::{open_surely, part};
-use callers_channel::{end_rejoined, hand_through};
+use callers::channel::{end_rejoined, hand_through};
 use concurrent_queue::{Party, PopError, PushError};
 use counted_channel::{Channel, Disconnected, Receiver, SendError};
 use std::alloc::Global;

@@ -5,7 +5,7 @@ ghost use Rattle.counted_channel.specs.Channel.{IsEndOf};
 use crate::asserts::{is, is_in};
 use crate::channel::ends::AnyEnd;
 use crate::channel::opening::{Left, left, opened_surely};
-use callers_channel::gather;
+use callers::channel::gather;
 use concurrent_queue::Party;
 use counted_channel::{Channel, Receiver, SendError, Sender};
 use std::alloc::Global;

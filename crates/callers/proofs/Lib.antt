@@ -1,0 +1,4 @@
+mod Closings
+pub mod Displacing
+mod Halves
+mod ChannelHalves

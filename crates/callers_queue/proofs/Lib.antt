@@ -1,3 +1,0 @@
-mod Closings
-pub mod Displacing
-mod Halves

@@ -1,5 +1,0 @@
-use Rattle.std.proofs.Common.{rules}
-use Rattle.callers_queue.proofs.owner.first_step_of_a_pop.Goals as goal
-
-pub returns : goal.returns
-returns c = search rules

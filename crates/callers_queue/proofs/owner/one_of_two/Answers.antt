@@ -1,5 +1,0 @@
-use Rattle.std.proofs.Common.{rules}
-use Rattle.callers_queue.proofs.owner.one_of_two.Goals as goal
-
-pub returns : goal.returns
-returns g c = search rules
