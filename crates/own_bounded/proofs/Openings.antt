@@ -1,5 +1,5 @@
 -- The words of a ring that opens at some position, and the ring that they are with empty slots.
-use Rattle.std.proofs.Common.{◌≡◌, ◌⊎◌, ℕ, zero, suc, ◌+◌, ◌-◌, ◌*◌, ◌%◌, ◌<◌, ◌≤◌, List, [], ◌∷◌, ◌++◌, length, map, get_or, Option, None, Some, false, refl, arith, sym, ◌∙◌, mod-lt, inl, inr, length-append}
+use Rattle.std.proofs.Common.{◌≡◌, ◌⊎◌, ℕ, zero, suc, ◌+◌, ◌-◌, ◌*◌, ◌%◌, ◌<◌, ◌≤◌, List, [], ◌∷◌, ◌++◌, length, map, get_or, Option, None, Some, false, refl, ap, arith, sym, ◌∙◌, mod-lt, inl, inr, length-append}
 use Rattle.std.specs.Prelude.{replicate}
 use Rattle.std.proofs.lemmas.List.{get_or_append_left, get_or-append_right}
 use mathlib.Core.Option.{some}
@@ -13,6 +13,8 @@ use Rattle.law_ring.proofs.RingIdle.{same_position}
 use Rattle.own_bounded.specs.RingMemory.{ring_in}
 use Rattle.own_bounded.specs.RingWords.{words_behind}
 use Rattle.own_bounded.specs.RingOpening.{Opened, IsOpening, IsUntouched}
+use Rattle.own_bounded.specs.RingNew.{IsNew}
+use Rattle.own_bounded.specs.declared.ring_words.TheConstants.{STAMPS}
 use Rattle.own_bounded.proofs.RingWrites.{elem_or}
 
 pub Opened-none : (n cap : ℕ) → Opened n cap 0 []
@@ -31,6 +33,10 @@ Opened-more n cap i q stamps low high mine o = record { long = length-append sta
         let got = get_or-append_right stamps (q ∷ []) i k 0 l (omega arith) in
         (q, got ∙ rw none refl, low, high, mine ∙ sym e)
     go k (inr h) = let old = o.free k h in (old.0, get_or_append_left stamps (q ∷ []) 0 k (let l = o.long in omega arith) ∙ old.1, old.2, old.3, old.4)
+
+-- there are as many words as a ring has
+pub IsOpening-length : (cap n : ℕ) (ws : List ℕ) → IsOpening cap n ws → length ws ≡ cap + STAMPS
+IsOpening-length cap n ws o = let long = o.2.long in ap length o.1 ∙ omega (arith, long)
 
 -- the slots of a new table are at home
 pub homes_at : {A : Type 0} (n k : ℕ) (a : A) → k < length (map some (replicate n a)) → get_elem? (map some (replicate n a)) k ≡ some (some a)
@@ -57,23 +63,22 @@ module _ {T : Type 0} where
       }
 
   -- with empty slots they are an empty open ring
-  opens : (cap n : ℕ) (stamps : List ℕ) (xs : List (Option T)) → IsRing cap → n ≤ LIMIT → length xs ≡ cap → ((k : ℕ) → k < cap → get_or xs k None ≡ None) → Opened n cap cap stamps
-      → IsIdle (ring_in cap (1 ∷ words_behind (n * 2) n stamps) xs) × (ring_owned (ring_in cap (1 ∷ words_behind (n * 2) n stamps) xs) ≡ record { queue = start (Some cap) n; blocks = 0 })
+  opens : (cap n : ℕ) (stamps : List ℕ) (xs : List (Option T)) → IsRing cap → n ≤ LIMIT → length xs ≡ cap → ((k : ℕ) → k < cap → get_or xs k None ≡ None) → Opened n cap cap stamps → IsNew cap n (1 ∷ words_behind (n * 2) n stamps) xs
   opens cap n stamps xs ring below long empty o =
       let half : position_of (n * 2) ≡ n = omega arith in
       let open_is : is_shut (n * 2) ≡ false = grind arith in
-      let none : position_of (n * 2) - n ≡ 0 = omega arith in (
-        record {
+      let none : position_of (n * 2) - n ≡ 0 = omega arith in
+      record {
+        idle = record {
           ring = ring;
           below = omega arith;
           holds = rw half (Opened-holds n cap stamps xs (let wide = ring.0 in omega arith) long empty o);
-        },
-        (λ i. record { queue = record { items = items_of cap xs n (none i); cap = Some cap; closed = open_is i; coming = None; accepted = half i }; blocks = 0 }),
-      )
+        };
+        empty = λ i. record { queue = record { items = items_of cap xs n (none i); cap = Some cap; closed = open_is i; coming = None; accepted = half i }; blocks = 0 };
+      }
 
   -- the memory of a table that was closed untouched is an empty open ring
-  pub ring_opens : (cap n : ℕ) (first ws : List ℕ) (xs : List (Option T)) → IsRing cap → n ≤ LIMIT → IsOpening cap n first → length xs ≡ cap → Final (IsUntouched first) ws xs
-      → IsIdle (ring_in cap ws xs) × (ring_owned (ring_in cap ws xs) ≡ record { queue = start (Some cap) n; blocks = 0 })
+  pub ring_opens : (cap n : ℕ) (first ws : List ℕ) (xs : List (Option T)) → IsRing cap → n ≤ LIMIT → IsOpening cap n first → length xs ≡ cap → Final (IsUntouched first) ws xs → IsNew cap n ws xs
   ring_opens cap n first ws xs ring below opening long end =
       let s = end.0 in let rule : IsUntouched first s = end.1 in
       let words : ws ≡ 1 ∷ words_behind (n * 2) n opening.0 = sym end.2 ∙ (rule.0 ∙ opening.1) in

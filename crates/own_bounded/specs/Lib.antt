@@ -3,5 +3,6 @@ pub mod RingWords
 pub mod RingMemory
 pub mod RingOpening
 pub mod RingOwned
+pub mod RingNew
 pub mod ItemsLeft
 pub mod Laws

@@ -3,10 +3,11 @@ ghost use Rattle.std.specs.Prelude.{◌≡◌, true, ◌+◌, ◌%◌, ◌<◌, 
 ghost use Rattle.std.specs.Mem.Slots.{slots_items, slots_len, IsFull};
 ghost use Rattle.queue_steps.specs.LookNext.{IsLoad};
 ghost use Rattle.queue_steps.specs.State.{start};
-ghost use Rattle.queue_steps.specs.Words.{slot_at};
+ghost use Rattle.queue_steps.specs.Words.{slot_at, IsRing};
 ghost use Rattle.queue_steps.specs.declared.sizes.TheConstants.{LIMIT, MAX_CAPACITY};
 ghost use Rattle.own_bounded.specs.RingCells.{stamp_at, item_at};
 ghost use Rattle.own_bounded.specs.RingOpening.{IsOpening};
+ghost use Rattle.own_bounded.specs.RingNew.{IsNew};
 ghost use Rattle.own_bounded.specs.declared.ring_words.TheConstants.{STAMPS};
 
 use crate::ring_words::{HEAD, STAMPS, TAIL, words_before_stamps};
@@ -105,6 +106,31 @@ fn first_words<A: Allocator>(
     Ok(words)
 }
 
+/// The memory of an empty open ring whose positions stand as after `accepted` items.
+fn opening_memory<T, A: Allocator + Clone>(
+    alloc: A,
+    capacity: usize,
+    accepted: u64,
+) -> Result<Closed<Option<T>, A>, AllocError>
+    requires ring { IsRing capacity }
+    requires accepted { accepted ≤ LIMIT }
+    ensures { IfOk result (λ memory. (IsFull memory.words × IsFull memory.slots) × (slots_len memory.words ≡ capacity + STAMPS) × (slots_len memory.slots ≡ capacity) × IsNew capacity accepted (slots_items memory.words) (slots_items memory.slots)) }
+{
+    let for_words = alloc.clone()?;
+    let slots = empty_slots::<T, A>(alloc.clone()?, capacity)?;
+    let Ok(words) = first_words(for_words, capacity, accepted) else {
+        discard(slots);
+        return Err(AllocError);
+    };
+    let (table, _seat): (Table<Option<T>, (), Vec<u64, A>, Untouched, A>, _) = table_of(
+        alloc,
+        words.as_slice(),
+        slots,
+        &words,
+    )?;
+    Ok(table.close())
+}
+
 impl<T, A: Allocator + Clone> Ring<T, A> {
     ghost use Rattle.own_bounded.specs.RingOwned.{IsIdle, ring_owned};
 
@@ -125,19 +151,7 @@ impl<T, A: Allocator + Clone> Ring<T, A> {
         if capacity > MAX_CAPACITY {
             return Err(AllocError);
         }
-        let for_words = alloc.clone()?;
-        let slots = empty_slots::<T, A>(alloc.clone()?, capacity)?;
-        let Ok(words) = first_words(for_words, capacity, accepted) else {
-            discard(slots);
-            return Err(AllocError);
-        };
-        let (table, _seat): (Table<Option<T>, (), Vec<u64, A>, Untouched, A>, _) = table_of(
-            alloc,
-            words.as_slice(),
-            slots,
-            &words,
-        )?;
-        let memory = table.close();
+        let memory = opening_memory(alloc, capacity, accepted)?;
         Ok(Ring { capacity, memory })
     }
 }

@@ -1,0 +1,25 @@
+use Rattle.std.proofs.Common.{◌≡◌, ℕ, ◌<◌, List, Option, None, length, map, ap, sym, ◌∙◌, subst}
+use Rattle.std.proofs.lemmas.List.{length-replicate}
+use mathlib.Core.Option.{some}
+use lib.ListN.{get_elem?}
+use Rattle.std.specs.Mem.Slots.{slots_items, slots_counts}
+use Rattle.atomic_table.specs.Table.{Final}
+use Rattle.own_bounded.specs.RingOpening.{IsUntouched}
+use Rattle.own_bounded.proofs.Openings.{IsOpening-length, ring_opens, homes_at}
+use Rattle.own_bounded.proofs.bounded.opening_memory.Goals as goal
+
+pub table_of-requires-clause-holds : goal.table_of-requires-clause-holds
+table_of-requires-clause-holds g c = (
+  c.as_slice.ensures.value,
+  subst (λ (xs : List (Option g.row.T.Denot)). (k : ℕ) → k < length (map some xs) → get_elem? (map some xs) k ≡ some (some None)) (sym c.in_ok-slots.ensures) (λ k. homes_at c.args.capacity k None),
+)
+
+pub returns : goal.returns
+returns g c =
+    let m = c.close.result in let k = c.close.ensures in let t = c.in_ok-table.ensures in
+    let ws = slots_items m.words in let xs = slots_items m.slots in
+    let opening = c.in-Ok.ensures in
+    let words_long = k.counts.0 ∙ (t.0 ∙ (ap length c.as_slice.ensures.value ∙ IsOpening-length c.args.capacity c.args.accepted c.in-Ok.words.items opening)) in
+    let slots_long = k.counts.1 ∙ (t.1 ∙ (ap length c.in_ok-slots.ensures ∙ length-replicate c.args.capacity None)) in
+    let words = ap (λ v. v.items) t.5 in
+    ((k.values.0, k.values.1), words_long, slots_long, ring_opens c.args.capacity c.args.accepted c.in-Ok.words.items ws xs c.requires.ring c.requires.accepted opening (sym (slots_counts m.slots).0 ∙ slots_long) (subst (λ (z : List ℕ). Final (IsUntouched z) ws xs) words k.values.2))
