@@ -3,3 +3,5 @@ pub mod RingWrites
 pub mod RingLies
 pub mod Sent
 pub mod ItemsLeft
+pub mod Filling
+pub mod Emptying
