@@ -6,11 +6,9 @@ use mathlib.Core.Option.{some}
 use lib.ListN.{get_elem?}
 use Rattle.atomic_table.specs.Table.{Final}
 use Rattle.queue_steps.specs.declared.sizes.TheConstants.{LIMIT}
-use Rattle.queue_steps.specs.State.{start}
 use Rattle.queue_steps.specs.Words.{IsRing, position_of, is_shut, slot_at}
-use Rattle.own_bounded.specs.RingOwned.{HoldsItems, items_of, IsIdle, ring_owned}
+use Rattle.own_bounded.specs.RingOwned.{HoldsItems, items_of}
 use Rattle.law_ring.proofs.RingIdle.{same_position}
-use Rattle.own_bounded.specs.RingMemory.{ring_in}
 use Rattle.own_bounded.specs.RingWords.{words_behind}
 use Rattle.own_bounded.specs.RingOpening.{Opened, IsOpening, IsUntouched}
 use Rattle.own_bounded.specs.RingNew.{IsNew}
