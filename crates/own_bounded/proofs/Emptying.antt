@@ -1,6 +1,7 @@
 -- Steps of the loop that takes what is in the slots out, one by one.
-use Rattle.std.proofs.Common.{◌≡◌, ◌⊎◌, inl, inr, ℕ, ◌+◌, ◌<◌, ◌≤◌, Bool, true, false, List, [], ◌∷◌, get_or, set, refl, ◌∙◌, ap, arith, ◌≢◌, zero, suc}
-use Rattle.std.proofs.lemmas.List.{get_or-set_other}
+use Rattle.std.proofs.Common.{◌≡◌, ◌⊎◌, inl, inr, ℕ, ◌+◌, ◌<◌, ◌≤◌, Bool, true, false, List, [], ◌∷◌, get_or, set, refl, ◌∙◌, ap, sym, arith, ◌≢◌, zero, suc, length, ◌++◌, take, length-append}
+use Rattle.std.specs.Prelude.{replicate}
+use Rattle.std.proofs.lemmas.List.{get_or-set_other, take_at, take-replicate, length-replicate}
 use Rattle.own_bounded.specs.Laws.Numbers.{same_or_not}
 
 pub none_before : (k : ℕ) → k < 0 → ⊥
@@ -31,3 +32,15 @@ module _ (old new : List Bool) (i : ℕ) where
 
   pub others_full : (n : ℕ) → new ≡ set old i false → ((k : ℕ) → i ≤ k → k < n → get_or old k false ≡ true) → (k : ℕ) → i + 1 ≤ k → k < n → get_or new k false ≡ true
   others_full n is full k low lt = ap (λ fs. get_or fs k false) is ∙ (get_or-set_other old i k false false (λ e. omega (arith, low, e)) ∙ full k (omega (arith, low)) lt)
+
+-- a list of which the last is taken
+module _ {A : Type 0} (old new : List A) (last : A) where
+  pub fewer_left : old ≡ new ++ last ∷ [] → length new < length old
+  fewer_left is = let long = ap length is ∙ length-append new (last ∷ []) in omega (arith, long)
+
+  pub rest_replicated : (a : A) → old ≡ replicate (length old) a → old ≡ new ++ last ∷ [] → new ≡ replicate (length new) a
+  rest_replicated a all is = sym (take_at new (last ∷ []) (length new) refl) ∙ (ap (take (length new)) (sym is ∙ all) ∙ take-replicate (length new) (length old) a (let lt = fewer_left is in omega (arith, lt)))
+
+-- a list of one value, by its own length
+pub replicated : {A : Type 0} (xs : List A) (n : ℕ) (a : A) → xs ≡ replicate n a → xs ≡ replicate (length xs) a
+replicated xs n a is = is ∙ ap (λ k. replicate k a) (sym (ap length is ∙ length-replicate n a))
