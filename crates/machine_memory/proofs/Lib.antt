@@ -1,3 +1,4 @@
 pub mod Busy
 pub mod Presence
+pub mod Filling
 mod Writing
