@@ -10,6 +10,9 @@ room_left len cap at end is most lt = omega arith
 pub room_behind : (len cap at more end : ℕ) → len ≡ at → cap ≡ more + end → at < end → len < cap
 room_behind len cap at more end is most lt = omega arith
 
+pub room_before : (len cap at end more : ℕ) → len ≡ at + more → cap ≡ end + more → at < end → len < cap
+room_before len cap at end more is most lt = omega arith
+
 pub at_end : (at end : ℕ) → at ≤ end → end ≤ at → at ≡ end
 at_end at end low high = omega arith
 

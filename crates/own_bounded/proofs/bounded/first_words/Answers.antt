@@ -1,4 +1,8 @@
-use Rattle.std.proofs.Common.{◌++◌, ◌∷◌, [], ap, ◌∙◌, arith, rules}
+use Rattle.std.proofs.Common.{ℕ, ◌++◌, ◌∷◌, [], ap, ◌∙◌, arith, rules, subst}
+use Rattle.std.proofs.lemmas.Result.{IfOk-from_err}
+use Rattle.own_bounded.specs.RingOpening.{Opened}
+use Rattle.own_bounded.specs.declared.ring_words.TheConstants.{STAMPS}
+use Rattle.own_bounded.proofs.Filling.{room_before, at_end}
 use Rattle.own_bounded.proofs.Openings.{Opened-more}
 use Rattle.own_bounded.proofs.bounded.first_words.Goals as goal
 
@@ -19,3 +23,26 @@ loop-slot-preserved g c =
 
 pub loop-slot-init : goal.loop-slot-init
 loop-slot-init g c = search rules
+
+pub words_before_stamps-requires : goal.words_before_stamps-requires
+words_before_stamps-requires g c = c.requires.capacity
+
+pub returns-in_err-words : goal.returns-in_err-words
+returns-in_err-words g c = IfOk-from_err c.from_residual.result _ c.from_residual.ensures.0
+
+pub first_position-requires-clause-slot : goal.first_position-requires-clause-slot
+first_position-requires-clause-slot g c = c.loop-slot-test.true
+
+pub first_position-requires-clause-capacity : goal.first_position-requires-clause-capacity
+first_position-requires-clause-capacity g c = c.requires.capacity
+
+pub first_position-requires-clause-accepted : goal.first_position-requires-clause-accepted
+first_position-requires-clause-accepted g c = c.requires.accepted
+
+pub push_reserved-requires : goal.push_reserved-requires
+push_reserved-requires g c = let i = c.loop-slot.invariant in room_before _ _ c.loop-slot.slot c.args.capacity STAMPS i.len i.room c.loop-slot-test.true
+
+pub returns : goal.returns
+returns g c =
+    let opened = c.loop-slot.invariant.opened in
+    (opened.0, opened.1, subst (λ (k : ℕ). Opened c.args.accepted c.args.capacity k opened.0) (at_end c.loop-slot.slot c.args.capacity c.loop-slot.auto.slot-end c.loop-slot-test.false) opened.2)
