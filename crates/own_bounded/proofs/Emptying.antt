@@ -1,4 +1,4 @@
--- Steps of the loop that takes what is in the slots out, one by one.
+-- Steps of the loops that empty a list, from its front or from its end.
 use Rattle.std.proofs.Common.{◌≡◌, ◌⊎◌, inl, inr, ℕ, ◌+◌, ◌<◌, ◌≤◌, Bool, true, false, List, [], ◌∷◌, get_or, set, refl, ◌∙◌, ap, sym, arith, ◌≢◌, zero, suc, length, ◌++◌, take, length-append}
 use Rattle.std.specs.Prelude.{replicate}
 use Rattle.std.proofs.lemmas.List.{get_or-set_other, take_at, take-replicate, length-replicate}
