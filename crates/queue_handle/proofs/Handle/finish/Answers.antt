@@ -1,4 +1,4 @@
-use Rattle.std.proofs.Common.{rules, tests}
+use Rattle.std.proofs.Common.{rules}
 use Rattle.queue_handle.proofs.Handle.finish.Goals as goal
 
 pub returns-in-Ok-finish : goal.returns-in-Ok-finish
