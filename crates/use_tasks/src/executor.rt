@@ -5,7 +5,7 @@ ghost use Rattle.law_parties.specs.Doings.{SawDrained};
 ghost use Rattle.use_tasks.specs.Sharing.{IsWorkerOf, IsFresh, Moves, IsShift, IsDone, AreParts, AreJoined, none, one, below, taken};
 ghost use denote.Param.Send.{IsSync};
 
-use crate::numbered::{Batch, Finished, Running};
+use crate::numbered::{Batch, Finished, Numbered, Running};
 use crate::stepped::{Step, Task};
 use concurrent_queue::{ConcurrentQueue, Exclusive, NullTestable, Party, PopError};
 use crossbeam_utils::Backoff;
@@ -34,19 +34,15 @@ pub(crate) struct Worker<T, D> {
     outputs: Party<D>,
 }
 
-type BatchExecutor<K, T, A> = Executor<Running<K, T>, Finished<K, T>, A>;
-
-type BatchWorker<K, T> = Worker<Running<K, T>, Finished<K, T>>;
-
 /// An executor for so many tasks, and its first worker.
 ///
 /// # Errors
 ///
 /// There was no memory.
-pub(crate) fn open<K: Batch<T::Output>, T: Task, A: Allocator + Clone>(
+pub(crate) fn open<T: Drop + Send, D: Drop + Send, A: Allocator + Clone>(
     alloc: &A,
     count: usize,
-) -> Result<(BatchExecutor<K, T, A>, BatchWorker<K, T>), AllocError>
+) -> Result<(Executor<T, D, A>, Worker<T, D>), AllocError>
     requires { 0 < count }
     ensures { IfOk result (λ r. IsWorkerOf r.1 r.0 × IsFresh r.1) }
 {
@@ -67,7 +63,12 @@ pub(crate) fn open<K: Batch<T::Output>, T: Task, A: Allocator + Clone>(
 
 impl<K: Batch<T::Output>, T: Task, A: NullTestable> Executor<Running<K, T>, Finished<K, T>, A> {
     /// Puts all tasks into the queue.
-    pub(crate) fn start<R: Wait>(&self, rt: &R, worker: &mut BatchWorker<K, T>, tasks: Vec<T, A>)
+    pub(crate) fn start<R: Wait>(
+        &self,
+        rt: &R,
+        worker: &mut Worker<Running<K, T>, Finished<K, T>>,
+        tasks: Vec<T, A>,
+    )
         requires of { IsWorkerOf worker.old self.now }
         requires batch { map T.outcome tasks.items ≡ K.outcomes }
         ensures { Moves (λ t. t.number) (λ d. d.number) worker.old worker.new (below (length tasks.items)) none }
@@ -79,10 +80,38 @@ impl<K: Batch<T::Output>, T: Task, A: NullTestable> Executor<Running<K, T>, Fini
         }
     }
 
+    /// The outputs, where all is done.
+    pub(crate) fn finish(
+        self,
+        worker: Worker<Running<K, T>, Finished<K, T>>,
+    ) -> Exclusive<Finished<K, T>, A>
+        requires of { IsWorkerOf worker self }
+        requires done { IsDone (λ t. t.number) (λ d. d.number) (length K.outcomes) worker }
+        ensures { (i : ℕ) → i < length K.outcomes → count_by (λ d. d.number == i) result.queue.items ≡ 1 }
+    {
+        worker.tasks.show_view();
+        worker.outputs.show_view();
+        let Executor {
+            tasks: _,
+            outputs,
+            awaited: _,
+            undone: _,
+        } = self;
+        match outputs.finish(worker.outputs) {
+            Ok(queue) => {
+                queue.show_sound();
+                queue
+            }
+            Err(_) => unreachable!(),
+        }
+    }
+}
+
+impl<W: Numbered, A: NullTestable> Executor<W, W::Finished, A> {
     /// Puts a task into the queue. Where that refuses it, which it does not while it is open, the task is stepped here.
-    fn put<R: Wait>(&self, rt: &R, worker: &mut BatchWorker<K, T>, task: Running<K, T>)
+    fn put<R: Wait>(&self, rt: &R, worker: &mut Worker<W, W::Finished>, task: W)
         requires { IsWorkerOf worker.old self.now }
-        ensures { Moves (λ t. t.number) (λ d. d.number) worker.old worker.new (one task.number) none }
+        ensures { Moves W.number W.finished_number worker.old worker.new (one (W.number task)) none }
     {
         let mut task = task;
         for _ in rt.forever() {
@@ -105,9 +134,9 @@ impl<K: Batch<T::Output>, T: Task, A: NullTestable> Executor<Running<K, T>, Fini
     }
 
     /// Hands in an output. Who hands in the last one closes the queue of tasks.
-    fn hand_in<R: Wait>(&self, rt: &R, worker: &mut BatchWorker<K, T>, finished: Finished<K, T>)
+    fn hand_in<R: Wait>(&self, rt: &R, worker: &mut Worker<W, W::Finished>, finished: W::Finished)
         requires { IsWorkerOf worker.old self.now }
-        ensures { Moves (λ t. t.number) (λ d. d.number) worker.old worker.new (one finished.number) none }
+        ensures { Moves W.number W.finished_number worker.old worker.new (one (W.finished_number finished)) none }
     {
         let mut finished = finished;
         for _ in rt.forever() {
@@ -124,9 +153,9 @@ impl<K: Batch<T::Output>, T: Task, A: NullTestable> Executor<Running<K, T>, Fini
     }
 
     /// One task less is to be done.
-    fn count_down(&self, worker: &mut BatchWorker<K, T>)
+    fn count_down(&self, worker: &mut Worker<W, W::Finished>)
         requires { IsWorkerOf worker.old self.now }
-        ensures { Moves (λ t. t.number) (λ d. d.number) worker.old worker.new none none }
+        ensures { Moves W.number W.finished_number worker.old worker.new none none }
     {
         if self.undone.fetch_sub(1, SeqCst) == 1 {
             self.close(worker);
@@ -134,9 +163,9 @@ impl<K: Batch<T::Output>, T: Task, A: NullTestable> Executor<Running<K, T>, Fini
     }
 
     /// Closes the queue of tasks, and wakes who waits for one.
-    fn close(&self, worker: &mut BatchWorker<K, T>)
+    fn close(&self, worker: &mut Worker<W, W::Finished>)
         requires { IsWorkerOf worker.old self.now }
-        ensures { Moves (λ t. t.number) (λ d. d.number) worker.old worker.new none none }
+        ensures { Moves W.number W.finished_number worker.old worker.new none none }
     {
         worker.tasks.show_view();
         self.tasks.close(&mut worker.tasks);
@@ -144,9 +173,9 @@ impl<K: Batch<T::Output>, T: Task, A: NullTestable> Executor<Running<K, T>, Fini
     }
 
     /// Takes the next task. Where there is none it waits for one; it gives none where all are done.
-    fn take<R: Wait>(&self, rt: &R, worker: &mut BatchWorker<K, T>) -> Option<Running<K, T>>
+    fn take<R: Wait>(&self, rt: &R, worker: &mut Worker<W, W::Finished>) -> Option<W>
         requires { IsWorkerOf worker.old self.now }
-        ensures moved { Moves (λ t. t.number) (λ d. d.number) worker.old worker.new none (taken (λ t. t.number) result) }
+        ensures moved { Moves W.number W.finished_number worker.old worker.new none (taken W.number result) }
         ensures drained { IfNone result (SawDrained worker.new.tasks) }
     {
         let backoff = Backoff::new();
@@ -162,9 +191,9 @@ impl<K: Batch<T::Output>, T: Task, A: NullTestable> Executor<Running<K, T>, Fini
     }
 
     /// Gives way to other threads, or sleeps, while there is no task.
-    fn pause<R: Wait>(&self, rt: &R, worker: &mut BatchWorker<K, T>, backoff: &Backoff)
+    fn pause<R: Wait>(&self, rt: &R, worker: &mut Worker<W, W::Finished>, backoff: &Backoff)
         requires { IsWorkerOf worker.old self.now }
-        ensures { Moves (λ t. t.number) (λ d. d.number) worker.old worker.new none none }
+        ensures { Moves W.number W.finished_number worker.old worker.new none none }
     {
         if !backoff.is_completed() {
             backoff.snooze();
@@ -179,9 +208,9 @@ impl<K: Batch<T::Output>, T: Task, A: NullTestable> Executor<Running<K, T>, Fini
     }
 
     /// Whether there is no task, and one may still come.
-    fn may_come(&self, worker: &mut BatchWorker<K, T>) -> bool
+    fn may_come(&self, worker: &mut Worker<W, W::Finished>) -> bool
         requires { IsWorkerOf worker.old self.now }
-        ensures { Moves (λ t. t.number) (λ d. d.number) worker.old worker.new none none }
+        ensures { Moves W.number W.finished_number worker.old worker.new none none }
     {
         worker.tasks.show_view();
         let empty = self.tasks.is_empty(&mut worker.tasks);
@@ -191,9 +220,9 @@ impl<K: Batch<T::Output>, T: Task, A: NullTestable> Executor<Running<K, T>, Fini
     }
 
     /// Steps tasks until all are done.
-    fn work<R: Wait>(&self, rt: &R, worker: BatchWorker<K, T>) -> BatchWorker<K, T>
+    fn work<R: Wait>(&self, rt: &R, worker: Worker<W, W::Finished>) -> Worker<W, W::Finished>
         requires { IsWorkerOf worker self.now }
-        ensures { IsShift (λ t. t.number) (λ d. d.number) worker result }
+        ensures { IsShift W.number W.finished_number worker result }
     {
         let mut worker = worker;
         for _ in rt.forever() {
@@ -211,10 +240,10 @@ impl<K: Batch<T::Output>, T: Task, A: NullTestable> Executor<Running<K, T>, Fini
     /// Makes two workers of one, or gives it back where the queues have as many parties as they may.
     fn split(
         &self,
-        worker: BatchWorker<K, T>,
-    ) -> Result<(BatchWorker<K, T>, BatchWorker<K, T>), BatchWorker<K, T>>
+        worker: Worker<W, W::Finished>,
+    ) -> Result<(Worker<W, W::Finished>, Worker<W, W::Finished>), Worker<W, W::Finished>>
         requires { IsWorkerOf worker self.now }
-        ensures { MatchResult result (λ r. AreParts worker r.0 r.1) (λ back. Moves (λ t. t.number) (λ d. d.number) worker back none none) }
+        ensures { MatchResult result (λ r. AreParts worker r.0 r.1) (λ back. Moves W.number W.finished_number worker back none none) }
     {
         worker.tasks.show_view();
         worker.outputs.show_view();
@@ -240,7 +269,11 @@ impl<K: Batch<T::Output>, T: Task, A: NullTestable> Executor<Running<K, T>, Fini
     }
 
     /// Makes one worker of two.
-    fn join(&self, ours: BatchWorker<K, T>, theirs: BatchWorker<K, T>) -> BatchWorker<K, T>
+    fn join(
+        &self,
+        ours: Worker<W, W::Finished>,
+        theirs: Worker<W, W::Finished>,
+    ) -> Worker<W, W::Finished>
         requires { IsWorkerOf ours self.now × IsWorkerOf theirs self.now }
         ensures { AreJoined ours theirs result }
     {
@@ -253,45 +286,17 @@ impl<K: Batch<T::Output>, T: Task, A: NullTestable> Executor<Running<K, T>, Fini
             outputs: self.outputs.join(ours.outputs, theirs.outputs),
         }
     }
-
-    /// The outputs, where all is done.
-    pub(crate) fn finish(self, worker: BatchWorker<K, T>) -> Exclusive<Finished<K, T>, A>
-        requires of { IsWorkerOf worker self }
-        requires done { IsDone (λ t. t.number) (λ d. d.number) (length K.outcomes) worker }
-        ensures { (i : ℕ) → i < length K.outcomes → count_by (λ d. d.number == i) result.queue.items ≡ 1 }
-    {
-        worker.tasks.show_view();
-        worker.outputs.show_view();
-        let Executor {
-            tasks: _,
-            outputs,
-            awaited: _,
-            undone: _,
-        } = self;
-        match outputs.finish(worker.outputs) {
-            Ok(queue) => {
-                queue.show_sound();
-                queue
-            }
-            Err(_) => unreachable!(),
-        }
-    }
 }
 
 /// Runs so many workers, each but one in a thread of its own, and joins them. Where no further worker can be had, there are fewer.
-pub(crate) fn run_workers<
-    K: Batch<T::Output> + Sync,
-    T: Task,
-    A: NullTestable + Send + Sync,
-    R: Threads + Wait + Sync,
->(
+pub(crate) fn run_workers<W: Numbered, A: NullTestable + Send + Sync, R: Threads + Wait + Sync>(
     rt: &R,
-    executor: &BatchExecutor<K, T, A>,
-    worker: BatchWorker<K, T>,
+    executor: &Executor<W, W::Finished, A>,
+    worker: Worker<W, W::Finished>,
     count: u64,
-) -> BatchWorker<K, T>
+) -> Worker<W, W::Finished>
     requires { IsWorkerOf worker executor.now }
-    ensures { IsShift (λ t. t.number) (λ d. d.number) worker result }
+    ensures { IsShift W.number W.finished_number worker result }
 {
     if count <= 1 {
         return executor.work(rt, worker);
@@ -301,13 +306,13 @@ pub(crate) fn run_workers<
         Ok((ours, theirs)) => {
             let (theirs, ours) = join(
                 rt,
-                || -> BatchWorker<K, T>
+                || -> Worker<W, W::Finished>
                     requires { IsWorkerOf theirs executor.now }
-                    ensures { IsShift (λ t. t.number) (λ d. d.number) theirs result }
+                    ensures { IsShift W.number W.finished_number theirs result }
                 { executor.work(rt, theirs) },
-                || -> BatchWorker<K, T>
+                || -> Worker<W, W::Finished>
                     requires { IsSync R.row × IsWorkerOf ours executor.now × (1 < count) }
-                    ensures { IsShift (λ t. t.number) (λ d. d.number) ours result }
+                    ensures { IsShift W.number W.finished_number ours result }
                 { run_workers(rt, executor, ours, count - 1) },
             );
             executor.join(ours, theirs)

@@ -10,7 +10,7 @@ mod stepped;
 
 use concurrent_queue::NullTestable;
 use executor::{open, run_workers};
-use numbered::Batch;
+use numbered::{Batch, Finished, Running};
 use placing::{contents, place, room};
 use std::marker::Brand;
 use std::sync::Wait;
@@ -50,7 +50,7 @@ fn run_batch<
     if count == 0 {
         return Ok(outputs);
     }
-    let Ok((executor, mut worker)) = open::<K, T, A>(alloc, count) else {
+    let Ok((executor, mut worker)) = open::<Running<K, T>, Finished<K, T>, A>(alloc, count) else {
         return Err(tasks);
     };
     executor.start(rt, &mut worker, tasks);

@@ -1,9 +1,24 @@
 //! The tasks of a batch, each with its number.
-ghost use Rattle.std.specs.Prelude.{◌≡◌, List, [], Some, slice_get};
+ghost use Rattle.std.specs.Prelude.{◌≡◌, ℕ, List, [], Some, slice_get};
 ghost use Rattle.use_tasks.specs.Steps.{MatchStep};
 
 use crate::stepped::{Step, Task};
 use std::marker::{Brand, PhantomData};
+
+/// Work with a number, which is stepped until it is finished.
+pub(crate) trait Numbered: Sized + Drop + Send {
+    type Finished: Drop + Send;
+
+    // The number of the work.
+    ghost number: { Self → ℕ };
+
+    // The number of the work that was finished.
+    ghost finished_number: { Self.Finished → ℕ };
+
+    /// Does the next part of the work.
+    fn step(self) -> Step<Self, Self::Finished>
+        ensures { MatchStep result (λ next. number next ≡ number self) (λ finished. finished_number finished ≡ number self) };
+}
 
 /// Stands for the tasks that are run together.
 pub(crate) trait Batch<O>: Send {
@@ -44,11 +59,16 @@ impl<K: Batch<T::Output>, T: Task> Running<K, T> {
             batch: PhantomData,
         }
     }
+}
 
-    /// Steps the task.
-    pub(crate) fn step(self) -> Step<Self, Finished<K, T>>
-        ensures { MatchStep result (λ next. next.number ≡ self.number) (λ finished. finished.number ≡ self.number) }
-    {
+impl<K: Batch<T::Output>, T: Task> Numbered for Running<K, T> {
+    type Finished = Finished<K, T>;
+
+    ghost number = { λ t. t.number };
+
+    ghost finished_number = { λ d. d.number };
+
+    fn step(self) -> Step<Running<K, T>, Finished<K, T>> {
         let Running {
             number,
             task,
