@@ -1,6 +1,6 @@
 //! Jobs are handed to as many workers as there are, each worker's in their order, or are left where there is none.
 use crate::asserts::{is, is_in};
-use use_work::distribute;
+use use_shared::work::distribute;
 
 /// How many of these jobs come right after a greater one.
 fn steps_back(jobs: &[u64]) -> u64 {

@@ -1,6 +1,6 @@
 //! Two futures pass on what they are given, in its order.
 use crate::asserts::is_in;
-use use_poll::pass_on;
+use use_shared::polls::pass_on;
 
 static VALUES: [u64; 8] = [3, 1, 4, 1, 5, 9, 2, 6];
 

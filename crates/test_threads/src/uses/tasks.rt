@@ -9,7 +9,7 @@ use std::thread::{Threads, sleep};
 use std::time::Duration;
 use test_support::allocators::{Heap, Refusal};
 use test_support::signs::wait_for;
-use use_tasks::{Step, Task, run};
+use use_shared::tasks::{Step, Task, run};
 
 /// What each task does, and what all count together.
 #[derive(Drop)]

@@ -1,0 +1,4 @@
+pub mod WorkShifts
+pub mod Moving
+pub mod Shifts
+pub mod Places

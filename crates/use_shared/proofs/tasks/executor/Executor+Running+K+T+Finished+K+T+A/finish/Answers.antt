@@ -1,0 +1,6 @@
+use Rattle.std.proofs.Common.{length}
+use Rattle.use_shared.proofs.Shifts.{outputs_once}
+use Rattle.use_shared.proofs.tasks.executor.Executor+Running+K+T+Finished+K+T+A.finish.Goals as goal
+
+pub returns : goal.returns
+returns g c = outputs_once (λ t. t.number) (λ d. d.number) (length g.K.Batch.outcomes) c.args.worker c.in-Ok.queue c.requires.done c.show_view.ensures c.show_view-2.ensures c.in-Ok.ensures c.show_sound.ensures

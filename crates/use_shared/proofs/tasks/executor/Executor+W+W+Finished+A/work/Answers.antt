@@ -1,0 +1,15 @@
+use Rattle.use_shared.proofs.Moving.{stepped, then_shift}
+use Rattle.use_shared.proofs.tasks.executor.Executor+W+W+Finished+A.work.Goals as goal
+
+pub returns-in_default : goal.returns-in_default
+returns-in_default g c = let last = c.in_default.ensures in then_shift g.W.Numbered.number g.W.Numbered.finished_number c.args.worker c.loop.worker c.take.new.worker c.loop.invariant (last.moved, last.drained)
+
+pub loop-preserved-in-More : goal.loop-preserved-in-More
+loop-preserved-in-More g c =
+    let task = c.in-Some-take.task in
+    stepped g.W.Numbered.number g.W.Numbered.finished_number c.args.worker c.loop.worker c.take.new.worker c.put.new.worker (g.W.Numbered.number task) (g.W.Numbered.number c.in-More.next) c.loop.invariant c.in-Some-take.ensures.moved c.in-More.ensures c.put.ensures
+
+pub loop-preserved : goal.loop-preserved
+loop-preserved g c =
+    let task = c.in-Some-take.task in
+    stepped g.W.Numbered.number g.W.Numbered.finished_number c.args.worker c.loop.worker c.take.new.worker c.hand_in.new.worker (g.W.Numbered.number task) (g.W.Numbered.finished_number c.in-Done.finished) c.loop.invariant c.in-Some-take.ensures.moved c.in-Done.ensures c.hand_in.ensures

@@ -1,0 +1,4 @@
+pub mod Work
+pub mod Steps
+pub mod Sharing
+pub mod Places

@@ -1,6 +1,0 @@
-use Rattle.std.proofs.Common.{map}
-use Rattle.use_tasks.proofs.run.Given as goal
-
--- the batch of these tasks
-abbrev pub ghosts-run_batch : goal.ghosts-run_batch
-ghosts-run_batch g a = record { outcomes = map g.T.Task.outcome a.tasks.items }
