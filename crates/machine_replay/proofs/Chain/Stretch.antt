@@ -11,7 +11,7 @@ use Rattle.machine_replay.proofs.Engine.StandOf.{running_of}
 use Rattle.law_chain.specs.ChainCells.{Chain, queue_of}
 use Rattle.law_chain.specs.ChainAfter.{after_of, left_by}
 use Rattle.law_chain.specs.ChainAnswers.{tail_place, tail_word}
-use Rattle.law_chain.specs.ChainAt.{At, asking, claiming, spending, taking, closing}
+use Rattle.law_chain.specs.ChainAt.{At, push_tail, push_block, asking, installing, showing, claiming, spending, pop_head, pop_block, pop_tail, taking, len_tail, len_head, len_again, empty_head, empty_tail, closing, closed_tail}
 use Rattle.law_chain.proofs.ChainFirst.{first}
 use Rattle.law_chain.proofs.ChainRanks.{rank, rank_some, Falls, IsQuiet}
 use Rattle.law_chain.proofs.ChainRanksStep.{step_falls}
@@ -55,15 +55,31 @@ marked_before : (w q : ℕ) (c : Bool) (e : EffectKind) → w ≡ tail_of q c �
 marked_before w q true e is none = ap (λ z. bit_or z MARK) is ∙ (mark_tail q true ∙ sym is)
 marked_before w q false e is none = let opened : is_shut w ≡ false = ap is_shut is ∙ shut_tail q false in let no : Some e ≡ None = rw opened at none in cc
 
+not_empty : {X : Type 0} (x : X) (xs : List X) → x ∷ xs ≡ [] → ⊥
+not_empty x xs e = cc
+
 -- a step without effect of a call that has had none leaves the words
 pub words_stay : {A : Type 0} {c : Chain A} {who : ℕ} {ms : List (State A)} {k : Stand A} (ok : Bool) (s : Shared A) → At c who ms k → k.effects ≡ [] → s.tail ≡ tail_word c
     → (step_of Kind.Unbounded ok s (running_of k)).effect ≡ None → SameWords s (step_of Kind.Unbounded ok s (running_of k)).shared
+words_stay ok s (push_tail d v spare none spare_is) e is quiet = (refl, refl)
+words_stay ok s (push_block d v spare q none spare_is saw) e is quiet = (refl, refl)
 words_stay ok s (asking d v q block none saw asked) e is quiet = granted_words ok s
+words_stay ok s (installing d v f none saw fresh) e is quiet = (refl, refl)
+words_stay ok s (showing d v name holds saw shown named) e is quiet = (refl, refl)
 words_stay ok s (claiming d v q name spare none spare_is saw block enough) e is quiet = lost_tail _ s _ _ quiet
 words_stay {c = c} ok s (spending d v spare none spare_is spent) e is quiet = (refl, marked_before s.tail (tail_place c.tail c.mover) c.closed _ is quiet)
+words_stay ok s (pop_head none) e is quiet = (refl, refl)
+words_stay ok s (pop_block n more none at room) e is quiet = (refl, refl)
+words_stay ok s (pop_tail n block none at front) e is quiet = (refl, refl)
 words_stay ok s (taking n name next more new none at front there word_is room) e is quiet = lost_head _ s _ _ quiet
+words_stay ok s (len_tail none) e is quiet = (refl, refl)
+words_stay ok s (len_head w none small low) e is quiet = (refl, refl)
+words_stay ok s (len_again w h none small seen) e is quiet = (refl, refl)
+words_stay ok s (empty_head none) e is quiet = (refl, refl)
+words_stay ok s (empty_tail h none small saw) e is quiet = (refl, refl)
 words_stay {c = c} ok s (closing none) e is quiet = (refl, marked_before s.tail (tail_place c.tail c.mover) c.closed _ is quiet)
-words_stay ok s x e is quiet = first_of (cc, assumption)
+words_stay ok s (closed_tail none) e is quiet = (refl, refl)
+words_stay ok s _ e is quiet = absurd (not_empty _ _ e)
 
 -- the poppers go on seeing a block
 put_at_front : {A : Type 0} (s : Shared A) (b : Option ℕ) (i : ℕ) (v : Option A) → (put_at s b i v).head_block ≡ s.head_block
