@@ -28,8 +28,8 @@ use Rattle.machine_replay.proofs.Chain.Fits.{ChainFits}
 use Rattle.machine_replay.proofs.Chain.Holding.{ChainHolds}
 use Rattle.machine_replay.proofs.Chain.Laws.{StepStands, chain_then, next_on}
 use Rattle.machine_replay.proofs.Chain.Stands.{steps_stand}
-use Rattle.machine_replay.proofs.Chain.Stretch.{chain_rules, own_falls, ready_on, words_stay}
-use Rattle.machine_replay.proofs.Chain.Waits.{holds_at, holder, unseen_if}
+use Rattle.machine_replay.proofs.Chain.Stretch.{chain_rules, own_falls, not_empty, ready_on, words_stay}
+use Rattle.machine_replay.proofs.Chain.Waits.{holds_at, holder, other_row, unseen_if}
 use Rattle.machine_replay.proofs.Progress.Stretch.{Paces, Turns, Here, party-open, unhindered}
 use Rattle.machine_replay.proofs.Chain.Near.{near_at, near_within, near_pop, near_same, Fewer, first_place, same_place, IsBare, fewer}
 
@@ -45,7 +45,7 @@ early_ends {c = c} head u x (pop_tail n b none is front) a ok found at_it first 
     let on = subst (λ z. running_after (unbounded_next (chain.PopTail (head_of n false) b) z) u ≡ Some x) found goes in
     let ended = rw (same_place c n ok is first) at on in
     cc
-early_ends head u x _ a ok found at_it first goes = cc
+early_ends head u x _ a ok found at_it first goes = other_row _ _ refl at_it
 
 -- a step of a pop leaves the tail
 pop_leaves : {A : Type 0} {c : Chain A} {who : ℕ} {ms : List (State A)} {k : Stand A} (ok : Bool) (s : Shared A) → At c who ms k → one_of_pop k.local ≡ 1
@@ -86,7 +86,7 @@ has_bare (empty_head none) e = λ x h. absurd (none x h)
 has_bare (empty_tail h none small saw) e = λ x h. absurd (none x h)
 has_bare (closing none) e = λ x h. absurd (none x h)
 has_bare (closed_tail none) e = λ x h. absurd (none x h)
-has_bare _ e = cc
+has_bare _ e = absurd (not_empty _ _ e)
 
 -- a call that is to show the first block is no pop
 shows_no_pop : (l : Local ℕ) → IsToShow l → one_of_pop l ≡ 1 → ⊥

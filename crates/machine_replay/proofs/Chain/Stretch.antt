@@ -55,7 +55,7 @@ marked_before : (w q : ℕ) (c : Bool) (e : EffectKind) → w ≡ tail_of q c �
 marked_before w q true e is none = ap (λ z. bit_or z MARK) is ∙ (mark_tail q true ∙ sym is)
 marked_before w q false e is none = let opened : is_shut w ≡ false = ap is_shut is ∙ shut_tail q false in let no : Some e ≡ None = rw opened at none in cc
 
-not_empty : {X : Type 0} (x : X) (xs : List X) → x ∷ xs ≡ [] → ⊥
+pub not_empty : {X : Type 0} (x : X) (xs : List X) → x ∷ xs ≡ [] → ⊥
 not_empty x xs e = cc
 
 -- a step without effect of a call that has had none leaves the words

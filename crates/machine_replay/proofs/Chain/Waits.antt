@@ -1,5 +1,6 @@
 -- A chain: who waits for whom, step by step.
-use Rattle.std.proofs.Common.{ℕ, ◌+◌, ◌/◌, ◌%◌, ◌≤◌, ◌≡◌, ◌≢◌, ◌⊎◌, inl, inr, ◌∙◌, not, false, true, Option, Some, None, List, refl, sym, ap, subst, arith}
+use Rattle.std.proofs.Common.{ℕ, ◌+◌, ◌/◌, ◌%◌, ◌≤◌, ◌≡◌, ◌≢◌, ◌==◌, ◌⊎◌, inl, inr, ◌∙◌, not, false, true, Option, Some, None, List, refl, sym, ap, subst, arith}
+use Rattle.std.proofs.lemmas.Bool.{eqb-false}
 use Rattle.machine_replay.specs.Vocabulary.{Call, Effect, Kind, Answer, Local, Next, PushKind, BLOCK_SLOTS, Running}
 use Rattle.queue_steps.specs.State.{State}
 use Rattle.queue_steps.specs.Next.{next_of}
@@ -112,6 +113,18 @@ mover_links (Local.Unbounded (chain.Laying d tail block fresh)) h = tt
 mover_links (Local.Unbounded (chain.Opening d tail block fresh)) h = tt
 mover_links _ h = absurd h
 
+-- the steps at which a call can go back, told apart by numbers
+abbrev row_of : Local ℕ → ℕ
+row_of (Local.Unbounded (chain.PushTail d spare)) = 1
+row_of (Local.Unbounded chain.PopHead) = 2
+row_of (Local.Unbounded (chain.PopTail head block)) = 3
+row_of (Local.Unbounded (chain.Following head block)) = 4
+row_of (Local.Unbounded (chain.Awaiting head block)) = 5
+row_of _ = 0
+
+pub other_row : (l m : Local ℕ) → (row_of l == row_of m) ≡ false → l ≡ m → ⊥
+other_row l m other same = eqb-false (row_of l) (row_of m) other (ap row_of same)
+
 -- U1: the tail is read
 push_row : {A : Type 0} {c : Chain A} {who : ℕ} {ms : List (State A)} {k : Stand A} (d : PushKind) (spare : Option ℕ) → At c who ms k → (a : Answer ℕ) → Answers c k.op a
     → k.local ≡ Local.Unbounded (chain.PushTail d spare) → NextAt (unbounded_next (chain_of k.local) a) (Local.Unbounded (chain.PushTail d spare)) → Held c IsToMoveTail
@@ -120,7 +133,7 @@ push_row {c = c} d spare (push_tail e v own none spare_is) a found is goes =
     (λ free. no_fewer c (chain_tail_found e (tail_word c) own) (Local.Unbounded (chain.PushTail d spare)) 10 (omega arith)
     (subst (λ b. NextAt (unbounded_next (chain.PushTail e own) b) (Local.Unbounded (chain.PushTail d spare))) found goes) (push_tail_falls c e own (rests_if c.mover free)))
     (λ l h. h)
-push_row d spare _ a found is goes = cc
+push_row d spare _ a found is goes = absurd (other_row _ _ refl is)
 
 -- V1: the head is read
 pop_row : {A : Type 0} {c : Chain A} {who : ℕ} {ms : List (State A)} {k : Stand A} → At c who ms k → (a : Answer ℕ) → Answers c k.op a
@@ -130,7 +143,7 @@ pop_row {c = c} (pop_head none) a found is goes =
     (λ free. no_fewer c (chain_head_found (head_word c)) (Local.Unbounded chain.PopHead) (BLOCK_SLOTS + 9) (omega arith)
     (subst (λ b. NextAt (unbounded_next chain.PopHead b) (Local.Unbounded chain.PopHead)) found goes) (head_falls c (stands_if c.passer free)))
     (λ l h. h)
-pop_row _ a found is goes = cc
+pop_row _ a found is goes = absurd (other_row _ _ refl is)
 
 -- V3: the tail is read, after no block was
 first_row : {A : Type 0} {c : Chain A} {who : ℕ} {ms : List (State A)} {k : Stand A} (head : ℕ) → At c who ms k → (a : Answer ℕ) → ChainOk c → Answers c k.op a
@@ -141,7 +154,8 @@ first_row {c = c} head (pop_tail n None none is front) a ok found unseen at goes
     (λ free. no_fewer c (chain_pop_tail_found (head_of n false) None (tail_word c)) (Local.Unbounded chain.PopHead) (tail_rank c (head_of n false) None) (omega (arith, one))
     (subst (λ b. NextAt (unbounded_next (chain.PopTail (head_of n false) None) b) (Local.Unbounded chain.PopHead)) found goes) (pop_tail_falls c n None ok free is))
     (λ l h. h)
-first_row head _ a ok found unseen at goes = cc
+first_row head (pop_tail n (Some block) none is front) a ok found unseen at goes = cc
+first_row head _ a ok found unseen at goes = absurd (other_row _ _ refl at)
 
 -- V5: the next block is read, which a push has to link
 link_held : {A : Type 0} (c : Chain A) (who n head name : ℕ) (m : Local ℕ) → ChainOk c → (c.passer ≡ Passing who) × (c.head ≡ n + 1) → BLOCK_SLOTS + 5 ≤ rank c m
@@ -161,7 +175,7 @@ link_row : {A : Type 0} {c : Chain A} {who : ℕ} {ms : List (State A)} {k : Sta
 link_row {c = c} {who = who} head block (following x n name more holds got pass) a ok found is goes =
     link_held c who n (head_of n more) name (Local.Unbounded (chain.Following head block)) ok pass (omega arith)
     (subst (λ b. NextAt (unbounded_next (chain.Following (head_of n more) name) b) (Local.Unbounded (chain.Following head block))) (found (n / BLOCK_SLOTS) got.named) goes)
-link_row head block _ a ok found is goes = cc
+link_row head block _ a ok found is goes = absurd (other_row _ _ refl is)
 
 -- V9: the slot's state is read, which the push of the item has to set
 item_row : {A : Type 0} {c : Chain A} {who : ℕ} {ms : List (State A)} {k : Stand A} (head block : ℕ) → At c who ms k → (a : Answer ℕ) → ChainOk c → Answers c k.op a
@@ -174,7 +188,7 @@ item_row {c = c} {who = who} head block (awaiting x n name more holds got) a ok 
     (subst (λ b. NextAt (unbounded_next (chain.Awaiting (head_of n more) name) b) (Local.Unbounded (chain.Awaiting head block))) h.1 goes)
     (awaiting_falls c (head_of n more) name h.0 (state.written ∙ (ap (λ m. not (is_wrote (c.writers m))) (own_item n) ∙ ap not (wrote_then c who n ok free got.mine)))))
     (λ l h. h)
-item_row head block _ a ok found is goes = cc
+item_row head block _ a ok found is goes = absurd (other_row _ _ refl is)
 
 pub unseen_if : (x : Shown) (name : ℕ) → shown_of x name ≡ None → is_seen x ≡ false
 unseen_if Seen name e = cc
