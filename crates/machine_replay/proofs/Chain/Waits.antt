@@ -1,6 +1,5 @@
 -- A chain: who waits for whom, step by step.
 use Rattle.std.proofs.Common.{ℕ, ◌+◌, ◌/◌, ◌%◌, ◌≤◌, ◌≡◌, ◌≢◌, ◌==◌, ◌⊎◌, inl, inr, ◌∙◌, not, false, true, Option, Some, None, List, refl, sym, ap, subst, arith}
-use Rattle.std.proofs.lemmas.Bool.{eqb-false}
 use Rattle.machine_replay.specs.Vocabulary.{Call, Effect, Kind, Answer, Local, Next, PushKind, BLOCK_SLOTS, Running}
 use Rattle.queue_steps.specs.State.{State}
 use Rattle.queue_steps.specs.Next.{next_of}
@@ -30,7 +29,7 @@ use Rattle.machine_replay.specs.Book.{Open}
 use Rattle.machine_replay.specs.Played.{told_of, world_after}
 use Rattle.machine_replay.specs.Progress.{Standing, Between, stands_by, IsToShow}
 use Rattle.machine_replay.specs.Waits.{ChainCallsWait, IsBeside, GoesOn, IsToMoveTail, IsToMoveHead, IsToLink, IsToWrite}
-use Rattle.machine_replay.proofs.Progress.Beside.{beside, not_back}
+use Rattle.machine_replay.proofs.Progress.Beside.{apart, beside, not_back}
 use Rattle.machine_replay.proofs.Chain.Laws.{next_on}
 use Rattle.machine_replay.proofs.Chain.Stands.{steps_stand}
 use Rattle.machine_replay.proofs.Chain.Stretch.{chain_rules}
@@ -123,7 +122,7 @@ row_of (Local.Unbounded (chain.Awaiting head block)) = 5
 row_of _ = 0
 
 pub other_row : (l m : Local ℕ) → (row_of l == row_of m) ≡ false → l ≡ m → ⊥
-other_row l m other same = eqb-false (row_of l) (row_of m) other (ap row_of same)
+other_row l m other same = apart row_of l m other same
 
 -- U1: the tail is read
 push_row : {A : Type 0} {c : Chain A} {who : ℕ} {ms : List (State A)} {k : Stand A} (d : PushKind) (spare : Option ℕ) → At c who ms k → (a : Answer ℕ) → Answers c k.op a

@@ -1,5 +1,6 @@
 -- A call that another one waits for.
-use Rattle.std.proofs.Common.{ℕ, ◌≡◌, ◌∙◌, Some, sym, ap, subst}
+use Rattle.std.proofs.Common.{ℕ, ◌≡◌, ◌==◌, ◌∙◌, false, Some, sym, ap, subst}
+use Rattle.std.proofs.lemmas.Bool.{eqb-false}
 use Rattle.machine_replay.specs.Vocabulary.{Local, Running}
 use Rattle.machine_memory.specs.SharedMemory.{Shared}
 use Rattle.machine_steps.specs.World.{World, call_at}
@@ -16,3 +17,7 @@ not_back {r = r} x goes back = let same : r ≡ x = cc in ap (λ z. z.local) sam
 
 pub same_call : {T : Type 0} {r : Running T} (x : Running T) → Some r ≡ Some x → r ≡ x
 same_call x goes = cc
+
+-- steps with two numbers are not one
+pub apart : (number : Local ℕ → ℕ) (l m : Local ℕ) → (number l == number m) ≡ false → l ≡ m → ⊥
+apart number l m other same = eqb-false (number l) (number m) other (ap number same)

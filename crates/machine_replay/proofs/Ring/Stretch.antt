@@ -3,6 +3,7 @@ use Rattle.std.proofs.Common.{ℕ, ◌+◌, ◌%◌, ◌<◌, ◌≤◌, ◌≡�
 use Rattle.std.proofs.Math.Nat.{min-eq_left, min-eq_right}
 use Rattle.std.proofs.lemmas.Bool.{ne_eqb}
 use Rattle.std.proofs.lemmas.Bool.Decides.{eqb_tells}
+use Rattle.std.proofs.lemmas.Option.{none-some}
 use Rattle.queue_steps.specs.State.{State}
 use Rattle.queue_steps.specs.BoundedNext.{lap_found, loads, push_stamp_found}
 use Rattle.queue_steps.specs.Words.{IsRing, position_of, is_shut, slot_at, stamp_filled, stamp_free, tail_of}
@@ -214,10 +215,10 @@ module _ {A : Type 0} (cap : ℕ) where
 -- a call that holds a slot ends at its next step, but for the arrival of its item
 half_ends : {A : Type 0} {cap : ℕ} {r : Ring A} {who : ℕ} {ms : List (State A)} {was : Bool} {c : Stand A} (ok : Bool) (s : Shared A) (r' : Running A) → At cap r who ms was c → c.effects ≢ []
     → (step_of (Kind.Bounded cap) ok s (running_of c)).call ≡ Some r' → (step_of (Kind.Bounded cap) ok s (running_of c)).effect ≡ None → ⊥
-half_ends ok s r' (filling d v q one) some goes quiet = cc
-half_ends ok s r' (arriving old v t h below back one) some goes quiet = cc
-half_ends ok s r' (swapping old v h one) some goes quiet = cc
-half_ends ok s r' (emptying x h one) some goes quiet = cc
+half_ends ok s r' (filling d v q one) some goes quiet = none-some r' goes
+half_ends ok s r' (arriving old v t h below back one) some goes quiet = none-some _ (sym quiet)
+half_ends ok s r' (swapping old v h one) some goes quiet = none-some r' goes
+half_ends ok s r' (emptying x h one) some goes quiet = none-some r' goes
 half_ends ok s r' x some goes quiet = absurd (some refl)
 
 pub ring_never_waits : (A : Type 0) (cap : ℕ) → IsRing cap → NeverWaits A (Kind.Bounded cap)
@@ -229,7 +230,7 @@ ring_takes_none A cap ring = waits_take_none A (Kind.Bounded cap) (ring_rules ca
 -- a call that has appended ends at its next step
 append_ends : {A : Type 0} {cap : ℕ} {r : Ring A} {who : ℕ} {ms : List (State A)} {was : Bool} {c : Stand A} (ok : Bool) (s : Shared A) (r' : Running A) → At cap r who ms was c → HasAppend c.effects
     → (step_of (Kind.Bounded cap) ok s (running_of c)).call ≡ Some r' → ⊥
-append_ends ok s r' (filling d v q one) had goes = cc
+append_ends ok s r' (filling d v q one) had goes = none-some r' goes
 append_ends ok s r' x had goes = absurd had
 
 pub ring_appends : (A : Type 0) (cap : ℕ) → IsRing cap → AppendsReplyWithin A (Kind.Bounded cap) 1
@@ -243,7 +244,7 @@ ring_appends A cap ring = appends_reply A (Kind.Bounded cap) (ring_rules cap rin
 -- a call that has taken ends at its next step
 take_ends : {A : Type 0} {cap : ℕ} {r : Ring A} {who : ℕ} {ms : List (State A)} {was : Bool} {c : Stand A} (ok : Bool) (s : Shared A) (r' : Running A) → At cap r who ms was c → HasTake c.effects
     → (step_of (Kind.Bounded cap) ok s (running_of c)).call ≡ Some r' → ⊥
-take_ends ok s r' (emptying x h one) had goes = cc
+take_ends ok s r' (emptying x h one) had goes = none-some r' goes
 take_ends ok s r' x had goes = absurd had
 
 pub ring_takes : (A : Type 0) (cap : ℕ) → IsRing cap → TakesReplyWithin A (Kind.Bounded cap) 1

@@ -2,6 +2,7 @@
 use Rattle.std.proofs.Common.{ℕ, ◌+◌, ◌%◌, ◌<◌, ◌≤◌, ◌≡◌, ◌≢◌, ◌==◌, ◌⊎◌, inl, inr, ◌∙◌, if◌then◌else◌, Bool, true, false, Option, Some, None, List, length, refl, sym, ap, subst, arith}
 use Rattle.std.proofs.lemmas.Bool.{eq-eqb}
 use Rattle.std.proofs.lemmas.Bool.Decides.{eqb_tells}
+use Rattle.std.proofs.lemmas.Option.{none-some}
 use Rattle.queue_steps.specs.State.{State}
 use Rattle.queue_steps.specs.BoundedNext.{push_stamp_found, pop_stamp_found}
 use Rattle.queue_steps.specs.Words.{IsRing, position_of, slot_at}
@@ -22,7 +23,7 @@ use Rattle.machine_replay.specs.Book.{Open}
 use Rattle.machine_replay.specs.Played.{told_of, world_after}
 use Rattle.machine_replay.specs.Progress.{Standing, Between, stands_by}
 use Rattle.machine_replay.specs.Waits.{RingCallsWait, IsBeside, GoesOn, GoesOnTwice, IsPushToStamp, HasFront, HasLastLap, IsToFill}
-use Rattle.machine_replay.proofs.Progress.Beside.{beside, not_back, same_call}
+use Rattle.machine_replay.proofs.Progress.Beside.{apart, beside, not_back, same_call}
 use Rattle.machine_replay.proofs.Ring.Stretch.{ring_rules}
 use Rattle.machine_replay.proofs.Progress.Stretch.{Here, Party, reach, first, party-open}
 
@@ -111,6 +112,14 @@ module _ {A : Type 0} (cap head tail i : ℕ) (items : List A) (coming : Option 
 abbrev EqualTells : ℕ → ℕ → Type 0
 EqualTells a b = (((a == b) ≡ true) × (a ≡ b)) ⊎ (((a == b) ≡ false) × (a ≢ b))
 
+-- the steps that a call comes from and goes back to, told apart by numbers
+abbrev stage : Local ℕ → ℕ
+stage (Local.Bounded (BoundedLocal.PushTail d)) = 1
+stage (Local.Bounded (BoundedLocal.PushStamp d tail)) = 2
+stage (Local.Bounded BoundedLocal.PopHead) = 3
+stage (Local.Bounded (BoundedLocal.PopStamp head)) = 4
+stage _ = 0
+
 -- what a push does by the stamp that it finds: one step
 push_found : {A : Type 0} (n : ℕ) (d : PushKind) (t stamp : ℕ) (v : Option A) (x : Running A) → running_after (push_stamp_found n d t stamp) v ≡ Some x → x.local ≡ Local.Bounded (BoundedLocal.PushTail d)
     → (stamp ≢ position_of t) × (stamp + n ≢ position_of t + 1)
@@ -118,9 +127,9 @@ push_found {A} n d t stamp v x goes back = go (eqb_tells stamp (position_of t)) 
   where
     go : EqualTells stamp (position_of t) → EqualTells (stamp + n) (position_of t + 1) → (d : PushKind) → running_after (push_stamp_found n d t stamp) v ≡ Some x → x.local ≡ Local.Bounded (BoundedLocal.PushTail d) → (stamp ≢ position_of t) × (stamp + n ≢ position_of t + 1)
     go (inr a) (inr b) d goes back = (a.1, b.1)
-    go (inl a) b d goes back = let f = not_back x (rw a.0 at goes) back in cc
-    go (inr a) (inl b) PushKind.Push goes back = let f = not_back x (rw (a.0, b.0) at goes) back in cc
-    go (inr a) (inl b) PushKind.Force goes back = let f = not_back x (rw (a.0, b.0) at goes) back in cc
+    go (inl a) b d goes back = let f = not_back x (rw a.0 at goes) back in absurd (apart stage _ _ refl f)
+    go (inr a) (inl b) PushKind.Push goes back = let f = not_back x (rw (a.0, b.0) at goes) back in absurd (apart stage _ _ refl f)
+    go (inr a) (inl b) PushKind.Force goes back = let f = not_back x (rw (a.0, b.0) at goes) back in absurd (apart stage _ _ refl f)
 
 -- a test that goes on another way
 other_way : {A : Type 0} (a b : ℕ) (m l : Next ℕ) (v : Option A) (y : Running A) → (running_after m v ≡ Some y → ⊥) → running_after (if a == b then m else l) v ≡ Some y → a ≢ b
@@ -139,13 +148,13 @@ full_found {A} n d t stamp v s x y tail goes never on back = go (eqb_tells stamp
     go (inl a) b d goes never back =
         let is = same_call x (rw a.0 at goes) in
         let filled = rw (eq-eqb s.tail t tail) at (from _ is) in
-        let f = not_back y filled back in cc
+        let f = not_back y filled back in absurd (apart stage _ _ refl f)
     go (inr a) (inl b) PushKind.Push goes never back =
         let is = same_call x (rw (a.0, b.0) at goes) in
-        (b.1, other_way (s.head + n) (position_of t) _ _ v y (λ g. cc) (from _ is))
+        (b.1, other_way (s.head + n) (position_of t) _ _ v y (λ g. none-some y g) (from _ is))
     go (inr a) (inl b) PushKind.Force goes never back =
         let is = same_call x (rw (a.0, b.0) at goes) in
-        (b.1, other_way (s.head + n) (position_of t) _ _ v y (λ g. let f = not_back y g back in cc) (from _ is))
+        (b.1, other_way (s.head + n) (position_of t) _ _ v y (λ g. let f = not_back y g back in apart stage _ _ refl f) (from _ is))
     go (inr a) (inr b) d goes never back = absurd (never (let is = same_call x (rw (a.0, b.0) at goes) in ap (λ z. z.local) (sym is)))
 
 -- what a pop does by the stamp that it finds: one step
@@ -154,8 +163,8 @@ pop_found {A} h stamp v x goes back = go (eqb_tells stamp (h + 1)) (eqb_tells st
   where
     go : EqualTells stamp (h + 1) → EqualTells stamp h → (stamp ≢ h) × (stamp ≢ h + 1)
     go (inr a) (inr b) = (b.1, a.1)
-    go (inl a) b = let f = not_back x (rw a.0 at goes) back in cc
-    go (inr a) (inl b) = let f = not_back x (rw (a.0, b.0) at goes) back in cc
+    go (inl a) b = let f = not_back x (rw a.0 at goes) back in absurd (apart stage _ _ refl f)
+    go (inr a) (inl b) = let f = not_back x (rw (a.0, b.0) at goes) back in absurd (apart stage _ _ refl f)
 
 -- and two
 empty_found : {A : Type 0} (n h stamp : ℕ) (v : Option A) (s : Shared A) (x y : Running A) → s.head ≡ h → running_after (pop_stamp_found h stamp) v ≡ Some x → (x.local ≡ Local.Bounded BoundedLocal.PopHead → ⊥)
@@ -169,22 +178,22 @@ empty_found {A} n h stamp v s x y head goes never on back = go (eqb_tells stamp 
     go (inl a) b =
         let is = same_call x (rw a.0 at goes) in
         let emptied = rw (eq-eqb s.head h head) at (from _ is) in
-        let f = not_back y emptied back in cc
+        let f = not_back y emptied back in absurd (apart stage _ _ refl f)
     go (inr a) (inl b) =
         let is = same_call x (rw (a.0, b.0) at goes) in
-        (b.1, other_way (position_of s.tail) h _ _ v y (λ g. cc) (from _ is))
+        (b.1, other_way (position_of s.tail) h _ _ v y (λ g. none-some y g) (from _ is))
     go (inr a) (inr b) = absurd (never (let is = same_call x (rw (a.0, b.0) at goes) in ap (λ z. z.local) (sym is)))
 
 -- what is read at the stamp's step
 push_reads : {A : Type 0} {cap : ℕ} {r : Ring A} {who : ℕ} {ms : List (State A)} {was : Bool} {c : Stand A} (d : PushKind) (q : ℕ) → At cap r who ms was c → c.local ≡ Local.Bounded (BoundedLocal.PushStamp d q)
     → (c.touch ≡ Touch.Nothing) × (c.op ≡ Op.Load (Word.Stamp (slot_at cap (position_of q))))
 push_reads {cap = cap} d q (push_stamp e v t none saw) is = let same : t ≡ q = cc in (refl, ap (λ z. Op.Load (Word.Stamp (slot_at cap (position_of z)))) same)
-push_reads d q _ is = cc
+push_reads d q _ is = absurd (apart stage _ _ refl is)
 
 pop_reads : {A : Type 0} {cap : ℕ} {r : Ring A} {who : ℕ} {ms : List (State A)} {was : Bool} {c : Stand A} (q : ℕ) → At cap r who ms was c → c.local ≡ Local.Bounded (BoundedLocal.PopStamp q)
     → (c.touch ≡ Touch.Nothing) × (c.op ≡ Op.Load (Word.Stamp (slot_at cap q)))
 pop_reads {cap = cap} q (pop_stamp h none low) is = let same : h ≡ q = cc in (refl, ap (λ z. Op.Load (Word.Stamp (slot_at cap z))) same)
-pop_reads q _ is = cc
+pop_reads q _ is = absurd (apart stage _ _ refl is)
 
 -- a call that is about to read a stamp
 reading : {A : Type 0} → Local ℕ → ℕ → Option A → Running A

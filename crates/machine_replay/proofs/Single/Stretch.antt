@@ -1,5 +1,6 @@
 -- One slot: a call that nobody hinders replies by its third step.
 use Rattle.std.proofs.Common.{ℕ, ◌==◌, if◌then◌else◌, ◌<◌, ◌≡◌, ◌≢◌, ◌∙◌, Bool, true, false, Option, Some, None, List, [], ◌∷◌, refl, sym, ap, subst, arith}
+use Rattle.std.proofs.lemmas.Option.{none-some}
 use Rattle.queue_steps.specs.State.{State}
 use Rattle.machine_replay.specs.Vocabulary.{Kind, Local, Next, Running}
 use Rattle.queue_steps.specs.Next.{next_of}
@@ -113,10 +114,10 @@ single_unhindered T = unhindered T Kind.Single (single_rules T) (single_paces T)
 -- a call that has the lock ends at its next step
 half_ends : {T : Type 0} {c : Stand T} {own : SlotHolder T} (ok : Bool) (s : Shared T) (r' : Running T) → At c own → c.effects ≢ []
     → (step_of Kind.Single ok s (running_of c)).call ≡ Some r' → ⊥
-half_ends ok s r' (push_put v) some goes = cc
-half_ends ok s r' (force_put_empty v) some goes = cc
-half_ends ok s r' (force_put_full old v) some goes = cc
-half_ends ok s r' (pop_take x) some goes = cc
+half_ends ok s r' (push_put v) some goes = none-some r' goes
+half_ends ok s r' (force_put_empty v) some goes = none-some r' goes
+half_ends ok s r' (force_put_full old v) some goes = none-some r' goes
+half_ends ok s r' (pop_take x) some goes = none-some r' goes
 half_ends ok s r' x some goes = absurd (some refl)
 
 pub single_never_waits : (T : Type 0) → NeverWaits T Kind.Single
@@ -128,8 +129,8 @@ single_takes_none T = waits_take_none T Kind.Single (single_rules T) (λ busy ok
 -- a call that has appended ends at its next step
 append_ends : {T : Type 0} {c : Stand T} {own : SlotHolder T} (ok : Bool) (s : Shared T) (r' : Running T) → At c own → HasAppend c.effects
     → (step_of Kind.Single ok s (running_of c)).call ≡ Some r' → ⊥
-append_ends ok s r' (push_put v) had goes = cc
-append_ends ok s r' (force_put_empty v) had goes = cc
+append_ends ok s r' (push_put v) had goes = none-some r' goes
+append_ends ok s r' (force_put_empty v) had goes = none-some r' goes
 append_ends ok s r' x had goes = absurd had
 
 pub single_appends : (T : Type 0) → AppendsReplyWithin T Kind.Single 1
