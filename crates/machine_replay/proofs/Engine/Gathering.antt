@@ -2,8 +2,10 @@
 use Rattle.std.proofs.Common.{◌≡◌, ◌∙◌, ℕ, suc, ◌+◌, ◌-◌, ◌<◌, ◌≤◌, Option, None, List, [], ◌∷◌, ◌++◌, length, get_or, set, refl, sym, ap, arith, append_assoc, length-append}
 use Rattle.std.specs.Option.{option_to_list}
 use Rattle.queue_steps.specs.Words.{slot_at}
-use Rattle.machine_replay.specs.Vocabulary.{Running}
-use Rattle.machine_steps.specs.Left.{written_by, all_written, gathered}
+use Rattle.machine_memory.specs.SharedMemory.{Shared}
+use Rattle.machine_replay.specs.Vocabulary.{Kind, Running}
+use Rattle.machine_steps.specs.Left.{written_by, all_written, gathered, left_of, listed_in}
+use Rattle.machine_steps.specs.World.{World}
 
 pub all_written-append : {T : Type 0} (xs : List (Option (Running T))) (x : Option (Running T)) (slots : List (Option T)) → all_written (xs ++ x ∷ []) slots ≡ written_by x (all_written xs slots)
 all_written-append [] x slots = refl
@@ -32,3 +34,8 @@ gathered-room n p end slots left all lt e =
     let m = length-append left (option_to_list (get_or slots (slot_at n p) None)) in
     let k = ap length f in
     omega (arith, l, m, k)
+
+-- a machine with slots holds what they hold, once every call that is about to write has written
+pub left-slots : {T : Type 0} (k : Kind) (w : World (Shared T) (Running T)) → (k ≡ Kind.Unbounded → ⊥) → left_of k w ≡ listed_in k w.shared.lock w.shared.head w.shared.tail (all_written w.calls w.shared.slots)
+left-slots Kind.Unbounded w never = absurd (never refl)
+left-slots k w never = refl
