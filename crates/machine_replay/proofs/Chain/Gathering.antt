@@ -5,8 +5,9 @@ use Rattle.queue_steps.specs.ChainWords.{offset_of}
 use Rattle.machine_replay.specs.Vocabulary.{Op, Touch, Local, UnboundedLocal, Running}
 use Rattle.queue_steps.specs.declared.steps.unbounded.UnboundedLocal.TheVariants as chain
 use Rattle.machine_memory.specs.SharedMemory.{block_touched}
+use Rattle.machine_memory.specs.declared.blocks.BlockPlace.{BlockPlace}
 use Rattle.machine_memory.specs.Blocks.{Block, put_item, without}
-use Rattle.machine_steps.specs.ChainLeft.{laid, marked, reached, settled_at, settled_by, settled_blocks, front_at, settled_front, unread_at, behind_at, chained, chain_left}
+use Rattle.machine_steps.specs.ChainLeft.{laid, marked, reached, settled_at, settled_by, settled_blocks, front_at, settled_front, unread_in, unread, unread_at, behind_at, chained, chain_left}
 
 -- what comes first of what is left goes to the end of what there is
 pub first-taken : {A : Type 0} (left mid rest all : List A) → left ++ (mid ++ rest) ≡ all → (left ++ mid) ++ rest ≡ all
@@ -19,6 +20,15 @@ first-fits left mid rest all e =
     let b = length-append mid rest in
     let k = ap length e in
     omega (arith, a, b, k)
+
+-- the next place is gathered
+pub places-next : {T : Type 0} (left : List T) (places : List (BlockPlace T)) (x : BlockPlace T) (rest : List (BlockPlace T)) (all : List T) → places ≡ x ∷ rest → left ++ unread places ≡ all → left ++ (unread_in x ++ unread rest) ≡ all
+places-next left places x rest all next e = ap (λ l. left ++ unread l) (sym next) ∙ e
+
+-- once no place is left, all is gathered
+pub places-end : {T : Type 0} (left : List T) (places : List (BlockPlace T)) (all : List T) → length places ≡ 0 → left ++ unread places ≡ all → left ≡ all
+places-end left [] all none e = sym (append-nil left) ∙ e
+places-end left (x ∷ xs) all none e = absurd (omega (arith, none))
 
 -- the next block is gathered
 pub chained-turn : {T : Type 0} (n i : ℕ) (bs : List (Option (Block T))) (b : Option ℕ) → i < n → chained (n - i) bs b ≡ unread_at bs b ++ chained (n - (i + 1)) (without b bs) (behind_at bs b)
