@@ -30,6 +30,11 @@ pub places-end : {T : Type 0} (left : List T) (places : List (BlockPlace T)) (al
 places-end left [] all none e = sym (append-nil left) ∙ e
 places-end left (x ∷ xs) all none e = absurd (omega (arith, none))
 
+-- nothing is gathered yet
+pub chained-begin : {T : Type 0} (n : ℕ) (bs : List (Option (Block T))) (b : Option ℕ) (left : List T) → length left ≡ 0 → left ++ chained (n - 0) bs b ≡ chained n bs b
+chained-begin n bs b [] none = let same : n - 0 ≡ n = omega arith in ap (λ m. chained m bs b) same
+chained-begin n bs b (x ∷ xs) none = absurd (omega (arith, none))
+
 -- the next block is gathered
 pub chained-turn : {T : Type 0} (n i : ℕ) (bs : List (Option (Block T))) (b : Option ℕ) → i < n → chained (n - i) bs b ≡ unread_at bs b ++ chained (n - (i + 1)) (without b bs) (behind_at bs b)
 chained-turn n i bs b lt =

@@ -1,8 +1,15 @@
-use Rattle.std.proofs.Common.{◌∙◌, ◌-◌, ◌+◌, ◌<◌, ◌≤◌, arith, length}
+use Rattle.std.proofs.Common.{◌∙◌, ◌-◌, ◌+◌, ◌<◌, ◌≤◌, arith, length, refl, sym}
 use Rattle.machine_memory.specs.Blocks.{without}
 use Rattle.machine_steps.specs.ChainLeft.{unread_at, behind_at, chained}
-use Rattle.machine_replay.proofs.Chain.Gathering.{first-fits, first-taken, chained-next, chained-end}
+use Rattle.machine_replay.proofs.Chain.Gathering.{first-fits, first-taken, chained-begin, chained-next, chained-end}
 use Rattle.machine_replay.proofs.chain_left.gather_blocks.Goals as goal
+
+pub loop-init : goal.loop-init
+loop-init g c =
+    record {
+      items = chained-begin (length c.args.blocks.items) c.args.blocks.items c.args.front c.args.left.items (sym c.args.left.ok.0 ∙ c.requires.empty);
+      room = refl;
+    }
 
 pub gather_block-at-requires : goal.gather_block-at-requires
 gather_block-at-requires g c =

@@ -17,7 +17,7 @@ pub list-requires : goal.list-requires
 list-requires g c =
     let m = c.args.machine in
     let same : listed_in m.kind m.memory.lock m.memory.head m.memory.tail c.settle.result.items ≡ left_of m.kind (world_of m) =
-        ap (λ slots. listed_in m.kind m.memory.lock m.memory.head m.memory.tail slots) c.settle.ensures ∙ sym (left-slots m.kind (world_of m) c.in_default.not-Unbounded) in
+    ap (λ slots. listed_in m.kind m.memory.lock m.memory.head m.memory.tail slots) c.settle.ensures ∙ sym (left-slots m.kind (world_of m) c.in_default.not-Unbounded) in
     record { some = c.requires.some; empty = c.requires.empty; room = subst (λ items. length items ≤ vec_capacity c.args.left) (sym same) c.requires.room }
 
 pub returns : goal.returns
