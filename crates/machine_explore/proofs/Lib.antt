@@ -1,6 +1,7 @@
 pub mod Walks
 pub mod Taking
 pub mod Reaching
+pub mod Reading
 pub mod Preparing
 pub mod NoOther
 pub mod Showing

@@ -1,6 +1,6 @@
 -- By the event by which a party goes on its call goes on: it is not skipped.
-use Rattle.std.proofs.Common.{◌≡◌, ◌≢◌, ◌∙◌, ◌<◌, ◌&&◌, ◌∷◌, [], ℕ, zero, suc, Bool, true, false, if◌then◌else◌, ◌⊎◌, List, Option, Some, None, length, refl, subst, ap, inl, inr, arith, nat_lt}
-use Rattle.std.specs.Prelude.{slice_get, slice_index_or, is_none}
+use Rattle.std.proofs.Common.{◌≡◌, ◌≢◌, ◌∙◌, ◌<◌, ◌&&◌, ◌∷◌, [], ℕ, zero, suc, Bool, true, false, if◌then◌else◌, ◌⊎◌, List, Option, Some, None, length, refl, subst, ap, inl, inr, arith}
+use Rattle.std.specs.Prelude.{slice_get, slice_index_or}
 use Rattle.std.proofs.lemmas.Bool.{lt-ltb}
 use Rattle.std.proofs.lemmas.List.{length-replicate}
 use Rattle.queue_steps.specs.declared.model.Call.{Call}
@@ -18,7 +18,7 @@ use Rattle.machine_explore.specs.Moves.{event_at, event_for}
 use Rattle.machine_explore.specs.Positions.{Configuration, calls_of, progress_of}
 use Rattle.machine_explore.specs.Starts.{IsStart}
 use Rattle.machine_explore.specs.Positions.{Standing}
-use Rattle.machine_replay.specs.Played.{world_after, world_by}
+use Rattle.machine_replay.specs.Played.{world_by}
 use Rattle.machine_explore.proofs.Walks.{WentOn, went_on}
 
 taken-step : {S R T : Type 0} (step : Bool → S → R → Made S R T) (w : World S R) (p : ℕ) (ok : Bool) (o : Option R) (r : R) → o ≡ Some r → (stepped_if step w ok p o).1 ≢ Skipped

@@ -6,6 +6,17 @@ use Rattle.machine_explore.specs.Positions.{Standing}
 use Rattle.machine_explore.proofs.Runs.{standing_is}
 use Rattle.machine_explore.proofs.position.Position.fork.Goals as goal
 
+pub push_reserved-requires : goal.push_reserved-requires
+push_reserved-requires g c =
+    let far = c.loop-party-test.true in
+    let size = ap length (c.as_slice-party-items.ensures.value ∙ ap (λ (x : Standing). x.parties) c.self.view_is) in
+    let i = c.loop-party.invariant.len in
+    let room = c.loop-party.invariant.room in
+    omega (arith, far, size, i, room)
+
+pub loop-party-init : goal.loop-party-init
+loop-party-init g c = record { items = c.in_ok-parties.ensures.items; len = c.in_ok-parties.ensures.len; room = c.in_ok-parties.ensures.exact ∙ c.len.ensures ∙ c.self.inside.parties.ok.0 ∙ ap (λ (x : Standing). length x.parties) c.self.view_is }
+
 pub loop-party-preserved : goal.loop-party-preserved
 loop-party-preserved g c =
     let parties = c.args.self.now.parties in
