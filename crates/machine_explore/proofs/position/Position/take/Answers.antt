@@ -20,3 +20,9 @@ returns-else-party-len-clause-leads g c =
     (c.handle.ensures.kind ∙ ap (λ (x : Standing). x.kind) shown)
     (c.in_ok-told.ensures.world ∙ ap (λ m. m.0) made)
     (ap (λ (x : Standing). x.parties) shown ∙ sym (set_past s.parties (party_of e) (advanced (progress_of s (party_of e)) e (event_of s.kind true s.world e).1) past))
+
+pub index_mut-requires : goal.index_mut-requires
+index_mut-requires g c = let inside = c.if-party-len.true in let len = c.len.ensures in omega (arith, inside, len)
+
+pub advance-requires : goal.advance-requires
+advance-requires g c = λ κs within. within
