@@ -3,6 +3,9 @@ use Rattle.machine_explore.specs.Moves.{led}
 use Rattle.machine_explore.specs.Tables.{Stays}
 use Rattle.machine_explore.proofs.check.stays.Goals as goal
 
+pub loop-party-init : goal.loop-party-init
+loop-party-init g c = λ p none. let no : ⊥ = omega (arith, none) in absurd no
+
 pub loop-party-preserved : goal.loop-party-preserved
 loop-party-preserved g c =
     let calls = c.args.program.now.parties.items in
