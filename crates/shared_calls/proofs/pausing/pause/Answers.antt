@@ -1,8 +1,17 @@
-use Rattle.std.proofs.Common.{◌-◌}
+use Rattle.std.proofs.Common.{◌-◌, ◌∙◌, sym, subst}
 use Rattle.law_common.specs.Vocabulary.{SOLO_STEPS}
 use Rattle.call_driver.proofs.Going.{replies, again}
+use Rattle.shared_calls.specs.Pausing.{IsStep}
 use Rattle.shared_calls.proofs.Filling.{is_filled, filled_as}
 use Rattle.shared_calls.proofs.pausing.pause.Goals as goal
+
+pub next-todo-requires-clause-of : goal.next-todo-requires-clause-of
+next-todo-requires-clause-of g c = c.requires.kind
+
+pub next-todo-requires-clause-can : goal.next-todo-requires-clause-can
+next-todo-requires-clause-can g c =
+    let h = c.requires.stood in
+    (again g.M.Site g.met.M.Site.goes_on g.met.M.Site.more (SOLO_STEPS - 1) c.args.kind c.args.call c.args.site.now h.1 h.0 c.args.progress c.args.carried c.args.seat.now h.2).1.0
 
 pub give_back-requires : goal.give_back-requires
 give_back-requires g c =
@@ -26,3 +35,6 @@ returns-in-Reply g c = λ call first stood.
     (again g.M.Site g.met.M.Site.goes_on g.met.M.Site.more n c.args.kind c.args.call c.args.site.now first call c.args.progress c.args.carried c.args.seat.now stood)).1 c.give_back.new.seat c.give_back.ensures in
     let same = filled_as c.in-Reply.reply c.args.carried told.0 told.1 c.fill.result c.fill.ensures in
     rw same at told.2
+
+pub returns-in-Step : goal.returns-in-Step
+returns-in-Step g c = λ call first stood. (stood, subst IsStep (sym (sym c.next-todo.ensures ∙ c.in-Step.is)) tt)

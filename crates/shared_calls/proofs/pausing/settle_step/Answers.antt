@@ -8,6 +8,14 @@ use Rattle.shared_calls.proofs.Filling.{is_filled, filled_as}
 use Rattle.shared_calls.proofs.Settling.{nearer, left_late, left_early}
 use Rattle.shared_calls.proofs.pausing.settle_step.Goals as goal
 
+pub next-todo-requires-clause-of : goal.next-todo-requires-clause-of
+next-todo-requires-clause-of g c = c.requires.kind
+
+pub next-todo-requires-clause-can : goal.next-todo-requires-clause-can
+next-todo-requires-clause-can g c =
+    let h = c.requires.stood in let l = c.args.left in
+    (again g.M.Site g.met.M.Site.goes_on g.met.M.Site.more (SOLO_STEPS - 1) l.kind l.call c.args.site.now h.1 h.0 l.progress l.carried c.args.seat.now h.2).1.0
+
 pub give_back-requires : goal.give_back-requires
 give_back-requires g c =
     let h = c.requires.stood in let n = SOLO_STEPS - 1 in let l = c.args.left in
@@ -30,6 +38,12 @@ returns-in-Reply-clause-stood g c = λ call first stood.
     (again g.M.Site g.met.M.Site.goes_on g.met.M.Site.more n l.kind l.call c.args.site.now first call l.progress l.carried c.args.seat.now stood)).1 c.give_back.new.seat c.give_back.ensures in
     let same = filled_as c.in-Reply.reply l.carried told.0 told.1 c.fill.result c.fill.ensures in
     rw same at told.2
+
+pub returns-in-Reply-clause-nearer : goal.returns-in-Reply-clause-nearer
+returns-in-Reply-clause-nearer g c = λ stays. tt
+
+pub returns-then-is_early-clause-stood : goal.returns-then-is_early-clause-stood
+returns-then-is_early-clause-stood g c = λ call first stood. stood
 
 pub take_step-answer-requires : goal.take_step-answer-requires
 take_step-answer-requires g c =
