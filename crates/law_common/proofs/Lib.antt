@@ -9,3 +9,4 @@ pub mod Runs
 pub mod TellsAs
 pub mod Operations
 pub mod Alone
+pub mod Filling

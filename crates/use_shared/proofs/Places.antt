@@ -1,8 +1,8 @@
 -- Outputs that are put into the places of their numbers.
-use Rattle.std.proofs.Common.{◌≡◌, ◌≢◌, ◌⊎◌, ℕ, zero, suc, ◌+◌, ◌<◌, ◌==◌, cond, List, [], ◌∷◌, ◌++◌, length, map, get_or, set, replicate, Option, Some, None, slice_get, refl, ap, sym, ◌∙◌, inl, inr, arith}
+use Rattle.std.proofs.Common.{◌≡◌, ◌≢◌, ◌⊎◌, ℕ, zero, suc, ◌+◌, ◌<◌, ◌==◌, cond, List, [], ◌∷◌, ◌++◌, length, map, get_or, set, replicate, ◌≤◌, length-append, Option, Some, None, slice_get, refl, ap, sym, ◌∙◌, inl, inr, arith}
 use Rattle.std.specs.List.{All, count_by}
 use Rattle.std.proofs.lemmas.List.Sums.{sum_by-append}
-use Rattle.std.proofs.lemmas.List.{get_or-set_same, get_or-set_other, get_or-replicate}
+use Rattle.std.proofs.lemmas.List.{get_or-set_same, get_or-set_other, get_or-replicate, length-map, map-append}
 use Rattle.std.proofs.lemmas.Bool.Decides.{eqb_tells}
 use Rattle.std.proofs.lemmas.Option.{slice_get_within}
 use Rattle.law_parties.proofs.Doings.{single}
@@ -65,3 +65,13 @@ module _ {O : Type 0} where
   same_contents (x ∷ xs) [] e = cc
   same_contents (x ∷ xs) (y ∷ ys) e =
       let first : x ≡ y = ap (first_or x) e in let rest : xs ≡ ys = same_contents xs ys (ap rest_of e) in λ i. first i ∷ rest i
+
+module _ {O : Type 0} (outputs : List O) (yielded rest after places : List (Option O)) (x : Option O) where
+  -- an output has room while its place is still to come
+  pub room_for : (len cap : ℕ) → len ≡ length outputs → map Some outputs ≡ yielded → rest ≡ x ∷ after → yielded ++ rest ≡ places → length places ≤ cap → len < cap
+  room_for len cap counted mapped next whole room =
+      let a = ap length mapped in let b = ap length next in let c = ap length whole in let d = length-append yielded rest in let e = length-map outputs Some in omega (arith, counted, a, b, c, d, e, room)
+
+pub mapped_more : {O : Type 0} (old new : List O) (yielded : List (Option O)) (place : Option O) (output : O) → new ≡ old ++ output ∷ [] → place ≡ Some output → map Some old ≡ yielded → map Some new ≡ yielded ++ place ∷ []
+mapped_more old new yielded place output more is before =
+    ap (map Some) more ∙ (map-append Some old (output ∷ []) ∙ (ap (λ ys. ys ++ Some output ∷ []) before ∙ ap (λ z. yielded ++ z ∷ []) (sym is)))

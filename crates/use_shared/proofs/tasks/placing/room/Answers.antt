@@ -1,0 +1,17 @@
+use Rattle.std.proofs.Common.{None, replicate, vec_len, ap, ◌∙◌}
+use Rattle.law_common.proofs.Filling.{room_left, at_end, one_more, replicated_more}
+use Rattle.use_shared.proofs.tasks.placing.room.Goals as goal
+
+pub loop-init : goal.loop-init
+loop-init g c = let made = c.in_ok-places.ensures in record { items = made.items; len = made.len; room = made.exact }
+
+pub push_reserved-requires : goal.push_reserved-requires
+push_reserved-requires g c = let i = c.loop.invariant in room_left _ _ _ _ i.len i.room c.loop-test.true
+
+pub loop-preserved : goal.loop-preserved
+loop-preserved g c =
+    let i = c.loop.invariant in let p = c.push_reserved.ensures in
+    record { items = replicated_more c.loop.places.items c.push_reserved.new.self.items c.loop.counter None p.items i.items; len = one_more (vec_len c.push_reserved.new.self) (vec_len c.loop.places) c.loop.counter p.len i.len; room = p.capacity ∙ i.room }
+
+pub returns-clause-places : goal.returns-clause-places
+returns-clause-places g c = c.loop.invariant.items ∙ ap (λ n. replicate n None) (at_end c.loop.counter c.args.count c.loop.auto.counter-end c.loop-test.false)
