@@ -1,5 +1,5 @@
 -- Blocks of a chain that nobody shares any more are emptied, one slot after the other.
-use Rattle.std.proofs.Common.{◌≡◌, ◌∙◌, ◌⊎◌, inl, inr, ℕ, suc, ◌+◌, ◌*◌, ◌<◌, ◌≤◌, ◌&&◌, ◌||◌, Bool, true, false, not, bit_and, List, [], ◌∷◌, length, Option, Some, None, IfSome, refl, sym, ap, subst, arith, slice_index_or}
+use Rattle.std.proofs.Common.{◌≡◌, ◌∙◌, ◌⊎◌, inl, inr, ℕ, suc, ◌+◌, ◌-◌, ◌*◌, ◌<◌, ◌≤◌, ◌&&◌, ◌||◌, Bool, true, false, not, bit_and, List, [], ◌∷◌, length, Option, Some, None, IfSome, refl, sym, ap, subst, arith, slice_index_or}
 use Rattle.std.proofs.lemmas.List.{length-set}
 use Rattle.atomic_table.proofs.Lists.{set_else}
 use mathlib.Core.Option.{some, some-injective}
@@ -13,6 +13,23 @@ use Rattle.shared_parties.proofs.CallSteps.{set_at}
 use Rattle.shared_chain.specs.Leftover.{SlotLeft, BlockLeft, StaysLeft, BlocksLeft, SameBut, Emptied, IsHere, is_held, any_held}
 use Rattle.shared_chain.proofs.Frames.Blocks.{home_here, gone_else}
 use Rattle.shared_chain.proofs.Frames.Tested.{alive_within}
+
+-- the numbers of blocks that are there, and of their items, fit a word
+pub number_fits : (b n : ℕ) → n * BLOCK_SLOTS ≤ 2 * LIMIT → b + 2 < n → b + 2 < 18446744073709551616
+number_fits b n few within = omega arith
+
+pub next_fits : (b n : ℕ) → n * BLOCK_SLOTS ≤ 2 * LIMIT → b + 2 < n → b + 1 < 18446744073709551616
+next_fits b n few within = omega arith
+
+pub items_small : (b n : ℕ) → n * BLOCK_SLOTS ≤ 2 * LIMIT → b + 2 < n → b * BLOCK_SLOTS ≤ 2 * LIMIT
+items_small b n few within = omega arith
+
+pub items_fit : (b n : ℕ) → n * BLOCK_SLOTS ≤ 2 * LIMIT → b + 2 < n → b * BLOCK_SLOTS < 18446744073709551616
+items_fit b n few within = omega arith
+
+-- fewer blocks are left behind one that is there
+fewer_left : (b old new : ℕ) → new ≡ old → b + 2 < old → new - (b + 1) < old - b
+fewer_left b old new long within = omega arith
 
 negated : (b h : Bool) → not b && not h ≡ not (b || h)
 negated true h = refl
@@ -65,6 +82,13 @@ module _ {A : Type 0} where
   pub here_within : (n : ℕ) (o : Option (BlockPtr A)) (l : BlockPtr A) (bs : List (Block A)) → o ≡ Some l → IsHere n o bs → n + 2 < length bs
   here_within n o l bs is here = let h = subst (λ z. IsHere n z bs) is here in alive_within bs (n + 2) h.1.0
 
+  -- its link may be compared with null once it is emptied, and it is still there
+  pub emptied_next : (r : Ptr) (old new : Block A) {P : ℕ → Type 0} {empty : Bool} → r ≡ new.next → Emptied P empty old new → Testable old.next → Testable r
+  emptied_next r old new is e tested = subst (λ p. Testable p) (sym (is ∙ e.next)) tested
+
+  pub emptied_lives : (p : Ptr) (old new : List (Block A)) (k : ℕ) {P : ℕ → Type 0} {empty : Bool} → Emptied P empty (block old k) (block new k) → Lives old k p → Lives new k p
+  emptied_lives p old new k e lives = (e.alive ∙ lives.0, e.at ∙ lives.1)
+
   -- blocks that were emptied, or taken out, before this one
   pub same_behind : (k : ℕ) (old mid new : List (Block A)) → SameBut k old mid → (new ≡ mid) ⊎ (new ≡ without mid k) → SameBut k old new
   same_behind k old mid new same (inl is) = subst (λ ys. SameBut k old ys) (sym is) same
@@ -87,6 +111,9 @@ module _ {A : Type 0} where
           tested = subst (λ (x : Block A). Testable x.next) (sym here) was.tested;
           leads = subst (λ (z : Block A × Block A × ℕ). (z.0.next ≡ null_ptr) ⊎ ((j + 3 < z.2) × (z.0.next ≡ z.1.at))) (λ i. (sym here i, sym next i, sym long i)) was.leads;
         }
+
+    pub fewer_behind : b + 2 < length old → length new - (b + 1) < length old - b
+    fewer_behind within = fewer_left b (length old) (length new) same.long within
 
     pub left_behind : BlocksLeft taken accepted (b + 1) new
     left_behind = record {
