@@ -1,9 +1,64 @@
 use Rattle.std.proofs.Common.{rules, Some, None, ◌≡◌, ◌∙◌, refl, ap, sym, subst}
+use Rattle.atomic_table.specs.Seated.{TableId}
+use Rattle.mem_blocks.specs.Laid.{WebId}
 use Rattle.queue_steps.specs.Legal.{IsShown}
+use Rattle.queue_steps.specs.Shares.{IsEntire}
+use Rattle.shared_parties.specs.declared.known.CallState.{CallState}
+use Rattle.shared_parties.specs.CallStates.{IsResting, IsLoneSeat}
 use Rattle.queue_steps.specs.Effect.{after}
-use Rattle.concurrent_queue.specs.Shared.{name_at, known_at}
+use Rattle.concurrent_queue.specs.Shared.{at_table, in_web, name_at, known_at, form_id, IsFreeAt}
 use Rattle.concurrent_queue.proofs.PartyViews.{finishes}
 use Rattle.concurrent_queue.proofs.shared.ConcurrentQueue.finish.Goals as goal
+
+same_table : (a b : TableId) → at_table a ≡ at_table b → a ≡ b
+same_table a b e = cc
+
+same_web : (a b : WebId) → in_web a ≡ in_web b → a ≡ b
+same_web a b e = cc
+
+-- a party with all of the share is the only one
+is_lone : {T : Type 0} (d e : CallState T) → d ≡ e → IsResting e → IsEntire e.known.share → IsLoneSeat d
+is_lone d e is rests entire = subst (λ x. IsLoneSeat x) (sym is) (rests, entire)
+
+pub end_slot-requires-clause-table : goal.end_slot-requires-clause-table
+end_slot-requires-clause-table g c =
+    let b = c.in-Single-Table in
+    same_table b.seat.table_id b.slot.table.shared.table_id (sym (ap name_at b.is-1) ∙ (c.is_only.ensures.same.0.0 ∙ ap (λ f. (form_id f).name) b.is-0))
+
+pub end_slot-requires-clause-alone : goal.end_slot-requires-clause-alone
+end_slot-requires-clause-alone g c =
+    let b = c.in-Single-Table in
+    is_lone b.seat.me.0 (known_at c.party.inside.place) (sym (ap known_at b.is-1) ∙ c.is_only.ensures.same.2) c.party.invariant.0.0 c.if-not-is_only.ensures.counted
+
+pub of_single-requires : goal.of_single-requires
+of_single-requires g c = c.end_slot.ensures.0
+
+pub end_ring-requires-clause-table : goal.end_ring-requires-clause-table
+end_ring-requires-clause-table g c =
+    let b = c.in-Ring-Table in
+    same_table b.seat.table_id b.ring.table.shared.table_id (sym (ap name_at b.is-1) ∙ (c.is_only.ensures.same.0.0 ∙ ap (λ f. (form_id f).name) b.is-0))
+
+pub end_ring-requires-clause-alone : goal.end_ring-requires-clause-alone
+end_ring-requires-clause-alone g c =
+    let b = c.in-Ring-Table in
+    is_lone b.seat.me.0 (known_at c.party.inside.place) (sym (ap known_at b.is-1) ∙ c.is_only.ensures.same.2) c.party.invariant.0.0 c.if-not-is_only.ensures.counted
+
+pub wake-seat-requires : goal.wake-seat-requires
+wake-seat-requires g c =
+    let b = c.in-Chain-Web in let sits = c.is_only.ensures.same.0 in
+    (subst (λ p. IsFreeAt p) b.is-1 sits.1, same_web b.rested.web _ (sym (ap name_at b.is-1) ∙ (sits.0 ∙ ap (λ f. (form_id f).name) b.is-0)))
+
+pub end-requires-clause-of : goal.end-requires-clause-of
+end-requires-clause-of g c = c.in-Chain-Web.queue.of
+
+pub end-requires-clause-sits : goal.end-requires-clause-sits
+end-requires-clause-sits g c = c.wake-seat.ensures.seat.0
+
+pub end-requires-clause-alone : goal.end-requires-clause-alone
+end-requires-clause-alone g c =
+    let b = c.in-Chain-Web in
+    let known = ap (λ m. m.view) c.wake-seat.ensures.seat.1 ∙ (sym (ap known_at b.is-1) ∙ c.is_only.ensures.same.2) in
+    is_lone c.wake-seat.result.sitter.view (known_at c.party.inside.place) known c.party.invariant.0.0 c.if-not-is_only.ensures.counted
 
 pub returns-in-Single-Table : goal.returns-in-Single-Table
 returns-in-Single-Table g c =
