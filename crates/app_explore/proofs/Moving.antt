@@ -1,6 +1,7 @@
 -- The lines of a schedule, one by one.
 use Rattle.std.proofs.Common.{◌≡◌, ◌∙◌, ℕ, zero, suc, ◌+◌, ◌-◌, ◌<◌, ◌≤◌, ◌⊎◌, nat_lt, inl, inr, Bool, true, false, cond, List, [], ◌∷◌, length, drop, get_or, refl, sym, ap, subst, arith}
 use Rattle.std.proofs.lemmas.Bool.{ltb-true, ltb-false}
+use Rattle.std.proofs.lemmas.List.{at_drop_all, at_drop_more}
 use Rattle.queue_steps.specs.declared.sizes.TheConstants.{SOLO_STEPS}
 use Rattle.app_text.specs.declared.actions.Action.TheVariants as action
 use Rattle.app_text.specs.declared.actions.ReplayLine.{ReplayLine}
@@ -74,3 +75,21 @@ first_is_plain (s ∷ ss) t n some is row other = subst {A = Seen} (λ u. n ≡ 
         let more : more_moves n ≡ 0 = ap (λ b. cond b (n - 1) 0) plain in
         let lines : first_line s.event n ∷ move_lines (more_moves n) ss ≡ plain_line s.event ∷ move_lines 0 ss = cc (first, ap (λ k. move_lines k ss) more) in
         (omega arith, omega arith, subst {A = ℕ} (λ m. first_line s.event m ∷ move_lines (more_moves m) ss ≡ plain_line s.event ∷ move_lines 0 ss) length_is lines)
+
+-- of the moves that are left the first takes the row to its end, goes on with it, or is none of it
+module _ (p i : ℕ) (ts : List Seen) (t : Seen) (inside : i < length ts) (is : t ≡ get_or ts i t) where
+  row_at : row_length i p (drop i ts) ≡ cond (is_step_of p t.event) (cond (ends_call t.told) (i + 1) (row_length (i + 1) p (drop (i + 1) ts))) 0
+  row_at = at_drop_more (row_length i p) ts i t inside ∙ ap (λ (s : Seen). row_length i p (s ∷ drop (i + 1) ts)) (sym is)
+
+  pub row_goes_on : is_step_of p t.event ≡ true → ends_call t.told ≡ false → row_length i p (drop i ts) ≡ row_length (i + 1) p (drop (i + 1) ts)
+  row_goes_on step on = row_at ∙ ap (λ b. cond b (cond (ends_call t.told) (i + 1) (row_length (i + 1) p (drop (i + 1) ts))) 0) step ∙ ap (λ b. cond b (i + 1) (row_length (i + 1) p (drop (i + 1) ts))) on
+
+  pub row_ends : is_step_of p t.event ≡ true → ends_call t.told ≡ true → row_length i p (drop i ts) ≡ i + 1
+  row_ends step ends = row_at ∙ ap (λ b. cond b (cond (ends_call t.told) (i + 1) (row_length (i + 1) p (drop (i + 1) ts))) 0) step ∙ ap (λ b. cond b (i + 1) (row_length (i + 1) p (drop (i + 1) ts))) ends
+
+  pub row_stops : is_step_of p t.event ≡ false → row_length i p (drop i ts) ≡ 0
+  row_stops other = row_at ∙ ap (λ b. cond b (cond (ends_call t.told) (i + 1) (row_length (i + 1) p (drop (i + 1) ts))) 0) other
+
+-- behind the last move there is no row
+pub row_past : (p i : ℕ) (ts : List Seen) → length ts ≤ i → row_length i p (drop i ts) ≡ 0
+row_past p i ts past = at_drop_all (row_length i p) ts i past
