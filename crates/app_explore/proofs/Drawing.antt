@@ -33,9 +33,12 @@ column_ends (Ok u) width n cell start padded new wide before wrote =
     wrote ∙ ap (λ l. l ++ 32 ∷ []) (before ∙ ap (λ k. start ++ codes "| " ++ cell ++ replicate k 32) wide) ∙ simp append_assoc refl
 column_ends (Err e) width n cell start padded new wide before wrote = tt
 
+-- two lists that read the same are as long as each other
+pub within_same : {X Y Z : Type 0} (f : X → Z) (h : Y → Z) (xs : List X) (ys : List Y) (i : ℕ) → map f xs ≡ map h ys → i < length ys → i < length xs
+within_same f h xs ys i same inside = let size : length xs ≡ length ys = sym (length-map xs f) ∙ ap length same ∙ length-map ys h in omega (arith, size, inside)
+
 -- what stands at one place of two lists that read the same
 pub same_at : {X Y Z : Type 0} (f : X → Z) (h : Y → Z) (xs : List X) (ys : List Y) (i : ℕ) (x : X) (y : Y) → map f xs ≡ map h ys → i < length ys → x ≡ slice_index_or xs i x → y ≡ slice_index_or ys i y → f x ≡ h y
 same_at f h xs ys i x y same inside x_is y_is =
-    let size : length xs ≡ length ys = sym (length-map xs f) ∙ ap length same ∙ length-map ys h in
-    let within : i < length xs = omega (arith, size, inside) in
+    let within : i < length xs = within_same f h xs ys i same inside in
     ap f x_is ∙ sym (get_or-map f xs i x (f x) within) ∙ ap (λ l. slice_index_or l i (f x)) same ∙ get_or-map h ys i y (f x) inside ∙ ap h (sym y_is)
