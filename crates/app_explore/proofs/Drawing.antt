@@ -1,10 +1,15 @@
 -- The columns and the rows of a picture, one more.
-use Rattle.std.proofs.Common.{◌≡◌, ◌∙◌, ℕ, zero, suc, ◌+◌, ◌-◌, ◌<◌, List, [], ◌∷◌, ◌++◌, OnOk, Ok, Err, Result, if◌then◌else◌, codes, length, map, replicate, take, sym, ap, refl, arith, append_assoc, append-nil}
+use Rattle.std.proofs.Common.{◌≡◌, ◌∙◌, ℕ, zero, suc, ◌+◌, ◌-◌, ◌<◌, ◌≤◌, nat_lt, drop, Option, List, [], ◌∷◌, ◌++◌, OnOk, Ok, Err, Result, if◌then◌else◌, codes, length, map, replicate, take, sym, ap, refl, arith, append_assoc, append-nil}
 use Rattle.std.specs.Prelude.{flat_map, slice_index_or}
 use Rattle.std.specs.List.{range_with_len}
 use Rattle.std.specs.Result.{is_ok}
-use Rattle.std.proofs.lemmas.List.{flat_map_more, get_or-map, length-map, take_more}
-use Rattle.app_explore.specs.Lanes.{column, columns}
+use Rattle.std.proofs.lemmas.Bool.{le-ltb, lt-ltb}
+use Rattle.std.proofs.lemmas.List.{at_drop_all, at_drop_more, flat_map_more, get_or-map, length-map, take_more}
+use Rattle.queue_steps.specs.declared.steps.types.Local.{Local}
+use Rattle.machine_memory.specs.declared.types.Event.{Event}
+use Rattle.machine_memory.specs.declared.types.Told.{Told}
+use Rattle.machine_explore.specs.Traces.{Seen}
+use Rattle.app_explore.specs.Lanes.{cell_text, column, columns, move_text, told_text, widest}
 
 over_range : {X : Type 0} (f : ℕ → List X) (a n j : ℕ) → a + n ≡ j → flat_map f (range_with_len a (n + 1)) ≡ flat_map f (range_with_len a n) ++ f j
 over_range f a zero j at = let same : a ≡ j = omega (arith, at) in append-nil (f a) ∙ ap f same
@@ -42,3 +47,27 @@ pub same_at : {X Y Z : Type 0} (f : X → Z) (h : Y → Z) (xs : List X) (ys : L
 same_at f h xs ys i x y same inside x_is y_is =
     let within : i < length xs = within_same f h xs ys i same inside in
     ap f x_is ∙ sym (get_or-map f xs i x (f x) within) ∙ ap (λ l. slice_index_or l i (f x)) same ∙ get_or-map h ys i y (f x) inside ∙ ap h (sym y_is)
+
+-- a cell has what its party does, and what was told of it
+pub cell_is : (s : Seen) (e : Event ℕ) (l : Option (Local ℕ)) (t : Told ℕ) (empty moved told : List ℕ) → e ≡ s.event → l ≡ s.local → t ≡ s.told → empty ≡ [] → moved ≡ empty ++ move_text e l → told ≡ moved ++ told_text t → told ≡ cell_text s
+cell_is s e l t empty moved told e_is l_is t_is none moves tells =
+    tells ∙ ap (λ k. moved ++ told_text k) t_is
+    ∙ ap (λ m. m ++ told_text s.told) (moves ∙ ap (λ m. m ++ move_text e l) none ∙ ap (λ f. move_text f l) e_is ∙ ap (move_text s.event) l_is)
+
+-- the next cell is longer than the width so far, or it is not
+module _ {X : Type 0} (bytes : X → List ℕ) (cells : List X) (i width : ℕ) (cell : X) (inside : i < length cells) (is : cell ≡ slice_index_or cells i cell) where
+  widest_at : widest width (map bytes (drop i cells)) ≡ widest (if nat_lt width (length (bytes cell)) then length (bytes cell) else width) (map bytes (drop (i + 1) cells))
+  widest_at = at_drop_more (λ l. widest width (map bytes l)) cells i cell inside ∙ ap (λ c. widest width (map bytes (c ∷ drop (i + 1) cells))) (sym is)
+
+  pub widest_more : (long : ℕ) → long ≡ length (bytes cell) → width < long → widest width (map bytes (drop i cells)) ≡ widest long (map bytes (drop (i + 1) cells))
+  widest_more long long_is wider =
+      widest_at ∙ ap (λ n. widest (if nat_lt width n then n else width) (map bytes (drop (i + 1) cells))) (sym long_is)
+      ∙ ap (λ b. widest (if b then long else width) (map bytes (drop (i + 1) cells))) (lt-ltb width long wider)
+
+  pub widest_same : (long : ℕ) → long ≡ length (bytes cell) → long ≤ width → widest width (map bytes (drop i cells)) ≡ widest width (map bytes (drop (i + 1) cells))
+  widest_same long long_is wide =
+      widest_at ∙ ap (λ n. widest (if nat_lt width n then n else width) (map bytes (drop (i + 1) cells))) (sym long_is)
+      ∙ ap (λ b. widest (if b then long else width) (map bytes (drop (i + 1) cells))) (le-ltb width long wide)
+
+pub widest_past : {X : Type 0} (bytes : X → List ℕ) (cells : List X) (i width : ℕ) → length cells ≤ i → widest width (map bytes (drop i cells)) ≡ width
+widest_past bytes cells i width past = at_drop_all (λ l. widest width (map bytes l)) cells i past

@@ -9,3 +9,4 @@ pub mod Drawing
 pub mod Waiting
 pub mod OutcomeLines
 pub mod Tallies
+pub mod Mapped
