@@ -1,12 +1,13 @@
 -- The lines of a schedule, one by one.
-use Rattle.std.proofs.Common.{◌≡◌, ◌∙◌, ℕ, zero, suc, ◌+◌, ◌-◌, ◌<◌, ◌≤◌, ◌⊎◌, nat_lt, inl, inr, Bool, true, false, cond, List, [], ◌∷◌, length, drop, get_or, refl, sym, ap, subst, arith}
+use Rattle.std.proofs.Common.{◌≡◌, ◌∙◌, ℕ, zero, suc, ◌+◌, ◌-◌, ◌<◌, ◌≤◌, ◌⊎◌, nat_lt, inl, inr, Bool, true, false, cond, List, [], ◌∷◌, length, ◌++◌, append_assoc, drop, get_or, refl, sym, ap, subst, arith}
 use Rattle.std.proofs.lemmas.Bool.{ltb-true, ltb-false}
-use Rattle.std.proofs.lemmas.List.{at_drop_all, at_drop_more}
+use Rattle.std.proofs.lemmas.List.{at_drop_all, at_drop_more, length-drop}
+use Rattle.app_text.specs.Actions.{replay_line_text}
 use Rattle.queue_steps.specs.declared.sizes.TheConstants.{SOLO_STEPS}
 use Rattle.app_text.specs.declared.actions.Action.TheVariants as action
 use Rattle.app_text.specs.declared.actions.ReplayLine.{ReplayLine}
 use Rattle.machine_explore.specs.Traces.{Seen}
-use Rattle.app_explore.specs.Schedules.{ends_call, party_of, plain_line, is_step_of, row_length, is_run, first_line, more_moves, move_lines}
+use Rattle.app_explore.specs.Schedules.{ends_call, party_of, plain_line, is_step_of, row_length, is_run, first_line, more_moves, lines_text, move_lines}
 
 row_within : (k p : ℕ) (ts : List Seen) → row_length k p ts ≤ k + length ts
 row_within k p [] = omega arith
@@ -93,3 +94,16 @@ module _ (p i : ℕ) (ts : List Seen) (t : Seen) (inside : i < length ts) (is : 
 -- behind the last move there is no row
 pub row_past : (p i : ℕ) (ts : List Seen) → length ts ≤ i → row_length i p (drop i ts) ≡ 0
 row_past p i ts past = at_drop_all (row_length i p) ts i past
+
+-- one line more is written
+pub line_more : (line : ReplayLine) (n : ℕ) (rest behind : List Seen) (start old new : List ℕ) → old ++ lines_text (move_lines 0 rest) ≡ start → move_lines 0 rest ≡ line ∷ move_lines 0 (drop n rest) → behind ≡ drop n rest
+    → new ≡ old ++ replay_line_text line ++ 10 ∷ [] → new ++ lines_text (move_lines 0 behind) ≡ start
+line_more line n rest behind start old new before first behind_is wrote =
+    let text : List ℕ = replay_line_text line ++ 10 ∷ [] in
+    let left : List ℕ = lines_text (move_lines 0 (drop n rest)) in
+    ap (λ l. new ++ lines_text (move_lines 0 l)) behind_is ∙ ap (λ l. l ++ left) (wrote ∙ append_assoc old (replay_line_text line) (10 ∷ [])) ∙ append_assoc old text left
+    ∙ ap (λ ls. old ++ lines_text ls) (sym first) ∙ before
+
+-- behind one move or more fewer are left
+pub fewer_left : (n : ℕ) (rest behind : List Seen) → 0 < n → n ≤ length rest → behind ≡ drop n rest → length behind < length rest
+fewer_left n rest behind some most behind_is = let left = ap length behind_is ∙ length-drop n rest in omega (arith, left, some, most)
