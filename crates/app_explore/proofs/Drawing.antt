@@ -1,6 +1,7 @@
 -- The columns and the rows of a picture, one more.
 use Rattle.std.proofs.Common.{◌≡◌, ◌∙◌, ℕ, zero, suc, ◌+◌, ◌-◌, ◌<◌, ◌≤◌, nat_lt, drop, Option, List, [], ◌∷◌, ◌++◌, OnOk, Ok, Err, Result, if◌then◌else◌, codes, length, map, replicate, take, sym, ap, refl, arith, append_assoc, append-nil}
 use Rattle.std.specs.Prelude.{flat_map, slice_index_or}
+use Rattle.std.specs.Fmt.{decimal}
 use Rattle.std.specs.List.{range_with_len}
 use Rattle.std.specs.Result.{is_ok}
 use Rattle.std.proofs.lemmas.Bool.{le-ltb, lt-ltb}
@@ -9,7 +10,7 @@ use Rattle.queue_steps.specs.declared.steps.types.Local.{Local}
 use Rattle.machine_memory.specs.declared.types.Event.{Event}
 use Rattle.machine_memory.specs.declared.types.Told.{Told}
 use Rattle.machine_explore.specs.Traces.{Seen}
-use Rattle.app_explore.specs.Lanes.{cell_text, column, columns, move_text, told_text, widest}
+use Rattle.app_explore.specs.Lanes.{cell_text, column, columns, head_text, move_text, told_text, widest}
 
 over_range : {X : Type 0} (f : ℕ → List X) (a n j : ℕ) → a + n ≡ j → flat_map f (range_with_len a (n + 1)) ≡ flat_map f (range_with_len a n) ++ f j
 over_range f a zero j at = let same : a ≡ j = omega (arith, at) in append-nil (f a) ∙ ap f same
@@ -71,3 +72,13 @@ module _ {X : Type 0} (bytes : X → List ℕ) (cells : List X) (i width : ℕ) 
 
 pub widest_past : {X : Type 0} (bytes : X → List ℕ) (cells : List X) (i width : ℕ) → length cells ≤ i → widest width (map bytes (drop i cells)) ≡ width
 widest_past bytes cells i width past = at_drop_all (λ l. widest width (map bytes l)) cells i past
+
+-- the row of the numbers is at its end
+pub head_ends : {E : Type 0} (r : Result Unit E) (parties n width : ℕ) (start old new : List ℕ) → n ≤ parties → parties ≤ n → old ≡ start ++ columns n width decimal → new ≡ (if is_ok r then old ++ (codes "| list" ++ 10 ∷ []) else old)
+    → OnOk r (new ≡ start ++ head_text parties width)
+head_ends (Ok u) parties n width start old new most least before wrote =
+    let all : n ≡ parties = omega (arith, most, least) in
+    let numbers = columns parties width decimal in
+    wrote ∙ ap (λ l. l ++ (codes "| list" ++ 10 ∷ [])) (before ∙ ap (λ k. start ++ columns k width decimal) all)
+    ∙ append_assoc start numbers (codes "| list" ++ 10 ∷ []) ∙ ap (λ l. start ++ l) (sym (append_assoc numbers (codes "| list") (10 ∷ [])))
+head_ends (Err e) parties n width start old new most least before wrote = tt
