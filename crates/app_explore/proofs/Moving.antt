@@ -1,8 +1,9 @@
 -- The lines of a schedule, one by one.
-use Rattle.std.proofs.Common.{◌≡◌, ◌∙◌, ℕ, zero, suc, ◌+◌, ◌-◌, ◌<◌, ◌≤◌, ◌⊎◌, nat_lt, inl, inr, Bool, true, false, cond, List, [], ◌∷◌, length, ◌++◌, append_assoc, drop, get_or, refl, sym, ap, subst, arith}
+use Rattle.std.proofs.Common.{◌≡◌, ◌∙◌, ℕ, zero, suc, ◌+◌, ◌-◌, ◌<◌, ◌≤◌, ◌⊎◌, nat_lt, inl, inr, Bool, true, false, cond, List, [], ◌∷◌, length, ◌++◌, append_assoc, drop, get_or, Err, Ok, OnOk, Result, refl, sym, ap, subst, arith}
 use Rattle.std.proofs.lemmas.Bool.{ltb-true, ltb-false}
 use Rattle.std.proofs.lemmas.List.{at_drop_all, at_drop_more, length-drop}
-use Rattle.app_text.specs.Actions.{replay_line_text}
+use Rattle.std.specs.Fmt.{decimal}
+use Rattle.app_text.specs.Actions.{action_text, replay_line_text}
 use Rattle.queue_steps.specs.declared.sizes.TheConstants.{SOLO_STEPS}
 use Rattle.app_text.specs.declared.actions.Action.TheVariants as action
 use Rattle.app_text.specs.declared.actions.ReplayLine.{ReplayLine}
@@ -107,3 +108,11 @@ line_more line n rest behind start old new before first behind_is wrote =
 -- behind one move or more fewer are left
 pub fewer_left : (n : ℕ) (rest behind : List Seen) → 0 < n → n ≤ length rest → behind ≡ drop n rest → length behind < length rest
 fewer_left n rest behind some most behind_is = let left = ap length behind_is ∙ length-drop n rest in omega (arith, left, some, most)
+
+-- a line is written, where the word is what its party does
+pub line_written : {E : Type 0} (r : Result Unit E) (line : ReplayLine) (word start new : List ℕ) → action_text line.action ≡ word → OnOk r (new ≡ start ++ (decimal line.party ++ 32 ∷ (word ++ 10 ∷ []))) → OnOk r (new ≡ start ++ replay_line_text line ++ 10 ∷ [])
+line_written (Ok u) line word start new is wrote =
+    let number = decimal line.party in
+    let does = action_text line.action in
+    wrote ∙ ap (λ w. start ++ (number ++ 32 ∷ (w ++ 10 ∷ []))) (sym is) ∙ ap (λ l. start ++ l) (sym (append_assoc number (32 ∷ does) (10 ∷ []))) ∙ sym (append_assoc start (number ++ 32 ∷ does) (10 ∷ []))
+line_written (Err e) line word start new is wrote = tt
