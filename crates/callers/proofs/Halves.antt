@@ -14,3 +14,7 @@ whole_again share one other first second both e f kept again is =
 pub all_again : (share one other first second both : Share) → share ≡ entire → first ≡ half share → second ≡ half share → one ≡ first → SamePart other second → both ≡ plus one other → IsEntire both
 all_again share one other first second both all e f kept again is =
     entire_same share both (same_sym both share (whole_again share one other first second both e f kept again is)) (subst IsEntire (sym all) refl)
+
+-- the only party has all of the share
+pub all_of : (share : Share) → share ≡ entire → IsEntire share
+all_of share all = subst IsEntire (sym all) refl
