@@ -1,11 +1,31 @@
 -- Outputs that are put into the places of their numbers.
-use Rattle.std.proofs.Common.{◌≡◌, ◌≢◌, ◌⊎◌, ℕ, zero, suc, ◌+◌, ◌<◌, ◌==◌, cond, List, [], ◌∷◌, ◌++◌, length, map, get_or, set, replicate, ◌≤◌, length-append, Option, Some, None, slice_get, refl, ap, sym, ◌∙◌, inl, inr, arith}
+use Rattle.std.proofs.Common.{◌≡◌, ◌≢◌, ◌⊎◌, ℕ, zero, suc, ◌+◌, ◌<◌, ◌==◌, cond, List, [], ◌∷◌, ◌++◌, length, map, get_or, set, replicate, Option, Some, None, slice_get, refl, ap, sym, subst, ◌∙◌, inl, inr, append-nil, length-append, arith}
 use Rattle.std.specs.List.{All, count_by}
 use Rattle.std.proofs.lemmas.List.Sums.{sum_by-append}
-use Rattle.std.proofs.lemmas.List.{get_or-set_same, get_or-set_other, get_or-replicate, length-map, map-append}
+use Rattle.std.proofs.lemmas.List.{get_or-set_same, get_or-set_other, get_or-replicate}
 use Rattle.std.proofs.lemmas.Bool.Decides.{eqb_tells}
 use Rattle.std.proofs.lemmas.Option.{slice_get_within}
 use Rattle.law_parties.proofs.Doings.{single}
+
+-- the outcome of the task that comes after so many
+pub outcome_at : {T O : Type 0} (f : T → O) (outcomes : List O) (came rest all : List T) (x : T) (n : ℕ) → came ++ x ∷ rest ≡ all → n ≡ length came → map f all ≡ outcomes → slice_get outcomes n ≡ Some (f x)
+outcome_at {T} {O} f outcomes came rest all x n is number batch =
+    ap (slice_get outcomes) number ∙ (ap (λ (os : List O). slice_get os (length came)) (sym batch) ∙ (ap (λ (l : List T). slice_get (map f l) (length came)) (sym is) ∙ at came))
+  where
+    at : (ys : List T) → slice_get (map f (ys ++ x ∷ rest)) (length ys) ≡ Some (f x)
+    at [] = refl
+    at (y ∷ ys) = at ys
+
+-- the number of one that comes after so many
+pub number_below : {T : Type 0} (came rest all : List T) (x : T) (n : ℕ) → came ++ x ∷ rest ≡ all → n ≡ length came → n < length all
+number_below came rest all x n is number = let whole = ap length is in let parts = length-append came (x ∷ rest) in omega (arith, whole, parts, number)
+
+pub number_after : {T : Type 0} (came rest all : List T) (n len : ℕ) → came ++ rest ≡ all → n ≡ length came → len ≡ length rest → len ≡ 0 → n ≡ length all
+number_after came rest all n len is number left none = let whole = ap length is in let parts = length-append came rest in omega (arith, whole, parts, number, left, none)
+
+pub all_came : {T : Type 0} (came rest all : List T) (len : ℕ) → came ++ rest ≡ all → len ≡ length rest → len ≡ 0 → came ≡ all
+all_came came [] all len is left none = sym (append-nil came) ∙ is
+all_came came (x ∷ xs) all len is left none = absurd (omega (arith, left, none))
 
 -- in each place is the outcome of its number, or nothing: then no output of its number has come
 abbrev pub Placed : {O D : Type 0} → (D → ℕ) → List O → List (Option O) → List D → Type 0
@@ -59,19 +79,17 @@ module _ {O : Type 0} where
   all_full (x ∷ xs) zero d lt e = absurd (cc)
   all_full (x ∷ xs) (suc k) d lt e = all_full xs k d (omega (arith, lt)) e
 
+  -- no place is without an output
+  pub none_missing : (came rest all : List (Option O)) → came ++ None ∷ rest ≡ all → All (λ p. p ≢ None) all → ⊥
+  none_missing came rest all is full = subst {A = List (Option O)} (λ l. All (λ p. p ≢ None) l → ⊥) is (at came) full
+    where
+      at : (ys : List (Option O)) → All (λ p. p ≢ None) (ys ++ None ∷ rest) → ⊥
+      at [] each = each 0 None (omega arith) refl
+      at (y ∷ ys) each = at ys (λ k d lt. each (suc k) d (omega (arith, lt)))
+
   pub same_contents : (xs ys : List O) → map Some xs ≡ map Some ys → xs ≡ ys
   same_contents [] [] e = refl
   same_contents [] (y ∷ ys) e = cc
   same_contents (x ∷ xs) [] e = cc
   same_contents (x ∷ xs) (y ∷ ys) e =
       let first : x ≡ y = ap (first_or x) e in let rest : xs ≡ ys = same_contents xs ys (ap rest_of e) in λ i. first i ∷ rest i
-
-module _ {O : Type 0} (outputs : List O) (yielded rest after places : List (Option O)) (x : Option O) where
-  -- an output has room while its place is still to come
-  pub room_for : (len cap : ℕ) → len ≡ length outputs → map Some outputs ≡ yielded → rest ≡ x ∷ after → yielded ++ rest ≡ places → length places ≤ cap → len < cap
-  room_for len cap counted mapped next whole room =
-      let a = ap length mapped in let b = ap length next in let c = ap length whole in let d = length-append yielded rest in let e = length-map outputs Some in omega (arith, counted, a, b, c, d, e, room)
-
-pub mapped_more : {O : Type 0} (old new : List O) (yielded : List (Option O)) (place : Option O) (output : O) → new ≡ old ++ output ∷ [] → place ≡ Some output → map Some old ≡ yielded → map Some new ≡ yielded ++ place ∷ []
-mapped_more old new yielded place output more is before =
-    ap (map Some) more ∙ (map-append Some old (output ∷ []) ∙ (ap (λ ys. ys ++ Some output ∷ []) before ∙ ap (λ z. yielded ++ z ∷ []) (sym is)))

@@ -43,7 +43,7 @@ pub(crate) fn open<T: Drop + Send, D: Drop + Send, A: Allocator + Clone>(
     alloc: &A,
     count: usize,
 ) -> Result<(Executor<T, D, A>, Worker<T, D>), AllocError>
-    requires { 0 < count }
+    requires some { 0 < count }
     ensures { IfOk result (λ r. IsWorkerOf r.1 r.0 × IsFresh r.1) }
 {
     let (tasks, tasks_party) = ConcurrentQueue::bounded(alloc.clone()?, count)?;
@@ -110,7 +110,7 @@ impl<K: Batch<T::Output>, T: Task, A: NullTestable> Executor<Running<K, T>, Fini
 impl<W: Numbered, A: NullTestable> Executor<W, W::Finished, A> {
     /// Puts a task into the queue. Where that refuses it, which it does not while it is open, the task is stepped here.
     fn put<R: Wait>(&self, rt: &R, worker: &mut Worker<W, W::Finished>, task: W)
-        requires { IsWorkerOf worker.old self.now }
+        requires of { IsWorkerOf worker.old self.now }
         ensures { Moves W.number W.finished_number worker.old worker.new (one (W.number task)) none }
     {
         let mut task = task;
@@ -135,7 +135,7 @@ impl<W: Numbered, A: NullTestable> Executor<W, W::Finished, A> {
 
     /// Hands in an output. Who hands in the last one closes the queue of tasks.
     fn hand_in<R: Wait>(&self, rt: &R, worker: &mut Worker<W, W::Finished>, finished: W::Finished)
-        requires { IsWorkerOf worker.old self.now }
+        requires of { IsWorkerOf worker.old self.now }
         ensures { Moves W.number W.finished_number worker.old worker.new (one (W.finished_number finished)) none }
     {
         let mut finished = finished;
@@ -154,7 +154,7 @@ impl<W: Numbered, A: NullTestable> Executor<W, W::Finished, A> {
 
     /// One task less is to be done.
     fn count_down(&self, worker: &mut Worker<W, W::Finished>)
-        requires { IsWorkerOf worker.old self.now }
+        requires of { IsWorkerOf worker.old self.now }
         ensures { Moves W.number W.finished_number worker.old worker.new none none }
     {
         if self.undone.fetch_sub(1, SeqCst) == 1 {
@@ -164,7 +164,7 @@ impl<W: Numbered, A: NullTestable> Executor<W, W::Finished, A> {
 
     /// Closes the queue of tasks, and wakes who waits for one.
     fn close(&self, worker: &mut Worker<W, W::Finished>)
-        requires { IsWorkerOf worker.old self.now }
+        requires of { IsWorkerOf worker.old self.now }
         ensures { Moves W.number W.finished_number worker.old worker.new none none }
     {
         worker.tasks.show_view();
@@ -174,7 +174,7 @@ impl<W: Numbered, A: NullTestable> Executor<W, W::Finished, A> {
 
     /// Takes the next task. Where there is none it waits for one; it gives none where all are done.
     fn take<R: Wait>(&self, rt: &R, worker: &mut Worker<W, W::Finished>) -> Option<W>
-        requires { IsWorkerOf worker.old self.now }
+        requires of { IsWorkerOf worker.old self.now }
         ensures moved { Moves W.number W.finished_number worker.old worker.new none (taken W.number result) }
         ensures drained { IfNone result (SawDrained worker.new.tasks) }
     {
@@ -192,7 +192,7 @@ impl<W: Numbered, A: NullTestable> Executor<W, W::Finished, A> {
 
     /// Gives way to other threads, or sleeps, while there is no task.
     fn pause<R: Wait>(&self, rt: &R, worker: &mut Worker<W, W::Finished>, backoff: &Backoff)
-        requires { IsWorkerOf worker.old self.now }
+        requires of { IsWorkerOf worker.old self.now }
         ensures { Moves W.number W.finished_number worker.old worker.new none none }
     {
         if !backoff.is_completed() {
@@ -209,7 +209,7 @@ impl<W: Numbered, A: NullTestable> Executor<W, W::Finished, A> {
 
     /// Whether there is no task, and one may still come.
     fn may_come(&self, worker: &mut Worker<W, W::Finished>) -> bool
-        requires { IsWorkerOf worker.old self.now }
+        requires of { IsWorkerOf worker.old self.now }
         ensures { Moves W.number W.finished_number worker.old worker.new none none }
     {
         worker.tasks.show_view();
@@ -221,7 +221,7 @@ impl<W: Numbered, A: NullTestable> Executor<W, W::Finished, A> {
 
     /// Steps tasks until all are done.
     fn work<R: Wait>(&self, rt: &R, worker: Worker<W, W::Finished>) -> Worker<W, W::Finished>
-        requires { IsWorkerOf worker self.now }
+        requires of { IsWorkerOf worker self.now }
         ensures { IsShift W.number W.finished_number worker result }
     {
         let mut worker = worker;
@@ -242,7 +242,7 @@ impl<W: Numbered, A: NullTestable> Executor<W, W::Finished, A> {
         &self,
         worker: Worker<W, W::Finished>,
     ) -> Result<(Worker<W, W::Finished>, Worker<W, W::Finished>), Worker<W, W::Finished>>
-        requires { IsWorkerOf worker self.now }
+        requires of { IsWorkerOf worker self.now }
         ensures { MatchResult result (λ r. AreParts worker r.0 r.1) (λ back. Moves W.number W.finished_number worker back none none) }
     {
         worker.tasks.show_view();
@@ -274,7 +274,7 @@ impl<W: Numbered, A: NullTestable> Executor<W, W::Finished, A> {
         ours: Worker<W, W::Finished>,
         theirs: Worker<W, W::Finished>,
     ) -> Worker<W, W::Finished>
-        requires { IsWorkerOf ours self.now × IsWorkerOf theirs self.now }
+        requires of { IsWorkerOf ours self.now × IsWorkerOf theirs self.now }
         ensures { AreJoined ours theirs result }
     {
         ours.tasks.show_view();
@@ -295,7 +295,7 @@ pub(crate) fn run_workers<W: Numbered, A: NullTestable + Send + Sync, R: Threads
     worker: Worker<W, W::Finished>,
     count: u64,
 ) -> Worker<W, W::Finished>
-    requires { IsWorkerOf worker executor.now }
+    requires of { IsWorkerOf worker executor.now }
     ensures { IsShift W.number W.finished_number worker result }
 {
     if count <= 1 {
@@ -307,11 +307,13 @@ pub(crate) fn run_workers<W: Numbered, A: NullTestable + Send + Sync, R: Threads
             let (theirs, ours) = join(
                 rt,
                 || -> Worker<W, W::Finished>
-                    requires { IsWorkerOf theirs executor.now }
+                    requires of { IsWorkerOf theirs executor.now }
                     ensures { IsShift W.number W.finished_number theirs result }
                 { executor.work(rt, theirs) },
                 || -> Worker<W, W::Finished>
-                    requires { IsSync R.row × IsWorkerOf ours executor.now × (1 < count) }
+                    requires sync { IsSync R.row }
+                    requires of { IsWorkerOf ours executor.now }
+                    requires more { 1 < count }
                     ensures { IsShift W.number W.finished_number ours result }
                 { run_workers(rt, executor, ours, count - 1) },
             );

@@ -50,7 +50,7 @@ pub(crate) struct Finished<K: Batch<T::Output>, T: Task> {
 
 impl<K: Batch<T::Output>, T: Task> Running<K, T> {
     pub(crate) fn new(number: usize, task: T) -> Self
-        requires { slice_get K.outcomes number ≡ Some (T.outcome task) }
+        requires of { slice_get K.outcomes number ≡ Some (T.outcome task) }
         ensures { result.number ≡ number }
     {
         Running {

@@ -16,8 +16,7 @@ pub(crate) fn room<O: Drop, A: Allocator + Clone>(
     alloc: &A,
     count: usize,
 ) -> Result<(Vec<Option<O>, A>, Vec<O, A>), AllocError>
-    ensures places { IfOk result (λ r. r.0.items ≡ replicate count None) }
-    ensures outputs { IfOk result (λ r. (r.1.items ≡ []) × (count ≤ vec_capacity r.1)) }
+    ensures { IfOk result (λ r. (r.0.items ≡ replicate count None) × (r.1.items ≡ []) × (count ≤ vec_capacity r.1)) }
 {
     let mut places = Vec::with_capacity(alloc.clone()?, count)?;
     for _ in 0..count {

@@ -1,6 +1,8 @@
-use Rattle.std.proofs.Common.{[], ◌∷◌, ◌++◌, length, slice_get, Some, ap, sym, ◌∙◌, append_assoc, append-nil}
-use Rattle.std.proofs.lemmas.List.{length-set}
-use Rattle.use_shared.proofs.Places.{placed_more, placed_all}
+use Rattle.std.proofs.Common.{[], ◌∷◌, ◌++◌, length, slice_get, Some, None, ap, sym, ◌∙◌, append_assoc, append-nil, arith}
+use Rattle.std.proofs.lemmas.List.{length-set, length-replicate}
+use Rattle.std.proofs.lemmas.Option.{slice_get_within}
+use Rattle.use_shared.specs.declared.tasks.numbered.Finished.{Finished}
+use Rattle.use_shared.proofs.Places.{placed_none, placed_more, placed_all}
 use Rattle.use_shared.proofs.tasks.placing.place.Goals as goal
 
 pub loop-done-preserved : goal.loop-done-preserved
@@ -25,3 +27,17 @@ returns g c =
     let none = c.in-None.ensures.steps.0 in
     let all = sym (append-nil c.loop-done.yielded) ∙ (ap (λ l. c.loop-done.yielded ++ l) (sym none) ∙ before.2) in
     placed_all (λ d. d.number) g.K.Batch.outcomes c.loop-done.places.items c.loop-done.yielded before.3 (rw all c.requires.each) before.4
+
+pub loop-done-init : goal.loop-done-init
+loop-done-init g c =
+    let places = c.requires.places in (
+      tt,
+      tt,
+      c.into_iter-done-iterator.ensures.into_iter_gives.0,
+      ap length places ∙ length-replicate (length g.K.Batch.outcomes) None,
+      rw places (placed_none {D = Finished g.row.K.Denot g.row.T.Denot g.row.T-Output.Denot g.K.Batch g.T.Task} (λ d. d.number) g.K.Batch.outcomes),
+    )
+
+pub put_at-requires : goal.put_at-requires
+put_at-requires g c =
+    let it = c.into_parts-number in let within = slice_get_within g.K.Batch.outcomes it.result.0 it.result.1 it.ensures.1 in let len = c.loop-done.invariant.3 in omega (arith, within, len)

@@ -18,3 +18,6 @@ returns-in-Done g c =
     let back = not_put_in g.W.Numbered.number g.W.Numbered.finished_number c.args.worker.now c.loop.worker c.push.new.party (g.W.Numbered.number c.args.task) c.loop.task c.into_inner.result c.in-Err.why c.loop.invariant c.show_view.ensures c.in-Err.ensures c.into_inner.ensures in
     subst {A = ℕ} (λ k. Moves g.W.Numbered.number g.W.Numbered.finished_number c.args.worker.now c.hand_in.new.worker (one k) none) (c.in-Done.ensures ∙ back.1)
     (then g.W.Numbered.number g.W.Numbered.finished_number c.args.worker.now _ c.hand_in.new.worker (one (g.W.Numbered.finished_number c.in-Done.finished)) none back.0 c.hand_in.ensures)
+
+pub hand_in-requires-clause-of : goal.hand_in-requires-clause-of
+hand_in-requires-clause-of g c = λ κs outlive. let queues = c.loop.invariant.0.queues in (c.push.ensures.0 ∙ (queues.0 ∙ c.requires.of.0), queues.1 ∙ c.requires.of.1)
