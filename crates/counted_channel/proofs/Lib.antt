@@ -2,3 +2,4 @@ pub mod Counts
 pub mod Parting
 pub mod OneSide
 pub mod Trying
+mod EndViews
