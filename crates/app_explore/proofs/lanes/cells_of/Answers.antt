@@ -14,7 +14,7 @@ loop-entry-preserved g c =
     let s : Seen = c.entry-item.result in
     let cell : string_bytes c.write_told.new.text ≡ cell_text s
     = cell_is s c.event.result c.local.result c.told.result (string_bytes c.new-cell.result) (string_bytes c.write_move.new.text) (string_bytes c.write_told.new.text)
-      c.event.ensures c.local.ensures c.told.ensures c.new-cell.ensures.bytes c.in_ok-write_move.ensures c.in_ok-write_told.ensures in
+    c.event.ensures c.local.ensures c.told.ensures c.new-cell.ensures.bytes c.in_ok-write_move.ensures c.in_ok-write_told.ensures in
     mapped_more string_bytes cell_text c.args.seen.now c.loop-entry.entry-index c.loop-entry.cells.items c.push.new.self.items c.write_told.new.text s
     c.loop-entry-test.true c.entry-item.is c.loop-entry.invariant cell c.in_ok-push.ensures.items
 

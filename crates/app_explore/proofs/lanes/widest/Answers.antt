@@ -15,9 +15,9 @@ loop-cell-preserved g c =
     let left = map string_bytes (drop (i + 1) cells) in
     elim c.if-width-len.branch [
       | then-width-len w ↦ c.loop-cell.invariant ∙ widest_more string_bytes cells i c.loop-cell.width c.cell-item.result c.loop-cell-test.true c.cell-item.is c.len.result long w.if-width-len.true
-        ∙ ap (λ n. widest n left) (c.len.ensures ∙ sym w.len-width.ensures ∙ sym w.width-is)
+          ∙ ap (λ n. widest n left) (c.len.ensures ∙ sym w.len-width.ensures ∙ sym w.width-is)
       | else-width-len w ↦ c.loop-cell.invariant ∙ widest_same string_bytes cells i c.loop-cell.width c.cell-item.result c.loop-cell-test.true c.cell-item.is c.len.result long w.if-width-len.false
-        ∙ ap (λ n. widest n left) (sym w.width-is)
+          ∙ ap (λ n. widest n left) (sym w.width-is)
     ]
 
 pub returns : goal.returns
