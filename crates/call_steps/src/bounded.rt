@@ -110,15 +110,15 @@ fn next_look<B: Copy>(cap: u64, local: BoundedLocal, answer: Answer<B>) -> Next<
     ensures { result ≡ bounded_next cap local answer }
 {
     match (local, answer) {
-        (BoundedLocal::LenTail, Answer::Found(tail)) => {
-            load(BoundedLocal::LenHead(tail), Word::Head)
+        (BoundedLocal::CountTail(glance), Answer::Found(tail)) => {
+            load(BoundedLocal::CountHead(glance, tail), Word::Head)
         }
-        (BoundedLocal::LenHead(tail), Answer::Found(head)) => {
-            load(BoundedLocal::LenAgain(tail, head), Word::Tail)
+        (BoundedLocal::CountHead(glance, tail), Answer::Found(head)) => {
+            load(BoundedLocal::CountAgain(glance, tail, head), Word::Tail)
         }
-        (BoundedLocal::LenAgain(tail, head), Answer::Found(again)) => looking::after_len(
-            tail, head, again,
-        ),
+        (BoundedLocal::CountAgain(glance, tail, head), Answer::Found(again)) => {
+            looking::after_count(cap, glance, tail, head, again)
+        }
         (BoundedLocal::EmptyHead, Answer::Found(head)) => {
             load(BoundedLocal::EmptyTail(head), Word::Tail)
         }
@@ -164,9 +164,9 @@ pub(super) fn next_other<B: Copy>(cap: u64, local: BoundedLocal, answer: Answer<
         | BoundedLocal::Taking(_)
         | BoundedLocal::Emptying
         | BoundedLocal::PopTail(_) => next_pop(cap, local, answer),
-        BoundedLocal::LenTail
-        | BoundedLocal::LenHead(_)
-        | BoundedLocal::LenAgain(_, _)
+        BoundedLocal::CountTail(_)
+        | BoundedLocal::CountHead(_, _)
+        | BoundedLocal::CountAgain(_, _, _)
         | BoundedLocal::EmptyHead
         | BoundedLocal::EmptyTail(_)
         | BoundedLocal::FullTail

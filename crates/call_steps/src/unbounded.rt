@@ -259,14 +259,14 @@ fn next_look<B: Copy>(local: UnboundedLocal<B>, answer: Answer<B>) -> Next<B>
     ensures { result ≡ unbounded_next local answer }
 {
     match (local, answer) {
-        (UnboundedLocal::LenTail, Answer::Found(tail)) => {
-            load(UnboundedLocal::LenHead(tail), Word::Head)
+        (UnboundedLocal::CountTail(glance), Answer::Found(tail)) => {
+            load(UnboundedLocal::CountHead(glance, tail), Word::Head)
         }
-        (UnboundedLocal::LenHead(tail), Answer::Found(head)) => {
-            load(UnboundedLocal::LenAgain(tail, head), Word::Tail)
+        (UnboundedLocal::CountHead(glance, tail), Answer::Found(head)) => {
+            load(UnboundedLocal::CountAgain(glance, tail, head), Word::Tail)
         }
-        (UnboundedLocal::LenAgain(tail, head), Answer::Found(again)) => {
-            looking::after_len(tail, head, again)
+        (UnboundedLocal::CountAgain(glance, tail, head), Answer::Found(again)) => {
+            looking::after_count(glance, tail, head, again)
         }
         (UnboundedLocal::EmptyHead, Answer::Found(head)) => {
             load(UnboundedLocal::EmptyTail(head), Word::Tail)
@@ -317,9 +317,9 @@ pub(super) fn next_other<B: Copy>(local: UnboundedLocal<B>, answer: Answer<B>) -
         | UnboundedLocal::Reading(_, _)
         | UnboundedLocal::Walking(_, _)
         | UnboundedLocal::Destroying(_, _) => next_pop(local, answer),
-        UnboundedLocal::LenTail
-        | UnboundedLocal::LenHead(_)
-        | UnboundedLocal::LenAgain(_, _)
+        UnboundedLocal::CountTail(_)
+        | UnboundedLocal::CountHead(_, _)
+        | UnboundedLocal::CountAgain(_, _, _)
         | UnboundedLocal::EmptyHead
         | UnboundedLocal::EmptyTail(_)
         | UnboundedLocal::Closing

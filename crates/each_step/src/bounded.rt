@@ -1,11 +1,13 @@
 //! The steps of a ring. `Tail` is twice the position of the next item to come, and one more once the queue is closed; `Head` is the position of the front.
 //! A slot's stamp is the position for which it is free, and one more once it is filled for it.
 ghost use Rattle.std.specs.Prelude.{◌≡◌, ◌%◌, ◌<◌};
-ghost use Rattle.queue_steps.specs.BoundedNext.{at, loads, bounded_begin, closed_reply, pushed_reply};
+ghost use Rattle.queue_steps.specs.BoundedNext.{at, loads, ring_look, bounded_begin, closed_reply, pushed_reply};
 
 use queue_steps::errors::{ForcePushError, PushError};
-use queue_steps::model::{Call, CallKind, Reply, ReplyKind};
-use queue_steps::steps::{BoundedLocal, Local, MARK, Next, Op, PushKind, Touch, Word};
+use queue_steps::model::{CallKind, Reply, ReplyKind};
+use queue_steps::steps::{
+    BoundedLocal, CallView, Glance, Local, Look, MARK, Next, Op, PushKind, Touch, Word,
+};
 
 pub mod looking;
 pub mod popping;
@@ -40,25 +42,34 @@ pub fn load<B: Copy>(local: BoundedLocal, word: Word<B>) -> Next<B>
     step(local, Touch::Nothing, Op::Load(word))
 }
 
+/// The first step of a look. Two loads tell whether the ring is empty or full; any other glance counts the items.
+#[inline(always)]
+fn look<B: Copy>(look: Look) -> Next<B>
+    ensures { result ≡ ring_look look }
+{
+    match look {
+        Look::IsClosed => load(BoundedLocal::ClosedTail, Word::Tail),
+        Look::Glance(Glance::IsEmpty) => load(BoundedLocal::EmptyHead, Word::Head),
+        Look::Glance(Glance::IsFull) => load(BoundedLocal::FullTail, Word::Tail),
+        Look::Glance(glance) => load(BoundedLocal::CountTail(glance), Word::Tail),
+    }
+}
+
 /// The first step of a call.
 #[inline(always)]
 pub fn begin<B: Copy>(cap: usize, call: CallKind) -> Next<B>
     ensures { result ≡ bounded_begin cap call }
 {
-    match call {
-        Call::Push(()) => load(BoundedLocal::PushTail(PushKind::Push), Word::Tail),
-        Call::ForcePush(()) => load(BoundedLocal::PushTail(PushKind::Force), Word::Tail),
-        Call::Pop => load(BoundedLocal::PopHead, Word::Head),
-        Call::Close => step(
+    match CallView::of(call) {
+        CallView::Push(push) => load(BoundedLocal::PushTail(push), Word::Tail),
+        CallView::Pop => load(BoundedLocal::PopHead, Word::Head),
+        CallView::Close => step(
             BoundedLocal::Closing,
             Touch::Nothing,
             Op::Or(Word::Tail, MARK),
         ),
-        Call::IsClosed => load(BoundedLocal::ClosedTail, Word::Tail),
-        Call::IsEmpty => load(BoundedLocal::EmptyHead, Word::Head),
-        Call::IsFull => load(BoundedLocal::FullTail, Word::Tail),
-        Call::Len => load(BoundedLocal::LenTail, Word::Tail),
-        Call::Capacity => Next::Reply(Reply::Capacity(Some(cap)), None),
+        CallView::Look(taken) => look(taken),
+        CallView::Capacity => Next::Reply(Reply::Capacity(Some(cap)), None),
     }
 }
 

@@ -3,9 +3,10 @@ ghost use Rattle.std.specs.Prelude.{◌≡◌};
 ghost use Rattle.queue_steps.specs.SingleNext.{at, single_begin, single_next, seen_reply, unlocks, is_marked, is_pushed, P1, F1, O1, looks};
 
 use queue_steps::errors::{ForcePushError, PopError, PushError};
-use queue_steps::model::{Call, CallKind, Reply, ReplyKind};
+use queue_steps::model::{CallKind, Reply, ReplyKind};
 use queue_steps::steps::{
-    CLOSED, LOCKED, Local, Look, Next, Op, PUSHED, SingleLocal, Touch, UNLOCKED, UNPUSHED, Word,
+    CLOSED, CallView, LOCKED, Local, Look, Next, Op, PUSHED, PushKind, SingleLocal, Touch,
+    UNLOCKED, UNPUSHED, Word,
 };
 
 /// Whether the word is that of a closed queue.
@@ -85,20 +86,17 @@ fn unlock<B: Copy>(local: SingleLocal, touch: Touch) -> Next<B>
 pub fn begin<B: Copy>(call: CallKind) -> Next<B>
     ensures { result ≡ single_begin call }
 {
-    match call {
-        Call::Push(()) => claim_to_push(),
-        Call::ForcePush(()) => claim_to_force(0),
-        Call::Pop => claim_to_pop(PUSHED),
-        Call::Close => Next::Step(
+    match CallView::of(call) {
+        CallView::Push(PushKind::Push) => claim_to_push(),
+        CallView::Push(PushKind::Force) => claim_to_force(0),
+        CallView::Pop => claim_to_pop(PUSHED),
+        CallView::Close => Next::Step(
             Local::Single(SingleLocal::Closing),
             Touch::Nothing,
             Op::Or(Word::Lock, CLOSED),
         ),
-        Call::IsClosed => look(Look::IsClosed),
-        Call::IsEmpty => look(Look::IsEmpty),
-        Call::IsFull => look(Look::IsFull),
-        Call::Len => look(Look::Len),
-        Call::Capacity => Next::Reply(Reply::Capacity(Some(1)), None),
+        CallView::Look(taken) => look(taken),
+        CallView::Capacity => Next::Reply(Reply::Capacity(Some(1)), None),
     }
 }
 
@@ -109,9 +107,7 @@ fn seen(look: Look, word: u64) -> ReplyKind
 {
     match look {
         Look::IsClosed => Reply::IsClosed(is_closed(word)),
-        Look::IsEmpty => Reply::IsEmpty(!is_pushed(word)),
-        Look::IsFull => Reply::IsFull(is_pushed(word)),
-        Look::Len => Reply::Len(if is_pushed(word) { 1 } else { 0 }),
+        Look::Glance(glance) => glance.reply(Some(1), if is_pushed(word) { 1 } else { 0 }),
     }
 }
 

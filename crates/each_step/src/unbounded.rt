@@ -4,11 +4,13 @@
 ghost use Rattle.std.specs.Prelude.{◌≡◌, ◌+◌, ◌*◌, ◌^◌, ◌<◌, if◌then◌else◌};
 ghost use Rattle.queue_steps.specs.Words.{IsWord};
 ghost use Rattle.queue_steps.specs.ChainWords.{offset_of, items_before, over_end};
-ghost use Rattle.queue_steps.specs.UnboundedNext.{at, loads, unbounded_begin, is_last_slot};
+ghost use Rattle.queue_steps.specs.UnboundedNext.{at, loads, chain_look, unbounded_begin, is_last_slot};
 
-use queue_steps::model::{Call, CallKind, Reply};
+use queue_steps::model::{CallKind, Reply};
 use queue_steps::sizes::{BLOCK_POSITIONS, BLOCK_SLOTS};
-use queue_steps::steps::{Local, MARK, Next, Op, PushKind, TAIL_STEP, Touch, UnboundedLocal, Word};
+use queue_steps::steps::{
+    CallView, Glance, Local, Look, MARK, Next, Op, TAIL_STEP, Touch, UnboundedLocal, Word,
+};
 use queue_steps::words::position_of;
 
 pub mod looking;
@@ -78,24 +80,33 @@ pub fn load<B: Copy>(local: UnboundedLocal<B>, word: Word<B>) -> Next<B>
     step(local, Touch::Nothing, Op::Load(word))
 }
 
+/// The first step of a look. Two loads tell whether the chain is empty, and it is never full; any other glance counts the items.
+#[inline(always)]
+fn look<B: Copy>(look: Look) -> Next<B>
+    ensures { result ≡ chain_look look }
+{
+    match look {
+        Look::IsClosed => load(UnboundedLocal::ClosedTail, Word::Tail),
+        Look::Glance(Glance::IsEmpty) => load(UnboundedLocal::EmptyHead, Word::Head),
+        Look::Glance(Glance::IsFull) => Next::Reply(Reply::IsFull(false), None),
+        Look::Glance(glance) => load(UnboundedLocal::CountTail(glance), Word::Tail),
+    }
+}
+
 /// The first step of a call.
 #[inline]
 pub fn begin<B: Copy>(call: CallKind) -> Next<B>
     ensures { result ≡ unbounded_begin call }
 {
-    match call {
-        Call::Push(()) => load(UnboundedLocal::PushTail(PushKind::Push, None), Word::Tail),
-        Call::ForcePush(()) => load(UnboundedLocal::PushTail(PushKind::Force, None), Word::Tail),
-        Call::Pop => load(UnboundedLocal::PopHead, Word::Head),
-        Call::Close => step(
+    match CallView::of(call) {
+        CallView::Push(push) => load(UnboundedLocal::PushTail(push, None), Word::Tail),
+        CallView::Pop => load(UnboundedLocal::PopHead, Word::Head),
+        CallView::Close => step(
             UnboundedLocal::Closing,
             Touch::Nothing,
             Op::Or(Word::Tail, MARK),
         ),
-        Call::IsClosed => load(UnboundedLocal::ClosedTail, Word::Tail),
-        Call::IsEmpty => load(UnboundedLocal::EmptyHead, Word::Head),
-        Call::IsFull => Next::Reply(Reply::IsFull(false), None),
-        Call::Len => load(UnboundedLocal::LenTail, Word::Tail),
-        Call::Capacity => Next::Reply(Reply::Capacity(None), None),
+        CallView::Look(taken) => look(taken),
+        CallView::Capacity => Next::Reply(Reply::Capacity(None), None),
     }
 }

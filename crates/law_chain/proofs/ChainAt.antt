@@ -9,7 +9,7 @@ use Rattle.law_common.specs.Stand.{Stand}
 use Rattle.law_chain.specs.ChainCells.{Chain, queue_of, ChainOk, Write, Read, Tail, Head, Next, First, Passed, Nothing}
 use Rattle.law_chain.specs.ChainPasses.{Passes}
 use Rattle.law_chain.proofs.ChainFacts.{tail_grows, head_is_stays, named_stays, tail_block_stays, head_block_stays, head_read_stays, more_stays, spare_stays, holds_stays, head_was_stays, saw_empty_stays, saw_stays, claimed_stays, got_stays, lays_stays, opens_stays, passing_stays, entering_stays, linking_stays, showing_stays, walker_stays}
-use Rattle.law_chain.specs.ChainAt.{Only, Either, Asks, IsBehind, IsFurther, At, push_tail, push_block, asking, installing, showing, claiming, laying, opening, chaining, writing, spending, pop_head, pop_block, pop_tail, taking, following, peeking, passing, entering, awaiting, reading, beginning, walking, destroying, len_tail, len_head, len_again, empty_head, empty_tail, closing, closed_tail}
+use Rattle.law_chain.specs.ChainAt.{Only, Either, Asks, IsBehind, IsFurther, At, push_tail, push_block, asking, installing, showing, claiming, laying, opening, chaining, writing, spending, pop_head, pop_block, pop_tail, taking, following, peeking, passing, entering, awaiting, reading, beginning, walking, destroying, count_tail, count_head, count_again, empty_head, empty_tail, closing, closed_tail}
 
 pub asks_stays : {A : Type 0} {r s : Chain A} (who q : ℕ) (block : Option ℕ) → Passes who r s → Asks r q block → Asks s q block
 asks_stays who q None pass h = h
@@ -72,12 +72,12 @@ at_stays {r = r} {s = s} {who = who} {other = other} {ms = ms} ok ok2 ne pass (w
     walking x b name slot (holds_stays who other (Only (Passed b)) ne pass none) (walker_stays who other b slot ne pass is) (named_stays who b name pass named)
 at_stays {r = r} {s = s} {who = who} {other = other} {ms = ms} ok ok2 ne pass (destroying x b name slot none is named) =
     destroying x b name slot (holds_stays who other (Only (Passed b)) ne pass none) (walker_stays who other b slot ne pass is) (named_stays who b name pass named)
-at_stays {r = r} {s = s} {who = who} {other = other} {ms = ms} ok ok2 ne pass (len_tail none) =
-    len_tail (holds_stays who other Nothing ne pass none)
-at_stays {r = r} {s = s} {who = who} {other = other} {ms = ms} ok ok2 ne pass (len_head t none small low) =
-    len_head t (holds_stays who other Nothing ne pass none) small (let g = tail_grows who pass in omega arith)
-at_stays {r = r} {s = s} {who = who} {other = other} {ms = ms} ok ok2 ne pass (len_again t h none small seen) =
-    len_again t h (holds_stays who other Nothing ne pass none) small (head_was_stays who (items_before (position_of h)) (items_before (position_of t)) ms (queue_of s) pass seen)
+at_stays {r = r} {s = s} {who = who} {other = other} {ms = ms} ok ok2 ne pass (count_tail g count none) =
+    count_tail g count (holds_stays who other Nothing ne pass none)
+at_stays {r = r} {s = s} {who = who} {other = other} {ms = ms} ok ok2 ne pass (count_head g t count none small low) =
+    count_head g t count (holds_stays who other Nothing ne pass none) small (let g = tail_grows who pass in omega arith)
+at_stays {r = r} {s = s} {who = who} {other = other} {ms = ms} ok ok2 ne pass (count_again g t h count none small seen) =
+    count_again g t h count (holds_stays who other Nothing ne pass none) small (head_was_stays who (items_before (position_of h)) (items_before (position_of t)) ms (queue_of s) pass seen)
 at_stays {r = r} {s = s} {who = who} {other = other} {ms = ms} ok ok2 ne pass (empty_head none) =
     empty_head (holds_stays who other Nothing ne pass none)
 at_stays {r = r} {s = s} {who = who} {other = other} {ms = ms} ok ok2 ne pass (empty_tail h none small saw) =

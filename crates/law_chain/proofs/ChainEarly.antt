@@ -1,14 +1,15 @@
 -- A call on a chain that has had no effect yet has no part of the chain but its spare, and still carries its own value: so its party may give it up.
-use Rattle.std.proofs.Common.{ℕ, ◌≡◌, inl, true, false, Some, List, [], refl}
+use Rattle.std.proofs.Common.{ℕ, ◌≡◌, inl, true, false, Some, List, [], refl, sym}
 use Rattle.queue_steps.specs.State.{State}
 use Rattle.queue_steps.specs.Kinds.{call_value}
+use Rattle.queue_steps.proofs.LookLaws.{glance_value}
 use Rattle.law_common.specs.Vocabulary.{PushKind}
 use Rattle.law_common.specs.Pushes.{pushes}
 use Rattle.law_common.specs.Stand.{Stand}
 use Rattle.law_chain.specs.ChainCells.{Chain, HoldsOnly, Nothing}
 use Rattle.law_chain.specs.ChainPasses.{spare_in}
 use Rattle.law_chain.specs.ChainEarly.{IsEarly, IsBound, IsPush}
-use Rattle.law_chain.specs.ChainAt.{At, push_tail, push_block, asking, installing, showing, claiming, laying, opening, chaining, writing, spending, pop_head, pop_block, pop_tail, taking, len_tail, len_head, len_again, empty_head, empty_tail, closing, closed_tail}
+use Rattle.law_chain.specs.ChainAt.{At, push_tail, push_block, asking, installing, showing, claiming, laying, opening, chaining, writing, spending, pop_head, pop_block, pop_tail, taking, count_tail, count_head, count_again, empty_head, empty_tail, closing, closed_tail}
 use Rattle.law_chain.proofs.ChainStepOk.{GivesUp, spare_gives}
 
 pushed : {A : Type 0} (d : PushKind) (v : A) → Some v ≡ call_value (pushes d v)
@@ -27,9 +28,9 @@ early is (pop_head none) = (refl, none, tt, refl)
 early is (pop_block n more none front there) = (refl, none, tt, refl)
 early is (pop_tail n block none front read) = (refl, none, tt, refl)
 early is (taking n name after more new none front there low word_is room) = (refl, none, tt, refl)
-early is (len_tail none) = (refl, none, tt, refl)
-early is (len_head t none word low) = (refl, none, tt, refl)
-early is (len_again t h none words seen) = (refl, none, tt, refl)
+early {A} is (count_tail g count none) = (refl, none, tt, sym (glance_value A g))
+early {A} is (count_head g t count none word low) = (refl, none, tt, sym (glance_value A g))
+early {A} is (count_again g t h count none words seen) = (refl, none, tt, sym (glance_value A g))
 early is (empty_head none) = (refl, none, tt, refl)
 early is (empty_tail h none word saw) = (refl, none, tt, refl)
 early is (closing none) = (refl, none, tt, refl)
@@ -49,4 +50,7 @@ unbound push (opening d v n name f holds mine opens links named) = λ e. absurd 
 unbound push (chaining d v n name f holds mine links named) = λ e. absurd (let f : false ≡ true = e in cc)
 unbound push (writing d v n name spare holds mine has) = λ e. absurd (let f : false ≡ true = e in cc)
 unbound push (spending d v spare none has spent) = λ e. absurd (let f : false ≡ true = e in cc)
+unbound push (count_tail g count none) = λ e. absurd (let f : false ≡ true = e in cc)
+unbound push (count_head g t count none word low) = λ e. absurd (let f : false ≡ true = e in cc)
+unbound push (count_again g t h count none words seen) = λ e. absurd (let f : false ≡ true = e in cc)
 unbound push _ = absurd push

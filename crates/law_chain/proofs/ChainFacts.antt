@@ -51,10 +51,10 @@ holds_stays who other P ne pass holds = λ x e. holds x (pass.owned x other ne e
 pub saw_stays : {A : Type 0} {r s : Chain A} (who q : ℕ) (ms : List (State A)) (now : State A) → Passes who r s → SawTail r q ms → SawTail s q (seen_by now ms)
 saw_stays who q ms now pass saw = record { below = saw.below; is = tail_is_stays who q pass saw.is; moment = seen_later ms now (WasOpenAt q) saw.moment }
 
-pub head_was_stays : {A : Type 0} {r s : Chain A} (who h q : ℕ) (ms : List (State A)) (now : State A) → Passes who r s → SeenIn ms (HeadWas h q r.tail) → SeenIn (seen_by now ms) (HeadWas h q s.tail)
+pub head_was_stays : {A : Type 0} {r s : Chain A} (who h q : ℕ) (ms : List (State A)) (now : State A) → Passes who r s → SeenIn ms (HeadWas None h q r.tail) → SeenIn (seen_by now ms) (HeadWas None h q s.tail)
 head_was_stays {r = r} {s = s} who h q ms now pass seen =
     let g = tail_grows who pass in
-    seen_later ms now (HeadWas h q s.tail) (seen_map ms (λ m p. (p.0, p.1, (let high = p.2 in omega arith))) seen)
+    seen_later ms now (HeadWas None h q s.tail) (seen_map ms (λ m p. (p.0, p.1, p.2, (let high = p.3 in omega arith))) seen)
 
 pub saw_empty_stays : {A : Type 0} {r s : Chain A} (who h : ℕ) (ms : List (State A)) → ChainOk r → ChainOk s → Passes who r s → SawEmpty h r ms → SawEmpty h s (seen_by (queue_of s) ms)
 saw_empty_stays {r = r} {s = s} who h ms ok ok' pass (started, low, inl seen) =

@@ -4,7 +4,7 @@ use Rattle.law_common.specs.Vocabulary.{BLOCK_SLOTS}
 use Rattle.queue_steps.specs.State.{State}
 use Rattle.law_common.specs.Stand.{Stand}
 use Rattle.law_chain.specs.ChainCells.{Reading, Laying, Opening, Walker, Spare, Chain, Part, Write, Read, Tail, Head, Next, First, Passed, reader_of, mover_of, walker_of, HoldsOnly, Nothing}
-use Rattle.law_chain.specs.ChainAt.{Only, Either, At, push_tail, push_block, asking, installing, showing, claiming, laying, opening, chaining, writing, spending, pop_head, pop_block, pop_tail, taking, following, peeking, passing, entering, awaiting, reading, beginning, walking, destroying, len_tail, len_head, len_again, empty_head, empty_tail, closing, closed_tail}
+use Rattle.law_chain.specs.ChainAt.{Only, Either, At, push_tail, push_block, asking, installing, showing, claiming, laying, opening, chaining, writing, spending, pop_head, pop_block, pop_tail, taking, following, peeking, passing, entering, awaiting, reading, beginning, walking, destroying, count_tail, count_head, count_again, empty_head, empty_tail, closing, closed_tail}
 use Rattle.law_chain.specs.ChainPasses.{spare_in, Spares}
 
 -- what a party has in its hands: nothing, a spare of this name, or a passed block of this number
@@ -117,9 +117,9 @@ in_hand {c = c} {who = who} (reading x n name more holds got wrote inner) only =
 in_hand {c = c} {who = who} (beginning x n name more holds got wrote last) only = only_read c who n holds only
 in_hand {c = c} {who = who} (walking x b name slot holds is named) only = with_walk c who b holds only
 in_hand {c = c} {who = who} (destroying x b name slot holds is named) only = with_walk c who b holds only
-in_hand {c = c} {who = who} (len_tail none) only = with_nothing c who None none only
-in_hand {c = c} {who = who} (len_head w none small low) only = with_nothing c who None none only
-in_hand {c = c} {who = who} (len_again w h none small seen) only = with_nothing c who None none only
+in_hand {c = c} {who = who} (count_tail g count none) only = with_nothing c who None none only
+in_hand {c = c} {who = who} (count_head g w count none small low) only = with_nothing c who None none only
+in_hand {c = c} {who = who} (count_again g w h count none small seen) only = with_nothing c who None none only
 in_hand {c = c} {who = who} (empty_head none) only = with_nothing c who None none only
 in_hand {c = c} {who = who} (empty_tail h none small saw) only = with_nothing c who None none only
 in_hand {c = c} {who = who} (closing none) only = with_nothing c who None none only

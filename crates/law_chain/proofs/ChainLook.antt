@@ -6,7 +6,9 @@ use Rattle.queue_steps.specs.State.{State}
 use Rattle.queue_steps.specs.Words.{IsWord, position_of, is_shut, tail_of}
 use Rattle.queue_steps.specs.ChainWords.{items_before}
 use Rattle.queue_steps.specs.UnboundedNext.{unbounded_next}
-use Rattle.law_common.specs.Vocabulary.{Call, Reply, Effect, Answer}
+use Rattle.queue_steps.specs.Looks.{call_of_glance, glance_reply, IsCount}
+use Rattle.queue_steps.proofs.LookLaws.{glance_filled, glance_tells, glance_right}
+use Rattle.law_common.specs.Vocabulary.{Call, Reply, Effect, Answer, Glance}
 use Rattle.queue_steps.specs.declared.steps.unbounded.UnboundedLocal.TheVariants as chain
 use Rattle.law_common.proofs.Tails.{shut_tail}
 use Rattle.law_common.specs.Moments.{SeenIn, HeadWas, HasItems}
@@ -15,7 +17,7 @@ use Rattle.law_chain.specs.ChainCells.{Chain, queue_of, ChainOk, HoldsOnly, Noth
 use Rattle.law_chain.specs.ChainTransitions as moves
 use Rattle.law_chain.proofs.ChainTransitions.{mark_ok}
 use Rattle.law_chain.proofs.ChainPasses.{passes_marked}
-use Rattle.law_chain.specs.ChainAt.{len_tail, len_head, len_again, empty_tail}
+use Rattle.law_chain.specs.ChainAt.{count_tail, count_head, count_again, empty_tail}
 use Rattle.law_chain.specs.ChainAnswers.{tail_word, tail_place, head_word}
 use Rattle.law_chain.proofs.ChainAnswers.{tail_items, tail_small, head_items, head_small}
 use Rattle.law_chain.proofs.ChainStepOk.{NextOk, StepOk, still}
@@ -25,32 +27,34 @@ good_closed_tail c who ms ok none =
     still c who ms chain.ClosedTail None Call.IsClosed [] (Answer.Found (tail_word c)) refl ok tt
     (none, tt, (Reply.IsClosed (is_shut (tail_word c)), refl, refl, λ e. inl (inl (shut_tail (tail_place c.tail c.mover) c.closed))))
 
-pub good_len_tail : {A : Type 0} (c : Chain A) (who : ℕ) (ms : List (State A)) → ChainOk c → HoldsOnly c who Nothing → StepOk c c who ms chain.LenTail None Call.Len [] (Answer.Found (tail_word c))
-good_len_tail c who ms ok none =
-    still c who ms chain.LenTail None Call.Len [] (Answer.Found (tail_word c)) refl ok tt (len_head (tail_word c) none (tail_small c ok) (let e = tail_items c ok in omega arith))
+pub good_count_tail : {A : Type 0} (c : Chain A) (who : ℕ) (ms : List (State A)) (g : Glance) → ChainOk c → IsCount A g → HoldsOnly c who Nothing → StepOk c c who ms (chain.CountTail g) None (call_of_glance g) [] (Answer.Found (tail_word c))
+good_count_tail c who ms g ok count none =
+    still c who ms (chain.CountTail g) None (call_of_glance g) [] (Answer.Found (tail_word c)) refl ok tt (count_head g (tail_word c) count none (tail_small c ok) (let e = tail_items c ok in omega arith))
 
-pub good_len_head : {A : Type 0} (c : Chain A) (who : ℕ) (ms : List (State A)) (t : ℕ) → ChainOk c → HoldsOnly c who Nothing → IsWord t → items_before (position_of t) ≤ c.tail
-    → StepOk c c who ms (chain.LenHead t) None Call.Len [] (Answer.Found (head_word c))
-good_len_head c who ms t ok none small low =
-    still c who ms (chain.LenHead t) None Call.Len [] (Answer.Found (head_word c)) refl ok tt
-    (len_again t (head_word c) none (small, head_small c ok) (inl (let e = head_items c ok in let n = ok.count in omega arith, low, omega arith)))
+pub good_count_head : {A : Type 0} (c : Chain A) (who : ℕ) (ms : List (State A)) (g : Glance) (t : ℕ) → ChainOk c → IsCount A g → HoldsOnly c who Nothing → IsWord t → items_before (position_of t) ≤ c.tail
+    → StepOk c c who ms (chain.CountHead g t) None (call_of_glance g) [] (Answer.Found (head_word c))
+good_count_head c who ms g t ok count none small low =
+    still c who ms (chain.CountHead g t) None (call_of_glance g) [] (Answer.Found (head_word c)) refl ok tt
+    (count_again g t (head_word c) count none (small, head_small c ok) (inl (refl, let e = head_items c ok in let n = ok.count in omega arith, low, omega arith)))
 
-pub good_len_again : {A : Type 0} (c : Chain A) (who : ℕ) (ms : List (State A)) (t h : ℕ) → ChainOk c → HoldsOnly c who Nothing → IsWord t × IsWord h → SeenIn ms (HeadWas (items_before (position_of h)) (items_before (position_of t)) c.tail)
-    → StepOk c c who ms (chain.LenAgain t h) None Call.Len [] (Answer.Found (tail_word c))
-good_len_again {A} c who ms t h ok none small seen =
-    still c who ms (chain.LenAgain t h) None Call.Len [] (Answer.Found (tail_word c)) refl ok (small.0, small.1, λ e. below ms e seen) (go (eqb_tells (tail_word c) t))
+pub good_count_again : {A : Type 0} (c : Chain A) (who : ℕ) (ms : List (State A)) (g : Glance) (t h : ℕ) → ChainOk c → IsCount A g → HoldsOnly c who Nothing → IsWord t × IsWord h → SeenIn ms (HeadWas None (items_before (position_of h)) (items_before (position_of t)) c.tail)
+    → StepOk c c who ms (chain.CountAgain g t h) None (call_of_glance g) [] (Answer.Found (tail_word c))
+good_count_again {A} c who ms g t h ok count none small seen =
+    still c who ms (chain.CountAgain g t h) None (call_of_glance g) [] (Answer.Found (tail_word c)) refl ok (small.0, small.1, λ e. below ms e seen) (go (eqb_tells (tail_word c) t))
   where
     at : tail_word c ≡ t → items_before (position_of t) ≡ c.tail
     at e = ap (λ w. items_before (position_of w)) (sym e) ∙ tail_items c ok
 
-    below : (ms : List (State A)) → tail_word c ≡ t → SeenIn ms (HeadWas (items_before (position_of h)) (items_before (position_of t)) c.tail) → items_before (position_of h) ≤ items_before (position_of t)
+    below : (ms : List (State A)) → tail_word c ≡ t → SeenIn ms (HeadWas None (items_before (position_of h)) (items_before (position_of t)) c.tail) → items_before (position_of h) ≤ items_before (position_of t)
     below [] e s = absurd s
-    below (m ∷ ms) e (inl p) = let z = at e in let a = p.0 in let b = p.2 in omega arith
+    below (m ∷ ms) e (inl p) = let z = at e in let a = p.1 in let b = p.3 in omega arith
     below (m ∷ ms) e (inr s) = below ms e s
 
-    go : (((tail_word c == t) ≡ true) × (tail_word c ≡ t)) ⊎ (((tail_word c == t) ≡ false) × (tail_word c ≢ t)) → NextOk c who (queue_of c ∷ ms) (unbounded_next (chain.LenAgain t h) (Answer.Found (tail_word c))) None Call.Len []
-    go (inl e) = rw e.0 (none, tt, (Reply.Len (items_before (position_of t) - items_before (position_of h)), refl, refl, λ z. inr (seen_map ms (λ m p. inl (let y = at e.1 in let a = p.0 in let b = p.1 in let d = p.2 in omega arith)) seen)))
-    go (inr e) = rw e.0 (len_tail none)
+    go : (((tail_word c == t) ≡ true) × (tail_word c ≡ t)) ⊎ (((tail_word c == t) ≡ false) × (tail_word c ≢ t)) → NextOk c who (queue_of c ∷ ms) (unbounded_next (chain.CountAgain g t h) (Answer.Found (tail_word c))) None (call_of_glance g) []
+    go (inl e) =
+        let many = items_before (position_of t) - items_before (position_of h) in
+        rw e.0 (none, tt, (glance_reply None many g, glance_filled A None many g, glance_tells A None many g, λ z. inr (seen_map ms (λ m p. inl (glance_right m None many g p.0 (let y = at e.1 in let a = p.1 in let b = p.2 in let d = p.3 in omega arith))) seen)))
+    go (inr e) = rw e.0 (count_tail g count none)
 
 pub good_empty_head : {A : Type 0} (c : Chain A) (who : ℕ) (ms : List (State A)) → ChainOk c → HoldsOnly c who Nothing → StepOk c c who ms chain.EmptyHead None Call.IsEmpty [] (Answer.Found (head_word c))
 good_empty_head {A} c who ms ok none =

@@ -53,9 +53,9 @@ rank c (Local.Unbounded (chain.Awaiting head block)) = BLOCK_SLOTS + 1
 rank c (Local.Unbounded (chain.Reading block slot)) = walk_rank slot
 rank c (Local.Unbounded (chain.Walking block slot)) = walk_rank slot
 rank c (Local.Unbounded (chain.Destroying block slot)) = walk_rank slot
-rank c (Local.Unbounded chain.LenTail) = 3
-rank c (Local.Unbounded (chain.LenHead tail)) = 2 + lag (tail_word c) tail 3
-rank c (Local.Unbounded (chain.LenAgain tail head)) = 1 + lag (tail_word c) tail 3
+rank c (Local.Unbounded (chain.CountTail g)) = 3
+rank c (Local.Unbounded (chain.CountHead g tail)) = 2 + lag (tail_word c) tail 3
+rank c (Local.Unbounded (chain.CountAgain g tail head)) = 1 + lag (tail_word c) tail 3
 rank c (Local.Unbounded chain.EmptyHead) = 2
 rank c _ = 1
 
@@ -84,8 +84,8 @@ rank_small c (Local.Unbounded (chain.Claiming d tail block spare)) = let x = lag
 rank_small c (Local.Unbounded (chain.PopBlock head)) = let x = lag_small (head_word c) head 3 in omega arith
 rank_small c (Local.Unbounded (chain.PopTail head block)) = tail_small c head block
 rank_small c (Local.Unbounded (chain.Taking head block)) = let x = lag_small (head_word c) head 3 in omega arith
-rank_small c (Local.Unbounded (chain.LenHead tail)) = let x = lag_small (tail_word c) tail 3 in omega arith
-rank_small c (Local.Unbounded (chain.LenAgain tail head)) = let x = lag_small (tail_word c) tail 3 in omega arith
+rank_small c (Local.Unbounded (chain.CountHead g tail)) = let x = lag_small (tail_word c) tail 3 in omega arith
+rank_small c (Local.Unbounded (chain.CountAgain g tail head)) = let x = lag_small (tail_word c) tail 3 in omega arith
 rank_small c l = omega arith
 
 asking_some : {A : Type 0} (c : Chain A) (tail : ℕ) (block : Option ℕ) → 0 < asking_rank c tail block

@@ -1,5 +1,5 @@
 -- Each step of a call on a chain leaves fewer steps before it while no other party holds a part of the chain, and each step of a wait-free call always.
-use Rattle.std.proofs.Common.{true, ℕ, ◌+◌, ◌/◌, ◌%◌, ◌<◌, ◌≤◌, ◌≡◌, ◌==◌, not, ◌∙◌, inl, inr, List, refl, sym, ap, subst, arith, bit_and}
+use Rattle.std.proofs.Common.{true, ℕ, ◌+◌, ◌/◌, ◌%◌, ◌<◌, ◌≤◌, ◌≡◌, ◌==◌, not, ◌∙◌, inl, inr, List, refl, sym, ap, subst, arith, bit_and, false}
 use Rattle.law_common.specs.Vocabulary.{Answer, BLOCK_SLOTS, READ, DESTROY}
 use Rattle.queue_steps.specs.WaitFree.{is_wait_free}
 use Rattle.queue_steps.specs.State.{State}
@@ -10,14 +10,14 @@ use Rattle.law_common.specs.Stand.{Stand}
 use Rattle.law_chain.specs.ChainCells.{Reading, Unread, Chain, ChainOk, item_at, LAST, Write, Read, Head, Next, First, Passed, Nothing}
 use Rattle.law_chain.proofs.ChainReads.{own_item}
 use Rattle.law_chain.specs.ChainFacts.{head_of, open_tail_of}
-use Rattle.law_chain.specs.ChainAt.{Only, Either, At, push_tail, push_block, asking, installing, showing, claiming, laying, opening, chaining, writing, spending, pop_head, pop_block, pop_tail, taking, following, peeking, passing, entering, awaiting, reading, beginning, walking, destroying, len_tail, len_head, len_again, empty_head, empty_tail, closing, closed_tail}
+use Rattle.law_chain.specs.ChainAt.{Only, Either, At, push_tail, push_block, asking, installing, showing, claiming, laying, opening, chaining, writing, spending, pop_head, pop_block, pop_tail, taking, following, peeking, passing, entering, awaiting, reading, beginning, walking, destroying, count_tail, count_head, count_again, empty_head, empty_tail, closing, closed_tail}
 use Rattle.law_chain.specs.ChainAnswers.{Answers, IsState, tail_word, is_wrote}
 use Rattle.law_chain.proofs.ChainAnswers.{head_offset}
 use Rattle.law_chain.specs.ChainAfter.{if_read, if_walked, if_begun, if_destroyed, chain_of, after_of}
 use Rattle.law_chain.proofs.ChainRanks.{rank, Falls, lag_none, IsQuiet, unowned}
 use Rattle.law_chain.proofs.ChainRanksPush.{rests, push_tail_falls, push_block_falls, granted_falls, installing_falls, showing_falls, claiming_falls}
 use Rattle.law_chain.proofs.ChainRanksPop.{stands, head_falls, pop_block_falls, pop_tail_falls, taking_falls, following_falls, wrote_then, awaiting_falls}
-use Rattle.law_chain.proofs.ChainRanksWalk.{maybe_on_falls, walking_falls, done_then, last_claimed, len_again_falls}
+use Rattle.law_chain.proofs.ChainRanksWalk.{maybe_on_falls, walking_falls, done_then, last_claimed, count_again_falls}
 
 -- each step of a call that is alone leaves fewer steps before it
 pub step_falls : {A : Type 0} {c : Chain A} {who : ℕ} {ms : List (State A)} {k : Stand A} (at : At c who ms k) (a : Answer ℕ)
@@ -69,9 +69,9 @@ step_falls {c = c} {who = who} (walking x b name slot holds is named) a ok found
     rw (h.1) (walking_falls (if_walked c who b slot) name slot h.0 (h.2.read ∙ ap not done))
 step_falls {c = c} {who = who} (destroying x b name slot holds is named) a ok found quiet =
     let h = found b named in rw (h.1) (maybe_on_falls (if_destroyed c who b slot) (not (bit_and h.0 READ == 0)) name slot)
-step_falls {c = c} (len_tail none) a ok found quiet = rw found (lag_none (tail_word c) 2 3 3 (omega arith))
-step_falls (len_head w none small low) a ok found quiet = rw found (omega arith)
-step_falls {c = c} (len_again w h none small seen) a ok found quiet = rw found (len_again_falls c w h)
+step_falls {c = c} (count_tail g count none) a ok found quiet = rw found (lag_none (tail_word c) 2 3 3 (omega arith))
+step_falls (count_head g w count none small low) a ok found quiet = rw found (omega arith)
+step_falls {c = c} (count_again g w h count none small seen) a ok found quiet = rw found (count_again_falls c g w h)
 step_falls (empty_head none) a ok found quiet = rw found (omega arith)
 step_falls (empty_tail h none small saw) a ok found quiet = rw found tt
 step_falls (closing none) a ok found quiet = rw found tt
@@ -95,6 +95,9 @@ wait_free_falls (empty_head none) a found wait_free = rw found (omega arith)
 wait_free_falls (empty_tail h none small saw) a found wait_free = rw found tt
 wait_free_falls (closing none) a found wait_free = rw found tt
 wait_free_falls (closed_tail none) a found wait_free = rw found tt
+wait_free_falls (count_tail g count none) a found wait_free = absurd (let f : true ≡ false = sym wait_free ∙ count in cc)
+wait_free_falls (count_head g w count none small low) a found wait_free = absurd (let f : true ≡ false = sym wait_free ∙ count in cc)
+wait_free_falls (count_again g w h count none small seen) a found wait_free = absurd (let f : true ≡ false = sym wait_free ∙ count in cc)
 wait_free_falls at a found wait_free = cc
 
 -- a wait-free call has two steps before it at most, whatever the chain
@@ -115,4 +118,7 @@ wait_free_small s (empty_head none) wait_free = (omega arith, refl)
 wait_free_small s (empty_tail h none small saw) wait_free = (omega arith, refl)
 wait_free_small s (closing none) wait_free = (omega arith, refl)
 wait_free_small s (closed_tail none) wait_free = (omega arith, refl)
+wait_free_small s (count_tail g count none) wait_free = absurd (let f : true ≡ false = sym wait_free ∙ count in cc)
+wait_free_small s (count_head g w count none small low) wait_free = absurd (let f : true ≡ false = sym wait_free ∙ count in cc)
+wait_free_small s (count_again g w h count none small seen) wait_free = absurd (let f : true ≡ false = sym wait_free ∙ count in cc)
 wait_free_small s x wait_free = cc

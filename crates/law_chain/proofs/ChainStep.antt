@@ -6,7 +6,7 @@ use Rattle.queue_steps.specs.ChainWords.{offset_of}
 use Rattle.law_common.specs.Stand.{Stand}
 use Rattle.law_chain.specs.ChainCells.{Chain, ChainOk}
 use Rattle.law_chain.specs.ChainFacts.{head_of}
-use Rattle.law_chain.specs.ChainAt.{At, push_tail, push_block, asking, installing, showing, claiming, laying, opening, chaining, writing, spending, pop_head, pop_block, pop_tail, taking, following, peeking, passing, entering, awaiting, reading, beginning, walking, destroying, len_tail, len_head, len_again, empty_head, empty_tail, closing, closed_tail}
+use Rattle.law_chain.specs.ChainAt.{At, push_tail, push_block, asking, installing, showing, claiming, laying, opening, chaining, writing, spending, pop_head, pop_block, pop_tail, taking, following, peeking, passing, entering, awaiting, reading, beginning, walking, destroying, count_tail, count_head, count_again, empty_head, empty_tail, closing, closed_tail}
 use Rattle.law_chain.specs.ChainAnswers.{Answers, IsState}
 use Rattle.law_chain.proofs.ChainAnswers.{head_offset}
 use Rattle.law_chain.specs.ChainAfter.{chain_of, carried_of, after_of}
@@ -19,7 +19,7 @@ use Rattle.law_chain.proofs.ChainPeek.{good_peeking}
 use Rattle.law_chain.proofs.ChainRead.{good_awaiting, good_reading}
 use Rattle.law_chain.proofs.ChainBegin.{good_beginning}
 use Rattle.law_chain.proofs.ChainWalk.{good_walking, good_destroying}
-use Rattle.law_chain.proofs.ChainLook.{good_closed_tail, good_len_tail, good_len_head, good_len_again, good_empty_head, good_closing}
+use Rattle.law_chain.proofs.ChainLook.{good_closed_tail, good_count_tail, good_count_head, good_count_again, good_empty_head, good_closing}
 use Rattle.law_chain.proofs.ChainIsEmpty.{good_empty_tail}
 
 -- a call that stands on a chain is at a local state of a chain
@@ -61,9 +61,9 @@ step_good {c = c} {who = who} {ms = ms} (beginning x n name more holds got wrote
     let h = found (n / BLOCK_SLOTS) got.named in rw (h.1) (good_beginning c who ms x n name h.0 ok holds got wrote last h.2)
 step_good {c = c} {who = who} {ms = ms} (walking x b name slot holds is named) a ok found = let h = found b named in rw (h.1) (good_walking c who ms x b name slot h.0 ok holds is named h.2)
 step_good {c = c} {who = who} {ms = ms} (destroying x b name slot holds is named) a ok found = let h = found b named in rw (h.1) (good_destroying c who ms x b name slot h.0 ok holds is named h.2)
-step_good {c = c} {who = who} {ms = ms} (len_tail none) a ok found = rw found (good_len_tail c who ms ok none)
-step_good {c = c} {who = who} {ms = ms} (len_head w none small low) a ok found = rw found (good_len_head c who ms w ok none small low)
-step_good {c = c} {who = who} {ms = ms} (len_again w h none small seen) a ok found = rw found (good_len_again c who ms w h ok none small seen)
+step_good {c = c} {who = who} {ms = ms} (count_tail g count none) a ok found = rw found (good_count_tail c who ms g ok count none)
+step_good {c = c} {who = who} {ms = ms} (count_head g w count none small low) a ok found = rw found (good_count_head c who ms g w ok count none small low)
+step_good {c = c} {who = who} {ms = ms} (count_again g w h count none small seen) a ok found = rw found (good_count_again c who ms g w h ok count none small seen)
 step_good {c = c} {who = who} {ms = ms} (empty_head none) a ok found = rw found (good_empty_head c who ms ok none)
 step_good {c = c} {who = who} {ms = ms} (empty_tail h none small saw) a ok found = rw found (good_empty_tail c who ms h ok none small saw)
 step_good {c = c} {who = who} {ms = ms} (closing none) a ok found = rw found (good_closing c who ms ok none)

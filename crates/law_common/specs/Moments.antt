@@ -1,5 +1,5 @@
 -- The moments of a call, which are the states of the queue since its first step, and what was so at one of them.
-use Rattle.std.proofs.Common.{ℕ, ◌+◌, ◌<◌, ◌≤◌, ◌≡◌, ◌⊎◌, List, [], ◌∷◌, length}
+use Rattle.std.proofs.Common.{ℕ, ◌+◌, ◌<◌, ◌≤◌, ◌≡◌, ◌⊎◌, List, [], ◌∷◌, length, Option}
 use Rattle.queue_steps.specs.State.{State}
 
 -- some moment was so
@@ -16,9 +16,9 @@ abbrev pub IsStarted : {A : Type 0} → List (State A) → Type 0
 IsStarted [] = ⊥
 IsStarted (m ∷ ms) = Unit {0}
 
--- a moment at which h items had left, and at least q and at most so many as now were accepted
-abbrev pub HeadWas : {A : Type 0} → ℕ → ℕ → ℕ → State A → Type 0
-HeadWas h q tail m = (m.accepted ≡ h + length m.items) × (q ≤ m.accepted) × (m.accepted ≤ tail)
+-- a moment of a queue of this capacity at which h items had left, and at least q and at most so many as now were accepted
+abbrev pub HeadWas : {A : Type 0} → Option ℕ → ℕ → ℕ → ℕ → State A → Type 0
+HeadWas cap h q tail m = (m.cap ≡ cap) × (m.accepted ≡ h + length m.items) × (q ≤ m.accepted) × (m.accepted ≤ tail)
 
 abbrev pub HasItems : {A : Type 0} → State A → Type 0
 HasItems m = 0 < length m.items

@@ -7,7 +7,7 @@ use Rattle.law_common.specs.Stand.{Stand}
 use Rattle.law_ring.specs.RingCells.{Cell, Written, Read, Coming, Swapped, Ring, queue_of, RingOk, owner, HoldsNone, HoldsOne}
 use Rattle.law_ring.specs.RingPasses.{Passes}
 use Rattle.law_ring.proofs.RingPasses.{none_stays, one_stays, free_stays, full_stays, tail_was_stays, head_was_stays, saw_empty_stays, saw_full_stays, tail_grows, head_grows}
-use Rattle.law_ring.specs.RingAt.{SawTail, At, push_tail, push_stamp, claiming, filling, push_head, displacing, arriving, swapping, spending, pop_head, pop_stamp, taking, emptying, pop_tail, len_tail, len_head, len_again, empty_head, empty_tail, full_tail, full_head, closing, closed_tail}
+use Rattle.law_ring.specs.RingAt.{SawTail, At, push_tail, push_stamp, claiming, filling, push_head, displacing, arriving, swapping, spending, pop_head, pop_stamp, taking, emptying, pop_tail, count_tail, count_head, count_again, empty_head, empty_tail, full_tail, full_head, closing, closed_tail}
 
 module _ {A : Type 0} {cap : ℕ} {r s : Ring A} {who other : ℕ} (ok : RingOk cap r) (ok' : RingOk cap s) (ne : other ≢ who) (pass : Passes who r s) where
   without : HoldsNone r.cells other → HoldsNone s.cells other
@@ -42,9 +42,9 @@ module _ {A : Type 0} {cap : ℕ} {r s : Ring A} {who other : ℕ} (ok : RingOk 
     at_stays (taking h none low full) = taking h (without none) (let g = head_grows who pass in omega arith) (full_stays cap who h pass full)
     at_stays (emptying x h one) = emptying x h (with_one (h % cap) (Read h other x) refl one)
     at_stays (pop_tail h none low free) = pop_tail h (without none) (let g = head_grows who pass in omega arith) (free_stays cap who h pass free)
-    at_stays (len_tail none) = len_tail (without none)
-    at_stays (len_head t none low) = len_head t (without none) (let g = tail_grows who pass in omega arith)
-    at_stays (len_again t h none seen) = len_again t h (without none) (head_was_stays who h (position_of t) ms (queue_of cap s) pass seen)
+    at_stays (count_tail g count none) = count_tail g count (without none)
+    at_stays (count_head g t count none low) = count_head g t count (without none) (let g = tail_grows who pass in omega arith)
+    at_stays (count_again g t h count none seen) = count_again g t h count (without none) (head_was_stays (Some cap) who h (position_of t) ms (queue_of cap s) pass seen)
     at_stays (empty_head none) = empty_head (without none)
     at_stays (empty_tail h none saw) = empty_tail h (without none) (saw_empty_stays cap who h ms ok ok' pass saw)
     at_stays (full_tail none) = full_tail (without none)

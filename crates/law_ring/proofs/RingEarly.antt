@@ -1,14 +1,15 @@
 -- A call on a ring that has had no effect yet has no slot, and still carries its own value: so its party may give it up.
-use Rattle.std.proofs.Common.{ℕ, ◌≡◌, Bool, Some, List, [], refl}
+use Rattle.std.proofs.Common.{ℕ, ◌≡◌, Bool, Some, List, [], refl, sym}
 use Rattle.queue_steps.specs.State.{State}
 use Rattle.queue_steps.specs.Kinds.{call_value}
+use Rattle.queue_steps.proofs.LookLaws.{glance_value}
 use Rattle.law_common.specs.Vocabulary.{PushKind}
 use Rattle.law_common.specs.Pushes.{pushes}
 use Rattle.law_common.specs.Stand.{Stand}
 use Rattle.law_ring.specs.RingCells.{Ring, HoldsNone}
 use Rattle.law_ring.specs.RingEarly.{IsEarly}
 use Rattle.law_ring.proofs.RingStart.{holds_none}
-use Rattle.law_ring.specs.RingAt.{At, push_tail, push_stamp, claiming, filling, arriving, swapping, spending, emptying}
+use Rattle.law_ring.specs.RingAt.{At, push_tail, push_stamp, claiming, filling, arriving, swapping, spending, emptying, count_tail, count_head, count_again}
 
 pushed : {A : Type 0} (d : PushKind) (v : A) → Some v ≡ call_value (pushes d v)
 pushed PushKind.Push v = refl
@@ -24,4 +25,7 @@ early is (filling d v q one) = cc
 early is (arriving old v t h below back one) = cc
 early is (swapping old v h one) = cc
 early is (emptying x h one) = cc
+early {A} is (count_tail g count none) = (refl, none, sym (glance_value A g))
+early {A} is (count_head g t count none low) = (refl, none, sym (glance_value A g))
+early {A} is (count_again g t h count none seen) = (refl, none, sym (glance_value A g))
 early is x = (refl, holds_none x refl, refl)

@@ -7,15 +7,16 @@ use Rattle.queue_steps.specs.Replies.{is_empty}
 use Rattle.queue_steps.specs.Words.{position_of, is_shut, tail_of}
 use Rattle.queue_steps.specs.BoundedNext.{loads, ends, bounded_begin}
 use Rattle.queue_steps.specs.Kinds.{call_kind}
-use Rattle.queue_steps.specs.Looks.{IsLook}
-use Rattle.law_common.specs.Vocabulary.{Call, Reply, Effect, Word, Op, Local, MARK}
+use Rattle.queue_steps.specs.Looks.{IsLook, call_of_glance, glance_reply, IsCount}
+use Rattle.queue_steps.proofs.LookLaws.{glance_filled, glance_tells, glance_right}
+use Rattle.law_common.specs.Vocabulary.{Call, Reply, Effect, Word, Op, Glance, Local, MARK}
 use Rattle.queue_steps.specs.declared.steps.bounded.BoundedLocal.TheVariants as ring
 use Rattle.law_common.proofs.Tails.{position_tail, shut_tail}
 use Rattle.law_common.specs.Moments.{HasItems, HeadWas, SeenIn}
 use Rattle.law_common.proofs.Moments.{seen_map}
 use Rattle.law_ring.specs.RingShared.{Shared}
 use Rattle.law_ring.specs.RingCells.{Ring, queue_of, RingOk, HoldsNone}
-use Rattle.law_ring.specs.RingAt.{HasRoom, SawEmpty, SawFull, Begun, len_tail, len_head, len_again, empty_head, empty_tail, full_tail, full_head, closed_tail}
+use Rattle.law_ring.specs.RingAt.{HasRoom, SawEmpty, SawFull, Begun, count_tail, count_head, count_again, empty_head, empty_tail, full_tail, full_head, closed_tail}
 use Rattle.law_ring.specs.RingWords.{Codes}
 use Rattle.law_ring.proofs.RingWords.{head_small}
 use Rattle.law_ring.proofs.RingRanks.{pick}
@@ -39,31 +40,31 @@ look_first cap r who Call.Close is none = absurd is
 look_first cap r who Call.IsClosed is none = closed_tail none
 look_first cap r who Call.IsEmpty is none = empty_head none
 look_first cap r who Call.IsFull is none = full_tail none
-look_first cap r who Call.Len is none = len_tail none
 look_first cap r who Call.Capacity is none = tt
+look_first cap r who glance is none = count_tail _ refl none
 
 module _ {A : Type 0} {cap : ℕ} {r : Ring A} {who : ℕ} {s : Shared A} {ms : List (State A)} {was : Bool} (ok : RingOk cap r) (codes : Codes cap r s) where
-  pub good_len_tail : HoldsNone r.cells who
-      → StepOk cap r who s ms was (empty_handed (Local.Bounded ring.LenTail) (Op.Load Word.Tail) Call.Len)
-  good_len_tail none =
+  pub good_count_tail : (g : Glance) → IsCount A g → HoldsNone r.cells who
+      → StepOk cap r who s ms was (empty_handed (Local.Bounded (ring.CountTail g)) (Op.Load Word.Tail) (call_of_glance g))
+  good_count_tail g count none =
       still ok codes tt refl (ok.ring, tt) refl (
-        len_head s.tail none (let a = ap position_of codes.tail ∙ position_tail r.tail r.closed in omega arith),
+        count_head g s.tail count none (let a = ap position_of codes.tail ∙ position_tail r.tail r.closed in omega arith),
         λ calm. rw (pick s.tail (tail_of r.tail r.closed) 2 5 codes.tail) (omega arith),
       )
 
-  pub good_len_head : (t : ℕ)
+  pub good_count_head : (g : Glance) (t : ℕ) → IsCount A g
       → HoldsNone r.cells who → position_of t ≤ r.tail
-      → StepOk cap r who s ms was (empty_handed (Local.Bounded (ring.LenHead t)) (Op.Load Word.Head) Call.Len)
-  good_len_head t none low =
+      → StepOk cap r who s ms was (empty_handed (Local.Bounded (ring.CountHead g t)) (Op.Load Word.Head) (call_of_glance g))
+  good_count_head g t count none low =
       still ok codes tt refl (ok.ring, tt) refl (
-        len_again t s.head none (inl ((let a = codes.head in let b = ok.count in omega arith), low, omega arith)),
+        count_again g t s.head count none (inl (refl, (let a = codes.head in let b = ok.count in omega arith), low, omega arith)),
         λ calm. elim (t == tail_of r.tail r.closed) as (λ b. (if b then 1 else 4) < (if b then 2 else 5)) [ true ↦ omega arith | false ↦ omega arith ],
       )
 
-  pub good_len_again : (t h : ℕ)
-      → HoldsNone r.cells who → SeenIn ms (HeadWas h (position_of t) r.tail)
-      → StepOk cap r who s ms was (empty_handed (Local.Bounded (ring.LenAgain t h)) (Op.Load Word.Tail) Call.Len)
-  good_len_again t h none seen =
+  pub good_count_again : (g : Glance) (t h : ℕ) → IsCount A g
+      → HoldsNone r.cells who → SeenIn ms (HeadWas (Some cap) h (position_of t) r.tail)
+      → StepOk cap r who s ms was (empty_handed (Local.Bounded (ring.CountAgain g t h)) (Op.Load Word.Tail) (call_of_glance g))
+  good_count_again g t h count none seen =
       still ok codes tt refl
       (ok.ring, λ e. low_of (at_tail e) ms seen) refl
       (go (eqb_tells s.tail t))
@@ -71,19 +72,20 @@ module _ {A : Type 0} {cap : ℕ} {r : Ring A} {who : ℕ} {s : Shared A} {ms : 
       at_tail : s.tail ≡ t → position_of t ≡ r.tail
       at_tail e = ap position_of (sym e ∙ codes.tail) ∙ position_tail r.tail r.closed
 
-      low_of : position_of t ≡ r.tail → (ns : List (State A)) → SeenIn ns (HeadWas h (position_of t) r.tail) → h ≤ position_of t
+      low_of : position_of t ≡ r.tail → (ns : List (State A)) → SeenIn ns (HeadWas (Some cap) h (position_of t) r.tail) → h ≤ position_of t
       low_of e [] seen = absurd seen
-      low_of e (m ∷ ns) (inl was) = let a = was.0 in let c = was.2 in omega arith
+      low_of e (m ∷ ns) (inl was) = let a = was.1 in let c = was.3 in omega arith
       low_of e (m ∷ ns) (inr seen) = low_of e ns seen
 
       go : (((s.tail == t) ≡ true) × (s.tail ≡ t)) ⊎ (((s.tail == t) ≡ false) × (s.tail ≢ t))
-          → Stays cap r who ms was (if s.tail == t then ends (Reply.Len (position_of t - h)) else loads ring.LenTail Word.Tail) None Call.Len [] (if t == tail_of r.tail r.closed then 1 else 4)
+          → Stays cap r who ms was (if s.tail == t then ends (glance_reply (Some cap) (position_of t - h) g) else loads (ring.CountTail g) Word.Tail) None (call_of_glance g) [] (if t == tail_of r.tail r.closed then 1 else 4)
       go (inl e) =
           let at = at_tail e.1 in
-          rw e.0 (none, refl, (Reply.Len (position_of t - h), refl, refl, λ _. inr (seen_map ms (λ m was. let a = was.0 in let b = was.1 in let c = was.2 in omega arith) seen)))
+          let many = position_of t - h in
+          rw e.0 (none, refl, (glance_reply (Some cap) many g, glance_filled A (Some cap) many g, glance_tells A (Some cap) many g, λ _. inr (seen_map ms (λ m was. glance_right m (Some cap) many g was.0 (let a = was.1 in let b = was.2 in let c = was.3 in omega arith)) seen)))
       go (inr e) =
           let other : (t == tail_of r.tail r.closed) ≡ false = ne_eqb t (tail_of r.tail r.closed) (λ same. e.1 (codes.tail ∙ sym same)) in
-          rw (e.0, other) (len_tail none, λ calm. omega arith)
+          rw (e.0, other) (count_tail g count none, λ calm. omega arith)
 
   pub good_empty_head : HoldsNone r.cells who
       → StepOk cap r who s ms was (empty_handed (Local.Bounded ring.EmptyHead) (Op.Load Word.Head) Call.IsEmpty)

@@ -1,5 +1,5 @@
 -- Each step leaves of a ring for the others what `Passes` says, and so what a call knows of it.
-use Rattle.std.proofs.Common.{ℕ, ◌+◌, ◌%◌, ◌<◌, ◌≤◌, ◌≡◌, ◌≢◌, ◌∙◌, ◌⊎◌, inl, inr, Some, None, List, length, refl, sym, ap, arith}
+use Rattle.std.proofs.Common.{ℕ, ◌+◌, ◌%◌, ◌<◌, ◌≤◌, ◌≡◌, ◌≢◌, ◌∙◌, ◌⊎◌, inl, inr, Some, None, List, length, refl, sym, ap, arith, Option}
 use Rattle.queue_steps.specs.State.{State}
 use Rattle.law_common.specs.Puts.{put}
 use Rattle.law_common.proofs.Puts.{put_ok}
@@ -120,10 +120,10 @@ tail_was_stays {A} {r = r} {s = s} cap who q ms t pass seen =
     let g = head_grows who pass in
     seen_later ms t (TailWas cap q s.head) (seen_map ms (λ m p. (p.0, p.1, p.2, (let low = p.3 in omega arith), p.4)) seen)
 
-pub head_was_stays : {A : Type 0} {r s : Ring A} (who h q : ℕ) (ms : List (State A)) (t : State A) → Passes who r s → SeenIn ms (HeadWas h q r.tail) → SeenIn (seen_by t ms) (HeadWas h q s.tail)
-head_was_stays {r = r} {s = s} who h q ms t pass seen =
+pub head_was_stays : {A : Type 0} {r s : Ring A} (cap : Option ℕ) (who h q : ℕ) (ms : List (State A)) (t : State A) → Passes who r s → SeenIn ms (HeadWas cap h q r.tail) → SeenIn (seen_by t ms) (HeadWas cap h q s.tail)
+head_was_stays {r = r} {s = s} cap who h q ms t pass seen =
     let g = tail_grows who pass in
-    seen_later ms t (HeadWas h q s.tail) (seen_map ms (λ m p. (p.0, p.1, (let high = p.2 in omega arith))) seen)
+    seen_later ms t (HeadWas cap h q s.tail) (seen_map ms (λ m p. (p.0, p.1, p.2, (let high = p.3 in omega arith))) seen)
 
 pub saw_empty_stays : {A : Type 0} {r s : Ring A} (cap who h : ℕ) (ms : List (State A)) → RingOk cap r → RingOk cap s → Passes who r s → SawEmpty h r ms → SawEmpty h s (seen_by (queue_of cap s) ms)
 saw_empty_stays {r = r} {s = s} cap who h ms ok ok' pass (started, low, inl seen) =

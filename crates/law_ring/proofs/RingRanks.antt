@@ -10,7 +10,7 @@ use Rattle.law_common.proofs.Ranks.{either_small, either_some}
 use Rattle.law_common.proofs.Pushes.{never_push}
 use Rattle.law_common.specs.Stand.{Stand}
 use Rattle.law_ring.specs.RingCells.{Ring}
-use Rattle.law_ring.specs.RingAt.{At, push_stamp, claiming, push_head, displacing, pop_stamp, taking, pop_tail, len_head, len_again}
+use Rattle.law_ring.specs.RingAt.{At, push_stamp, claiming, push_head, displacing, pop_stamp, taking, pop_tail, count_head, count_again}
 
 -- how many steps a call takes from here at most: what it read may be stale, and is not once it has read again
 abbrev pub rank : {A : Type 0} → ℕ → Ring A → Local ℕ → ℕ
@@ -24,9 +24,9 @@ rank cap r (Local.Bounded ring.PopHead) = 4
 rank cap r (Local.Bounded (ring.PopStamp h)) = if h == r.head then 3 else 6
 rank cap r (Local.Bounded (ring.Taking h)) = if h == r.head then 2 else 4
 rank cap r (Local.Bounded (ring.PopTail h)) = if r.tail == h then 1 else 5
-rank cap r (Local.Bounded ring.LenTail) = 3
-rank cap r (Local.Bounded (ring.LenHead t)) = if t == tail_of r.tail r.closed then 2 else 5
-rank cap r (Local.Bounded (ring.LenAgain t h)) = if t == tail_of r.tail r.closed then 1 else 4
+rank cap r (Local.Bounded (ring.CountTail g)) = 3
+rank cap r (Local.Bounded (ring.CountHead g t)) = if t == tail_of r.tail r.closed then 2 else 5
+rank cap r (Local.Bounded (ring.CountAgain g t h)) = if t == tail_of r.tail r.closed then 1 else 4
 rank cap r (Local.Bounded ring.EmptyHead) = 2
 rank cap r (Local.Bounded ring.FullTail) = 2
 rank cap r _ = 1
@@ -47,8 +47,8 @@ rank_small cap r (Local.Bounded (ring.Displacing t)) = either_small (r.head + ca
 rank_small cap r (Local.Bounded (ring.PopStamp h)) = either_small (h == r.head) 3 6 longest (omega arith) (omega arith)
 rank_small cap r (Local.Bounded (ring.Taking h)) = either_small (h == r.head) 2 4 longest (omega arith) (omega arith)
 rank_small cap r (Local.Bounded (ring.PopTail h)) = either_small (r.tail == h) 1 5 longest (omega arith) (omega arith)
-rank_small cap r (Local.Bounded (ring.LenHead t)) = either_small (t == tail_of r.tail r.closed) 2 5 longest (omega arith) (omega arith)
-rank_small cap r (Local.Bounded (ring.LenAgain t h)) = either_small (t == tail_of r.tail r.closed) 1 4 longest (omega arith) (omega arith)
+rank_small cap r (Local.Bounded (ring.CountHead g t)) = either_small (t == tail_of r.tail r.closed) 2 5 longest (omega arith) (omega arith)
+rank_small cap r (Local.Bounded (ring.CountAgain g t h)) = either_small (t == tail_of r.tail r.closed) 1 4 longest (omega arith) (omega arith)
 rank_small cap r l = omega arith
 
 pub rank_some : {A : Type 0} (cap : ℕ) (r : Ring A) (l : Local ℕ) → 0 < rank cap r l
@@ -59,8 +59,8 @@ rank_some cap r (Local.Bounded (ring.Displacing t)) = either_some (r.head + cap 
 rank_some cap r (Local.Bounded (ring.PopStamp h)) = either_some (h == r.head) 3 6 (omega arith) (omega arith)
 rank_some cap r (Local.Bounded (ring.Taking h)) = either_some (h == r.head) 2 4 (omega arith) (omega arith)
 rank_some cap r (Local.Bounded (ring.PopTail h)) = either_some (r.tail == h) 1 5 (omega arith) (omega arith)
-rank_some cap r (Local.Bounded (ring.LenHead t)) = either_some (t == tail_of r.tail r.closed) 2 5 (omega arith) (omega arith)
-rank_some cap r (Local.Bounded (ring.LenAgain t h)) = either_some (t == tail_of r.tail r.closed) 1 4 (omega arith) (omega arith)
+rank_some cap r (Local.Bounded (ring.CountHead g t)) = either_some (t == tail_of r.tail r.closed) 2 5 (omega arith) (omega arith)
+rank_some cap r (Local.Bounded (ring.CountAgain g t h)) = either_some (t == tail_of r.tail r.closed) 1 4 (omega arith) (omega arith)
 rank_some cap r l = omega arith
 
 -- how many steps a wait-free call has before it does not hang on the ring
@@ -73,6 +73,6 @@ wait_free_rank s (displacing v t h none saw back full) e = cc
 wait_free_rank s (pop_stamp h none low) e = cc
 wait_free_rank s (taking h none low full) e = cc
 wait_free_rank s (pop_tail h none low free) e = cc
-wait_free_rank s (len_head t none low) e = cc
-wait_free_rank s (len_again t h none seen) e = cc
+wait_free_rank s (count_head g t count none low) e = cc
+wait_free_rank s (count_again g t h count none seen) e = cc
 wait_free_rank s x e = refl

@@ -13,7 +13,7 @@ use Rattle.law_ring.proofs.RingCells.{wraps}
 use Rattle.law_ring.proofs.RingLook.{look_first}
 use Rattle.law_ring.proofs.RingTransitions.{in_ring}
 use Rattle.law_common.specs.Effects.{IsBetween, Touches}
-use Rattle.law_ring.specs.RingAt.{At, push_tail, push_stamp, claiming, filling, push_head, displacing, arriving, swapping, spending, pop_head, pop_stamp, taking, emptying, pop_tail, len_tail, len_head, len_again, empty_head, empty_tail, full_tail, full_head, closing, closed_tail, Begun}
+use Rattle.law_ring.specs.RingAt.{At, push_tail, push_stamp, claiming, filling, push_head, displacing, arriving, swapping, spending, pop_head, pop_stamp, taking, emptying, pop_tail, count_tail, count_head, count_again, empty_head, empty_tail, full_tail, full_head, closing, closed_tail, Begun}
 
 pub at_first : {A : Type 0} (cap : ℕ) (r : Ring A) (who : ℕ) (c : Call A) → HoldsNone r.cells who → Begun cap r who c (bounded_begin cap (call_kind c))
 at_first cap r who (Call.Push v) none = push_tail PushKind.Push v none
@@ -34,9 +34,9 @@ holds_none (pop_head none) e = none
 holds_none (pop_stamp h none low) e = none
 holds_none (taking h none low full) e = none
 holds_none (pop_tail h none low free) e = none
-holds_none (len_tail none) e = none
-holds_none (len_head t none low) e = none
-holds_none (len_again t h none seen) e = none
+holds_none (count_tail g count none) e = none
+holds_none (count_head g t count none low) e = none
+holds_none (count_again g t h count none seen) e = none
 holds_none (empty_head none) e = none
 holds_none (empty_tail h none saw) e = none
 holds_none (full_tail none) e = none

@@ -5,13 +5,13 @@ use Rattle.law_common.specs.Stand.{Stand}
 use Rattle.law_ring.specs.RingShared.{Shared}
 use Rattle.law_ring.specs.RingCells.{Ring, RingOk}
 use Rattle.law_ring.specs.RingWords.{Codes}
-use Rattle.law_ring.specs.RingAt.{At, push_tail, push_stamp, claiming, filling, push_head, displacing, arriving, swapping, spending, pop_head, pop_stamp, taking, emptying, pop_tail, len_tail, len_head, len_again, empty_head, empty_tail, full_tail, full_head, closing, closed_tail}
+use Rattle.law_ring.specs.RingAt.{At, push_tail, push_stamp, claiming, filling, push_head, displacing, arriving, swapping, spending, pop_head, pop_stamp, taking, emptying, pop_tail, count_tail, count_head, count_again, empty_head, empty_tail, full_tail, full_head, closing, closed_tail}
 use Rattle.law_ring.proofs.RingStepOk.{StepOk}
 use Rattle.law_ring.proofs.RingPush.{good_push_tail, good_push_stamp}
 use Rattle.law_ring.proofs.RingClaim.{good_claiming, good_filling, good_push_head, good_spending}
 use Rattle.law_ring.proofs.RingForce.{good_displacing, good_arriving, good_swapping}
 use Rattle.law_ring.proofs.RingPop.{good_pop_head, good_pop_stamp, good_taking, good_emptying, good_pop_tail}
-use Rattle.law_ring.proofs.RingLook.{good_len_tail, good_len_head, good_len_again, good_empty_head, good_empty_tail, good_full_tail, good_full_head, good_closing, good_closed_tail}
+use Rattle.law_ring.proofs.RingLook.{good_count_tail, good_count_head, good_count_again, good_empty_head, good_empty_tail, good_full_tail, good_full_head, good_closing, good_closed_tail}
 
 -- each step of a call, wherever it stands, is a step of the queue
 pub step_good : {A : Type 0} {cap : ℕ} {r : Ring A} {who : ℕ} {s : Shared A} {ms : List (State A)} {was : Bool} {c : Stand A}
@@ -30,9 +30,9 @@ step_good ok codes (pop_stamp h none low) = good_pop_stamp ok codes h none low
 step_good ok codes (taking h none low full) = good_taking ok codes h none low full
 step_good ok codes (emptying x h one) = good_emptying ok codes x h one
 step_good ok codes (pop_tail h none low free) = good_pop_tail ok codes h none low free
-step_good ok codes (len_tail none) = good_len_tail ok codes none
-step_good ok codes (len_head t none low) = good_len_head ok codes t none low
-step_good ok codes (len_again t h none seen) = good_len_again ok codes t h none seen
+step_good ok codes (count_tail g count none) = good_count_tail ok codes g count none
+step_good ok codes (count_head g t count none low) = good_count_head ok codes g t count none low
+step_good ok codes (count_again g t h count none seen) = good_count_again ok codes g t h count none seen
 step_good ok codes (empty_head none) = good_empty_head ok codes none
 step_good ok codes (empty_tail h none saw) = good_empty_tail ok codes h none saw
 step_good ok codes (full_tail none) = good_full_tail ok codes none

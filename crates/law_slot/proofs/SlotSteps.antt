@@ -2,7 +2,9 @@
 use Rattle.std.proofs.Common.{◌≡◌, ℕ, ◌+◌, Bool, true, false, not, Option, Some, None, Err, List, [], ◌∷◌, length, bit_or, if◌then◌else◌, refl, inl, inr}
 use Rattle.queue_steps.specs.State.{State, is_full}
 use Rattle.queue_steps.specs.Replies.{is_empty, IsRightAt, Tells}
-use Rattle.queue_steps.specs.SingleNext.{is_marked, is_pushed, call_of_look, seen_reply}
+use Rattle.queue_steps.specs.SingleNext.{is_marked, is_pushed, seen_reply}
+use Rattle.queue_steps.specs.Looks.{call_of_look, call_of_glance, glance_reply}
+use Rattle.queue_steps.proofs.LookLaws.{glance_filled, glance_tells, glance_right}
 use Rattle.law_common.specs.Vocabulary.{Call, Reply, Effect, PopError, PushError, ForcePushError, Op, Look, Local, PushKind, LOCKED, PUSHED, CLOSED}
 use Rattle.queue_steps.specs.declared.steps.single.SingleLocal.TheVariants.{Pushing, Forcing, Popping, Closing, Looking}
 use Rattle.queue_steps.specs.declared.steps.types.Word.TheVariants.{Lock}
@@ -90,24 +92,22 @@ close_step (swapping false old y) n ms = record { word' = 7; slot' = (Some old);
 close_step (taking true x) n ms = record { word' = 5; slot' = (Some x); items' = []; c' = true; n' = n; e = None; own' = Nobody; h' = (Taking x); leaves = refl; stands = taking true x; told = refl; makes = refl; lands = right_now (single [] true n) ms Call.Close (Reply.Close false) refl refl; passes = stays Nobody (Taking x) }
 close_step (taking false x) n ms = record { word' = 5; slot' = (Some x); items' = []; c' = true; n' = n; e = Some Effect.Close; own' = Nobody; h' = (Taking x); leaves = refl; stands = taking true x; told = refl; makes = (refl, refl); lands = (refl, refl, (_, refl, refl, λ e. cc)); passes = stays Nobody (Taking x) }
 
--- what the word tells of the items and the flag
+-- what the word tells of the flag and of how many items there are
 reads : {T : Type 0} {word : ℕ} {slot : Option T} {h : SlotHolder T} {items : List T} {c : Bool} → Codes word slot h items c
-    → (is_marked word ≡ c) × (not (is_pushed word) ≡ is_empty items) × (is_pushed word ≡ is_full (single items c 0)) × ((if is_pushed word then 1 else 0) ≡ length items)
-reads (free_empty true) = (refl, refl, refl, refl)
-reads (free_full true x) = (refl, refl, refl, refl)
-reads (filling true y) = (refl, refl, refl, refl)
-reads (swapping true old y) = (refl, refl, refl, refl)
-reads (taking true x) = (refl, refl, refl, refl)
-reads x = (refl, refl, refl, refl)
+    → (is_marked word ≡ c) × (length items ≡ (if is_pushed word then 1 else 0))
+reads (free_empty true) = (refl, refl)
+reads (free_full true x) = (refl, refl)
+reads (filling true y) = (refl, refl)
+reads (swapping true old y) = (refl, refl)
+reads (taking true x) = (refl, refl)
+reads x = (refl, refl)
 
 look_step : {T : Type 0} {word : ℕ} {slot : Option T} {h : SlotHolder T} {items : List T} {c : Bool} (l : Look) → Codes word slot h items c → Row word slot Nobody h items c (empty_handed (Local.Single (Looking l)) (Op.Load Lock) (call_of_look l))
 look_step {word = word} {slot = slot} {h = h} {items = items} {c = c} Look.IsClosed st n ms = record { word' = word; slot' = slot; items' = items; c' = c; n' = n; e = None; own' = Nobody; h' = h; leaves = refl; stands = st; told = refl; makes = refl; lands = right_now (single items c n) ms Call.IsClosed (Reply.IsClosed (is_marked word)) refl (reads st).0; passes = stays Nobody h }
-look_step {word = word} {slot = slot} {h = h} {items = items} {c = c} look st n ms =
-    let shows = reads st in
-    let empty = shows.1 in
-    let full = shows.2 in
-    let many = shows.3 in
-    record { word' = word; slot' = slot; items' = items; c' = c; n' = n; e = None; own' = Nobody; h' = h; leaves = refl; stands = st; told = refl; makes = refl; lands = right_now (single items c n) ms (call_of_look look) (seen_reply look word) refl assumption; passes = stays Nobody h }
+look_step {T} {word = word} {slot = slot} {h = h} {items = items} {c = c} (Look.Glance g) st n ms =
+    let many : ℕ = if is_pushed word then 1 else 0 in
+    let right = glance_right (single items c n) (Some 1) many g refl (reads st).1 in
+    record { word' = word; slot' = slot; items' = items; c' = c; n' = n; e = None; own' = Nobody; h' = h; leaves = refl; stands = st; told = refl; makes = refl; lands = (refl, refl, (glance_reply (Some 1) many g, glance_filled T (Some 1) many g, glance_tells T (Some 1) many g, λ e. inl right)); passes = stays Nobody h }
 
 -- each step of a call, wherever it stands, is a step of the queue
 pub step_good : {T : Type 0} {x : Stand T} {word : ℕ} {slot : Option T} {own h : SlotHolder T} {items : List T} {c : Bool}

@@ -4,7 +4,8 @@ use Rattle.queue_steps.specs.State.{State}
 use Rattle.queue_steps.specs.Kinds.{filled}
 use Rattle.queue_steps.specs.Next.{next_of}
 use Rattle.queue_steps.specs.Replies.{IsRightAt, Tells}
-use Rattle.queue_steps.specs.SingleNext.{is_marked, call_of_look}
+use Rattle.queue_steps.specs.SingleNext.{is_marked}
+use Rattle.queue_steps.specs.Looks.{call_of_look}
 use Rattle.law_common.specs.Vocabulary.{Call, Reply, Effect, Kind, Op, Touch, Answer, Look, Local, SingleLocal, PushKind, Next, LOCKED, PUSHED, CLOSED, UNLOCKED}
 use Rattle.queue_steps.specs.declared.steps.single.SingleLocal.TheVariants.{Pushing, Pushed, Forcing, Forced, Popping, Popped, Closing, Looking}
 use Rattle.queue_steps.specs.declared.steps.types.Word.TheVariants.{Lock}

@@ -2,6 +2,11 @@
 use Rattle.std.specs.Prelude.{ℕ, cond, List, [], ◌∷◌, codes, bytes_eq, ◌==◌, Option, Some, None}
 use Rattle.queue_steps.specs.declared.steps.bounded.PushKind.{PushKind}
 use Rattle.queue_steps.specs.declared.steps.bounded.PushKind.TheVariants as push
+use Rattle.queue_steps.specs.declared.steps.looks.CallView.{CallView}
+use Rattle.queue_steps.specs.declared.steps.looks.CallView.TheVariants as view
+use Rattle.queue_steps.specs.declared.steps.looks.Glance.{Glance}
+use Rattle.queue_steps.specs.declared.steps.looks.Glance.TheVariants as glance
+use Rattle.queue_steps.specs.declared.steps.looks.Look.TheVariants as look
 use Rattle.queue_steps.specs.declared.steps.types.Local.{Local}
 use Rattle.queue_steps.specs.declared.steps.types.Local.TheVariants as local
 use Rattle.queue_steps.specs.declared.steps.single.SingleLocal.{SingleLocal}
@@ -38,9 +43,9 @@ ring_label (ring.PopStamp h) = codes "O2"
 ring_label (ring.Taking h) = codes "O3"
 ring_label ring.Emptying = codes "O4"
 ring_label (ring.PopTail h) = codes "O5"
-ring_label ring.LenTail = codes "L1"
-ring_label (ring.LenHead t) = codes "L2"
-ring_label (ring.LenAgain t h) = codes "L3"
+ring_label (ring.CountTail g) = codes "L1"
+ring_label (ring.CountHead g t) = codes "L2"
+ring_label (ring.CountAgain g t h) = codes "L3"
 ring_label ring.EmptyHead = codes "E1"
 ring_label (ring.EmptyTail h) = codes "E2"
 ring_label ring.FullTail = codes "G1"
@@ -73,9 +78,9 @@ chain_label (chain.Awaiting h b) = codes "V9"
 chain_label (chain.Reading b i) = codes "V10"
 chain_label (chain.Walking b i) = codes "W1"
 chain_label (chain.Destroying b i) = codes "W2"
-chain_label chain.LenTail = codes "Y1"
-chain_label (chain.LenHead t) = codes "Y2"
-chain_label (chain.LenAgain t h) = codes "Y3"
+chain_label (chain.CountTail g) = codes "Y1"
+chain_label (chain.CountHead g t) = codes "Y2"
+chain_label (chain.CountAgain g t h) = codes "Y3"
 chain_label chain.EmptyHead = codes "E1"
 chain_label (chain.EmptyTail h) = codes "E2"
 chain_label chain.Closing = codes "C1"
@@ -101,26 +106,35 @@ abbrev pub or_else : {A : Type 0} → A → Option A → A
 or_else a (Some x) = x
 or_else a None = a
 
--- a ring: which push it is, and two words
-abbrev pub ring_at : List ℕ → Option PushKind × ℕ × ℕ → BoundedLocal
-ring_at label (kind, one, two) = pick ring.ClosedTail label (
-    (codes "B1", ring.PushTail (or_else push.Push kind))
-    ∷ (codes "B2", ring.PushStamp (or_else push.Push kind) one)
-    ∷ (codes "B3", ring.Claiming (or_else push.Push kind) one)
-    ∷ (codes "B4", ring.Filling (or_else push.Push kind))
+-- which push a call is, and which glance, if it is one
+abbrev pub push_of : Option CallView → PushKind
+push_of (Some (view.Push p)) = p
+push_of _ = push.Push
+
+abbrev pub glance_of : Option CallView → Glance
+glance_of (Some (view.Look (look.Glance g))) = g
+glance_of _ = glance.Len
+
+-- a ring: which push or glance it is, and two words
+abbrev pub ring_at : List ℕ → Option CallView × ℕ × ℕ → BoundedLocal
+ring_at label (which, one, two) = pick ring.ClosedTail label (
+    (codes "B1", ring.PushTail (push_of which))
+    ∷ (codes "B2", ring.PushStamp (push_of which) one)
+    ∷ (codes "B3", ring.Claiming (push_of which) one)
+    ∷ (codes "B4", ring.Filling (push_of which))
     ∷ (codes "B5", ring.PushHead one)
     ∷ (codes "F5", ring.Displacing one)
     ∷ (codes "F6", ring.Arriving one)
     ∷ (codes "F7", ring.Swapping)
-    ∷ (codes "BS", ring.ClosingAtLimit (or_else push.Push kind))
+    ∷ (codes "BS", ring.ClosingAtLimit (push_of which))
     ∷ (codes "O1", ring.PopHead)
     ∷ (codes "O2", ring.PopStamp one)
     ∷ (codes "O3", ring.Taking one)
     ∷ (codes "O4", ring.Emptying)
     ∷ (codes "O5", ring.PopTail one)
-    ∷ (codes "L1", ring.LenTail)
-    ∷ (codes "L2", ring.LenHead one)
-    ∷ (codes "L3", ring.LenAgain one two)
+    ∷ (codes "L1", ring.CountTail (glance_of which))
+    ∷ (codes "L2", ring.CountHead (glance_of which) one)
+    ∷ (codes "L3", ring.CountAgain (glance_of which) one two)
     ∷ (codes "E1", ring.EmptyHead)
     ∷ (codes "E2", ring.EmptyTail one)
     ∷ (codes "G1", ring.FullTail)
@@ -129,20 +143,20 @@ ring_at label (kind, one, two) = pick ring.ClosedTail label (
     ∷ (codes "K1", ring.ClosedTail)
     ∷ [])
 
--- a chain: which push it is, two words, a block, and the one after it or the spare
-abbrev pub chain_at : List ℕ → Option PushKind × (ℕ × ℕ) × (Option ℕ × Option ℕ) → UnboundedLocal ℕ
-chain_at label (kind, (one, two), (block, other)) = pick chain.ClosedTail label (
-    (codes "U1", chain.PushTail (or_else push.Push kind) other)
-    ∷ (codes "U2", chain.PushBlock (or_else push.Push kind) one other)
-    ∷ (codes "U3", chain.Asking (or_else push.Push kind) one other)
-    ∷ (codes "U4", chain.Installing (or_else push.Push kind) one (or_else 0 block))
-    ∷ (codes "U4b", chain.Showing (or_else push.Push kind) one (or_else 0 block))
-    ∷ (codes "U5", chain.Claiming (or_else push.Push kind) one (or_else 0 block) other)
-    ∷ (codes "U6", chain.Laying (or_else push.Push kind) one (or_else 0 block) (or_else 0 other))
-    ∷ (codes "U7", chain.Opening (or_else push.Push kind) one (or_else 0 block) (or_else 0 other))
-    ∷ (codes "U8", chain.Chaining (or_else push.Push kind) one (or_else 0 block) (or_else 0 other))
-    ∷ (codes "U9", chain.Writing (or_else push.Push kind) other)
-    ∷ (codes "US", chain.ClosingAtLimit (or_else push.Push kind) other)
+-- a chain: which push or glance it is, two words, a block, and the one after it or the spare
+abbrev pub chain_at : List ℕ → Option CallView × (ℕ × ℕ) × (Option ℕ × Option ℕ) → UnboundedLocal ℕ
+chain_at label (which, (one, two), (block, other)) = pick chain.ClosedTail label (
+    (codes "U1", chain.PushTail (push_of which) other)
+    ∷ (codes "U2", chain.PushBlock (push_of which) one other)
+    ∷ (codes "U3", chain.Asking (push_of which) one other)
+    ∷ (codes "U4", chain.Installing (push_of which) one (or_else 0 block))
+    ∷ (codes "U4b", chain.Showing (push_of which) one (or_else 0 block))
+    ∷ (codes "U5", chain.Claiming (push_of which) one (or_else 0 block) other)
+    ∷ (codes "U6", chain.Laying (push_of which) one (or_else 0 block) (or_else 0 other))
+    ∷ (codes "U7", chain.Opening (push_of which) one (or_else 0 block) (or_else 0 other))
+    ∷ (codes "U8", chain.Chaining (push_of which) one (or_else 0 block) (or_else 0 other))
+    ∷ (codes "U9", chain.Writing (push_of which) other)
+    ∷ (codes "US", chain.ClosingAtLimit (push_of which) other)
     ∷ (codes "V1", chain.PopHead)
     ∷ (codes "V2", chain.PopBlock one)
     ∷ (codes "V3", chain.PopTail one other)
@@ -155,9 +169,9 @@ chain_at label (kind, (one, two), (block, other)) = pick chain.ClosedTail label 
     ∷ (codes "V10", chain.Reading (or_else 0 block) one)
     ∷ (codes "W1", chain.Walking (or_else 0 block) one)
     ∷ (codes "W2", chain.Destroying (or_else 0 block) one)
-    ∷ (codes "Y1", chain.LenTail)
-    ∷ (codes "Y2", chain.LenHead one)
-    ∷ (codes "Y3", chain.LenAgain one two)
+    ∷ (codes "Y1", chain.CountTail (glance_of which))
+    ∷ (codes "Y2", chain.CountHead (glance_of which) one)
+    ∷ (codes "Y3", chain.CountAgain (glance_of which) one two)
     ∷ (codes "E1", chain.EmptyHead)
     ∷ (codes "E2", chain.EmptyTail one)
     ∷ (codes "C1", chain.Closing)

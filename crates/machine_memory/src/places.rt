@@ -1,14 +1,16 @@
 //! Where a call is: the label of its step, as docs/STEPS.md has it, and what it remembers.
-ghost use Rattle.std.specs.Prelude.{◌≡◌};
+ghost use Rattle.std.specs.Prelude.{◌≡◌, Some};
 ghost use Rattle.machine_memory.specs.Places.{chain_at, chain_label, label_text, ring_at, ring_label, slot_label};
 
-use queue_steps::steps::{BoundedLocal, Local, PushKind, SingleLocal, UnboundedLocal};
+use queue_steps::steps::{
+    BoundedLocal, CallView, Glance, Local, Look, PushKind, SingleLocal, UnboundedLocal,
+};
 
-/// On a ring: which push it is, and two words. What the call does not remember is `None` or 0.
-pub(crate) type RingKept = (Option<PushKind>, u64, u64);
+/// On a ring: which push or glance it is, and two words. What the call does not remember is `None` or 0.
+pub(crate) type RingKept = (Option<CallView>, u64, u64);
 
-/// On a chain: which push it is, two words, a block, and the one after it or the spare.
-pub(crate) type ChainKept = (Option<PushKind>, (u64, u64), (Option<usize>, Option<usize>));
+/// On a chain: which push or glance it is, two words, a block, and the one after it or the spare.
+pub(crate) type ChainKept = (Option<CallView>, (u64, u64), (Option<usize>, Option<usize>));
 
 /// The label of the step before which a call stands.
 pub fn label(local: Option<Local<usize>>) -> &'static str
@@ -57,9 +59,9 @@ pub(crate) fn ring_label(local: BoundedLocal) -> &'static str
         BoundedLocal::Taking(_) => "O3",
         BoundedLocal::Emptying => "O4",
         BoundedLocal::PopTail(_) => "O5",
-        BoundedLocal::LenTail => "L1",
-        BoundedLocal::LenHead(_) => "L2",
-        BoundedLocal::LenAgain(_, _) => "L3",
+        BoundedLocal::CountTail(_) => "L1",
+        BoundedLocal::CountHead(_, _) => "L2",
+        BoundedLocal::CountAgain(_, _, _) => "L3",
         BoundedLocal::EmptyHead => "E1",
         BoundedLocal::EmptyTail(_) => "E2",
         BoundedLocal::FullTail => "G1",
@@ -97,14 +99,28 @@ pub(crate) fn chain_label(local: UnboundedLocal<usize>) -> &'static str
         UnboundedLocal::Reading(_, _) => "V10",
         UnboundedLocal::Walking(_, _) => "W1",
         UnboundedLocal::Destroying(_, _) => "W2",
-        UnboundedLocal::LenTail => "Y1",
-        UnboundedLocal::LenHead(_) => "Y2",
-        UnboundedLocal::LenAgain(_, _) => "Y3",
+        UnboundedLocal::CountTail(_) => "Y1",
+        UnboundedLocal::CountHead(_, _) => "Y2",
+        UnboundedLocal::CountAgain(_, _, _) => "Y3",
         UnboundedLocal::EmptyHead => "E1",
         UnboundedLocal::EmptyTail(_) => "E2",
         UnboundedLocal::Closing => "C1",
         UnboundedLocal::ClosedTail => "L1",
     }
+}
+
+// A step of this push.
+fn a_push(push: PushKind) -> Option<CallView>
+    ensures { result ≡ Some (CallView.Push push) }
+{
+    Some(CallView::Push(push))
+}
+
+// A step of this glance.
+fn a_glance(glance: Glance) -> Option<CallView>
+    ensures { result ≡ Some (CallView.Look (Look.Glance glance)) }
+{
+    Some(CallView::Look(Look::Glance(glance)))
 }
 
 /// What a call on a ring remembers. With the label, that is where it is.
@@ -114,9 +130,9 @@ pub(crate) fn ring_kept(local: BoundedLocal) -> RingKept
     match local {
         BoundedLocal::PushTail(push)
         | BoundedLocal::Filling(push)
-        | BoundedLocal::ClosingAtLimit(push) => (Some(push), 0, 0),
+        | BoundedLocal::ClosingAtLimit(push) => (a_push(push), 0, 0),
         BoundedLocal::PushStamp(push, word) | BoundedLocal::Claiming(push, word) => (
-            Some(push),
+            a_push(push),
             word,
             0,
         ),
@@ -126,14 +142,14 @@ pub(crate) fn ring_kept(local: BoundedLocal) -> RingKept
         | BoundedLocal::PopStamp(word)
         | BoundedLocal::Taking(word)
         | BoundedLocal::PopTail(word)
-        | BoundedLocal::LenHead(word)
         | BoundedLocal::EmptyTail(word)
         | BoundedLocal::FullHead(word) => (None, word, 0),
-        BoundedLocal::LenAgain(tail, head) => (None, tail, head),
+        BoundedLocal::CountTail(glance) => (a_glance(glance), 0, 0),
+        BoundedLocal::CountHead(glance, tail) => (a_glance(glance), tail, 0),
+        BoundedLocal::CountAgain(glance, tail, head) => (a_glance(glance), tail, head),
         BoundedLocal::Swapping
         | BoundedLocal::PopHead
         | BoundedLocal::Emptying
-        | BoundedLocal::LenTail
         | BoundedLocal::EmptyHead
         | BoundedLocal::FullTail
         | BoundedLocal::Closing
@@ -148,30 +164,30 @@ pub(crate) fn chain_kept(local: UnboundedLocal<usize>) -> ChainKept
     match local {
         UnboundedLocal::PushTail(push, spare)
         | UnboundedLocal::Writing(push, spare)
-        | UnboundedLocal::ClosingAtLimit(push, spare) => (Some(push), (0, 0), (None, spare)),
+        | UnboundedLocal::ClosingAtLimit(push, spare) => (a_push(push), (0, 0), (None, spare)),
         UnboundedLocal::PushBlock(push, tail, spare) | UnboundedLocal::Asking(push, tail, spare) =>
-            (Some(push), (tail, 0), (None, spare)),
+            (a_push(push), (tail, 0), (None, spare)),
         UnboundedLocal::Installing(push, tail, block)
         | UnboundedLocal::Showing(push, tail, block) => (
-            Some(push),
+            a_push(push),
             (tail, 0),
             (Some(block), None),
         ),
         UnboundedLocal::Claiming(push, tail, block, spare) => (
-            Some(push),
+            a_push(push),
             (tail, 0),
             (Some(block), spare),
         ),
         UnboundedLocal::Laying(push, tail, block, fresh)
         | UnboundedLocal::Opening(push, tail, block, fresh)
         | UnboundedLocal::Chaining(push, tail, block, fresh) => (
-            Some(push),
+            a_push(push),
             (tail, 0),
             (Some(block), Some(fresh)),
         ),
-        UnboundedLocal::PopBlock(word)
-        | UnboundedLocal::LenHead(word)
-        | UnboundedLocal::EmptyTail(word) => (None, (word, 0), (None, None)),
+        UnboundedLocal::PopBlock(word) | UnboundedLocal::EmptyTail(word) => {
+            (None, (word, 0), (None, None))
+        }
         UnboundedLocal::PopTail(head, block) => (None, (head, 0), (None, block)),
         UnboundedLocal::Taking(head, block)
         | UnboundedLocal::Following(head, block)
@@ -187,9 +203,12 @@ pub(crate) fn chain_kept(local: UnboundedLocal<usize>) -> ChainKept
         ),
         UnboundedLocal::Passing(head, block, true) => (None, (head, 1), (Some(block), None)),
         UnboundedLocal::Passing(head, block, false) => (None, (head, 0), (Some(block), None)),
-        UnboundedLocal::LenAgain(tail, head) => (None, (tail, head), (None, None)),
+        UnboundedLocal::CountTail(glance) => (a_glance(glance), (0, 0), (None, None)),
+        UnboundedLocal::CountHead(glance, tail) => (a_glance(glance), (tail, 0), (None, None)),
+        UnboundedLocal::CountAgain(glance, tail, head) => {
+            (a_glance(glance), (tail, head), (None, None))
+        }
         UnboundedLocal::PopHead
-        | UnboundedLocal::LenTail
         | UnboundedLocal::EmptyHead
         | UnboundedLocal::Closing
         | UnboundedLocal::ClosedTail => (None, (0, 0), (None, None)),

@@ -6,7 +6,7 @@ use crate::calls::Running;
 use crate::places::{chain_kept, chain_label, ring_kept, ring_label};
 use queue_steps::model::CallKind;
 use queue_steps::steps::{
-    BoundedLocal, Link, Local, Op, PushKind, SingleLocal, Touch, UnboundedLocal, Word,
+    BoundedLocal, CallView, Link, Local, Op, SingleLocal, Touch, UnboundedLocal, Word,
 };
 
 /// Values that can be told to be the same.
@@ -104,8 +104,8 @@ impl Same for SingleLocal {
     }
 }
 
-impl Same for PushKind {
-    fn same(&self, other: &PushKind) -> bool {
+impl Same for CallView {
+    fn same(&self, other: &CallView) -> bool {
         *self == *other
     }
 }

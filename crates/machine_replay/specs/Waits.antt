@@ -139,15 +139,15 @@ pub record CallsWait (T : Type 0) : Type 0 where
   pub ring : (n : ℕ) → IsRing n → RingCallsWait T n
   pub chain : ChainCallsWait T
 
--- a step of `len`
+-- a step of `len`, or of another glance that counts the items
 abbrev pub IsOfLen : Local ℕ → Type 0
-IsOfLen (Local.Single (Looking Look.Len)) = Unit {0}
-IsOfLen (Local.Bounded ring.LenTail) = Unit {0}
-IsOfLen (Local.Bounded (ring.LenHead tail)) = Unit {0}
-IsOfLen (Local.Bounded (ring.LenAgain tail head)) = Unit {0}
-IsOfLen (Local.Unbounded chain.LenTail) = Unit {0}
-IsOfLen (Local.Unbounded (chain.LenHead tail)) = Unit {0}
-IsOfLen (Local.Unbounded (chain.LenAgain tail head)) = Unit {0}
+IsOfLen (Local.Single (Looking (Look.Glance l))) = Unit {0}
+IsOfLen (Local.Bounded (ring.CountTail l)) = Unit {0}
+IsOfLen (Local.Bounded (ring.CountHead l tail)) = Unit {0}
+IsOfLen (Local.Bounded (ring.CountAgain l tail head)) = Unit {0}
+IsOfLen (Local.Unbounded (chain.CountTail l)) = Unit {0}
+IsOfLen (Local.Unbounded (chain.CountHead l tail)) = Unit {0}
+IsOfLen (Local.Unbounded (chain.CountAgain l tail head)) = Unit {0}
 IsOfLen _ = ⊥
 
 -- these events leave the tail, each of them

@@ -1,13 +1,18 @@
 -- Which replies a call that changes nothing may have: it has no effect, and answers what the state shows.
-use Rattle.std.proofs.Common.{◌≡◌, List, [], ◌∷◌, length, refl, sym, ap, ◌∙◌, subst, arith}
+use Rattle.std.proofs.Common.{◌≡◌, ◌==◌, ℕ, List, [], ◌∷◌, length, Option, Some, None, refl, sym, ap, ◌∙◌, subst, arith}
+use Rattle.std.proofs.lemmas.Bool.{ne_eqb}
 use Rattle.queue_steps.specs.State.{State}
 use Rattle.queue_steps.specs.Replies.{is_empty, IsRightAt, Tells}
-use Rattle.queue_steps.specs.Looks.{IsLook, IsGlance, look_reply}
+use Rattle.queue_steps.specs.Kinds.{call_value, filled}
+use Rattle.queue_steps.specs.Sequential.{sequential_reply, sequential_state}
+use Rattle.queue_steps.specs.Looks.{IsLook, IsGlance, look_reply, call_of_glance, glance_reply}
 use Rattle.queue_steps.specs.declared.model.Call.{Call}
 use Rattle.queue_steps.specs.declared.model.Call.TheVariants as call
 use Rattle.queue_steps.specs.declared.model.Reply.{Reply}
 use Rattle.queue_steps.specs.declared.model.Reply.TheVariants as reply
 use Rattle.queue_steps.specs.declared.model.Effect.{Effect}
+use Rattle.queue_steps.specs.declared.steps.looks.Glance.{Glance}
+use Rattle.queue_steps.specs.declared.steps.looks.Glance.TheVariants as glance
 
 module _ {T : Type 0} where
   -- its reply stands for no effect
@@ -59,3 +64,32 @@ module _ {T : Type 0} where
   -- so a reply that is right at the one is right at the other
   pub look_there : (Q S : State T) (c : Call T) (r : Reply T) → IsLook c → Q.cap ≡ S.cap → Q.closed ≡ S.closed → (IsGlance c → length Q.items ≡ length S.items) → IsRightAt Q c r → IsRightAt S c r
   look_there Q S c r is cap closed many right = subst (λ x. IsRightAt S c x) (sym (look_right Q c r is right ∙ look_same Q S c is cap closed many)) (look_shows S c is).0
+
+-- a glance has no value, and what it answers has none and stands for no effect
+module _ (T : Type 0) where
+  pub glance_value : (g : Glance) → call_value (call_of_glance {T = T} g) ≡ None
+  glance_value glance.Len = refl
+  glance_value g = refl
+
+  pub glance_filled : (cap : Option ℕ) (n : ℕ) (g : Glance) → filled (glance_reply cap n g) None ≡ Some (glance_reply {R = T} cap n g)
+  glance_filled cap n glance.Len = refl
+  glance_filled cap n g = refl
+
+  pub glance_tells : (cap : Option ℕ) (n : ℕ) (g : Glance) → Tells (call_of_glance {T = T} g) (glance_reply cap n g) []
+  glance_tells cap n glance.Len = refl
+  glance_tells cap n g = refl
+
+module _ {T : Type 0} where
+  empty_counted : (xs : List T) → (length xs == 0) ≡ is_empty xs
+  empty_counted [] = refl
+  empty_counted (x ∷ xs) = ne_eqb (length (x ∷ xs)) 0 (λ e. absurd (omega arith))
+
+  -- and is right at a state of this capacity with so many items
+  pub glance_right : (Q : State T) (cap : Option ℕ) (n : ℕ) (g : Glance) → Q.cap ≡ cap → length Q.items ≡ n → IsRightAt Q (call_of_glance g) (glance_reply cap n g)
+  glance_right Q cap n glance.IsEmpty is_cap many = ap (λ m. m == 0) (sym many) ∙ empty_counted Q.items
+  glance_right Q cap n g is_cap many = cc
+
+  -- it is what the table of one owner says, which leaves the state
+  pub glance_table : (Q : State T) (cap : Option ℕ) (n : ℕ) (g : Glance) → Q.cap ≡ cap → length Q.items ≡ n → (glance_reply cap n g ≡ sequential_reply Q (call_of_glance g)) × (Q ≡ sequential_state Q (call_of_glance g))
+  glance_table Q cap n glance.Len is_cap many = (look_right Q call.Len (glance_reply cap n glance.Len) tt (glance_right Q cap n glance.Len is_cap many), refl)
+  glance_table Q cap n g is_cap many = (look_right Q (call_of_glance g) (glance_reply cap n g) tt (glance_right Q cap n g is_cap many), refl)

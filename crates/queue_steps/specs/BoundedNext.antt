@@ -2,7 +2,6 @@
 use Rattle.std.specs.Prelude.{◌≡◌, ℕ, ◌+◌, ◌-◌, ◌%◌, ◌≤◌, ◌==◌, Some, None, Ok, Err, if◌then◌else◌}
 use Rattle.queue_steps.specs.declared.sizes.TheConstants.{LIMIT}
 use Rattle.queue_steps.specs.declared.model.Call.{Call}
-use Rattle.queue_steps.specs.declared.model.Call.TheVariants as call
 use Rattle.queue_steps.specs.declared.model.Reply.{Reply}
 use Rattle.queue_steps.specs.declared.model.Reply.TheVariants as reply
 use Rattle.queue_steps.specs.declared.errors.PopError.TheVariants as pop
@@ -24,6 +23,13 @@ use Rattle.queue_steps.specs.declared.steps.bounded.PushKind.{PushKind}
 use Rattle.queue_steps.specs.declared.steps.bounded.PushKind.TheVariants as kind
 use Rattle.queue_steps.specs.declared.steps.bounded.BoundedLocal.{BoundedLocal}
 use Rattle.queue_steps.specs.declared.steps.bounded.BoundedLocal.TheVariants as ring
+use Rattle.queue_steps.specs.declared.steps.looks.CallView.{CallView}
+use Rattle.queue_steps.specs.declared.steps.looks.CallView.TheVariants as view
+use Rattle.queue_steps.specs.declared.steps.looks.Glance.{Glance}
+use Rattle.queue_steps.specs.declared.steps.looks.Glance.TheVariants as glance
+use Rattle.queue_steps.specs.declared.steps.looks.Look.{Look}
+use Rattle.queue_steps.specs.declared.steps.looks.Look.TheVariants as look
+use Rattle.queue_steps.specs.Looks.{call_view, glance_reply}
 use Rattle.queue_steps.specs.Words.{IsWord, position_of, is_shut, slot_at, stamp_free, stamp_filled, stamp_emptied}
 
 -- one step, after which the call waits at l
@@ -59,9 +65,9 @@ FitsRing n (ring.PopStamp head) (Found stamp) = IsWord head
 FitsRing n (ring.Taking head) (Found found) = IsWord head × IsWord found
 FitsRing n ring.Emptying Done = Unit {0}
 FitsRing n (ring.PopTail head) (Found tail) = Unit {0}
-FitsRing n ring.LenTail (Found tail) = Unit {0}
-FitsRing n (ring.LenHead tail) (Found head) = Unit {0}
-FitsRing n (ring.LenAgain tail head) (Found again) = again ≡ tail → head ≤ position_of tail
+FitsRing n (ring.CountTail g) (Found tail) = Unit {0}
+FitsRing n (ring.CountHead g tail) (Found head) = Unit {0}
+FitsRing n (ring.CountAgain g tail head) (Found again) = again ≡ tail → head ≤ position_of tail
 FitsRing n ring.EmptyHead (Found head) = Unit {0}
 FitsRing n (ring.EmptyTail head) (Found tail) = Unit {0}
 FitsRing n ring.FullTail (Found tail) = Unit {0}
@@ -70,16 +76,23 @@ FitsRing n ring.Closing (Found tail) = Unit {0}
 FitsRing n ring.ClosedTail (Found tail) = Unit {0}
 FitsRing n _ _ = ⊥
 
+-- where a look begins: whether the ring is empty or full is told by two loads, and any other glance counts the items
+abbrev pub ring_look : {B : Type 0} → Look → Next B
+ring_look look.IsClosed = loads ring.ClosedTail word.Tail
+ring_look (look.Glance glance.IsEmpty) = loads ring.EmptyHead word.Head
+ring_look (look.Glance glance.IsFull) = loads ring.FullTail word.Tail
+ring_look (look.Glance g) = loads (ring.CountTail g) word.Tail
+
+-- where a call begins, by what it does
+abbrev pub bounded_start : {B : Type 0} → ℕ → CallView → Next B
+bounded_start n (view.Push p) = loads (ring.PushTail p) word.Tail
+bounded_start n view.Pop = loads ring.PopHead word.Head
+bounded_start n view.Close = at ring.Closing touch.Nothing (op.Or word.Tail MARK)
+bounded_start n (view.Look l) = ring_look l
+bounded_start n view.Capacity = ends (reply.Capacity (Some n))
+
 abbrev pub bounded_begin : {B : Type 0} → ℕ → Call Unit → Next B
-bounded_begin n (call.Push v) = loads (ring.PushTail kind.Push) word.Tail
-bounded_begin n (call.ForcePush v) = loads (ring.PushTail kind.Force) word.Tail
-bounded_begin n call.Pop = loads ring.PopHead word.Head
-bounded_begin n call.Close = at ring.Closing touch.Nothing (op.Or word.Tail MARK)
-bounded_begin n call.IsClosed = loads ring.ClosedTail word.Tail
-bounded_begin n call.IsEmpty = loads ring.EmptyHead word.Head
-bounded_begin n call.IsFull = loads ring.FullTail word.Tail
-bounded_begin n call.Len = loads ring.LenTail word.Tail
-bounded_begin n call.Capacity = ends (reply.Capacity (Some n))
+bounded_begin n c = bounded_start n (call_view c)
 
 abbrev pub closed_reply : PushKind → Reply Unit
 closed_reply kind.Push = reply.Push (Err (push.Closed tt))
@@ -123,8 +136,8 @@ pop_tail_found head tail =
     else loads ring.PopHead word.Head
 
 -- after the second read of a tail
-abbrev pub len_found : {B : Type 0} → ℕ → ℕ → ℕ → Next B
-len_found tail head again = if again == tail then ends (reply.Len (position_of tail - head)) else loads ring.LenTail word.Tail
+abbrev pub count_found : {B : Type 0} → ℕ → Glance → ℕ → ℕ → ℕ → Next B
+count_found n g tail head again = if again == tail then ends (glance_reply (Some n) (position_of tail - head) g) else loads (ring.CountTail g) word.Tail
 
 -- after the answer to the last step. The last line stands for what `FitsRing` excludes
 abbrev pub bounded_next : {B : Type 0} → ℕ → BoundedLocal → Answer B → Next B
@@ -151,9 +164,9 @@ bounded_next n (ring.Taking head) (Found found) =
     else head_found n found
 bounded_next n ring.Emptying Done = ends (reply.Pop (Ok tt))
 bounded_next n (ring.PopTail head) (Found tail) = pop_tail_found head tail
-bounded_next n ring.LenTail (Found tail) = loads (ring.LenHead tail) word.Head
-bounded_next n (ring.LenHead tail) (Found head) = loads (ring.LenAgain tail head) word.Tail
-bounded_next n (ring.LenAgain tail head) (Found again) = len_found tail head again
+bounded_next n (ring.CountTail g) (Found tail) = loads (ring.CountHead g tail) word.Head
+bounded_next n (ring.CountHead g tail) (Found head) = loads (ring.CountAgain g tail head) word.Tail
+bounded_next n (ring.CountAgain g tail head) (Found again) = count_found n g tail head again
 bounded_next n ring.EmptyHead (Found head) = loads (ring.EmptyTail head) word.Tail
 bounded_next n (ring.EmptyTail head) (Found tail) = ends (reply.IsEmpty (position_of tail == head))
 bounded_next n ring.FullTail (Found tail) = loads (ring.FullHead tail) word.Head

@@ -1,15 +1,17 @@
 -- The steps of a queue of one slot.
 use Rattle.std.specs.Prelude.{ℕ, Bool, not, bit_and, bit_or, ◌==◌, Some, None, Ok, Err, if◌then◌else◌}
 use Rattle.queue_steps.specs.declared.model.Call.{Call}
-use Rattle.queue_steps.specs.declared.model.Call.TheVariants as call
 use Rattle.queue_steps.specs.declared.model.Reply.{Reply}
 use Rattle.queue_steps.specs.declared.model.Reply.TheVariants as reply
 use Rattle.queue_steps.specs.declared.errors.PopError.TheVariants as pop
 use Rattle.queue_steps.specs.declared.errors.PushError.TheVariants as push
 use Rattle.queue_steps.specs.declared.errors.ForcePushError.TheVariants as force
 use Rattle.queue_steps.specs.declared.steps.types.Local.TheVariants as local
-use Rattle.queue_steps.specs.declared.steps.types.Look.{Look}
-use Rattle.queue_steps.specs.declared.steps.types.Look.TheVariants as look
+use Rattle.queue_steps.specs.declared.steps.bounded.PushKind.TheVariants as kind
+use Rattle.queue_steps.specs.declared.steps.looks.CallView.{CallView}
+use Rattle.queue_steps.specs.declared.steps.looks.CallView.TheVariants as view
+use Rattle.queue_steps.specs.declared.steps.looks.Look.{Look}
+use Rattle.queue_steps.specs.declared.steps.looks.Look.TheVariants as look
 use Rattle.queue_steps.specs.declared.steps.types.Next.{Next}
 use Rattle.queue_steps.specs.declared.steps.types.Next.TheVariants as next
 use Rattle.queue_steps.specs.declared.steps.types.Op.{Op}
@@ -17,6 +19,7 @@ use Rattle.queue_steps.specs.declared.steps.types.Op.TheVariants as op
 use Rattle.queue_steps.specs.declared.steps.types.Touch.{Touch}
 use Rattle.queue_steps.specs.declared.steps.types.Touch.TheVariants as touch
 use Rattle.queue_steps.specs.declared.steps.types.Word.TheVariants.{Lock}
+use Rattle.queue_steps.specs.Looks.{call_view, glance_reply}
 use Rattle.queue_steps.specs.declared.steps.single.TheConstants.{LOCKED, PUSHED, CLOSED, UNLOCKED, UNPUSHED}
 use Rattle.queue_steps.specs.declared.steps.single.SingleLocal.{SingleLocal}
 use Rattle.queue_steps.specs.declared.steps.single.SingleLocal.TheVariants.{Pushing, Pushed, Forcing, Forced, Popping, Popped, Closing, Looking}
@@ -54,30 +57,22 @@ is_marked word = not (bit_and word CLOSED == 0)
 abbrev pub is_pushed : ℕ → Bool
 is_pushed word = not (bit_and word PUSHED == 0)
 
-abbrev pub single_begin : {B : Type 0} → Call Unit → Next B
-single_begin (call.Push v) = P1
-single_begin (call.ForcePush v) = F1 0
-single_begin call.Pop = O1 PUSHED
-single_begin call.Close = at Closing touch.Nothing (op.Or Lock CLOSED)
-single_begin call.IsClosed = looks look.IsClosed
-single_begin call.IsEmpty = looks look.IsEmpty
-single_begin call.IsFull = looks look.IsFull
-single_begin call.Len = looks look.Len
-single_begin call.Capacity = ends (reply.Capacity (Some 1))
+-- where a call begins, by what it does
+abbrev pub single_start : {B : Type 0} → CallView → Next B
+single_start (view.Push kind.Push) = P1
+single_start (view.Push kind.Force) = F1 0
+single_start view.Pop = O1 PUSHED
+single_start view.Close = at Closing touch.Nothing (op.Or Lock CLOSED)
+single_start (view.Look l) = looks l
+single_start view.Capacity = ends (reply.Capacity (Some 1))
 
--- the call that takes this look
-abbrev pub call_of_look : {T : Type 0} → Look → Call T
-call_of_look look.IsClosed = call.IsClosed
-call_of_look look.IsEmpty = call.IsEmpty
-call_of_look look.IsFull = call.IsFull
-call_of_look look.Len = call.Len
+abbrev pub single_begin : {B : Type 0} → Call Unit → Next B
+single_begin c = single_start (call_view c)
 
 -- what one look at the word answers
 abbrev pub seen_reply : {R : Type 0} → Look → ℕ → Reply R
 seen_reply look.IsClosed word = reply.IsClosed (is_marked word)
-seen_reply look.IsEmpty word = reply.IsEmpty (not (is_pushed word))
-seen_reply look.IsFull word = reply.IsFull (is_pushed word)
-seen_reply look.Len word = reply.Len (if is_pushed word then 1 else 0)
+seen_reply (look.Glance g) word = glance_reply (Some 1) (if is_pushed word then 1 else 0) g
 
 -- what follows the word that was found
 abbrev pub single_next : {B : Type 0} → SingleLocal → ℕ → Next B

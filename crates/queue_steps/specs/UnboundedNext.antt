@@ -2,7 +2,6 @@
 use Rattle.std.specs.Prelude.{◌≡◌, ℕ, ◌+◌, ◌-◌, ◌*◌, ◌%◌, ◌<◌, ◌≤◌, Bool, false, not, bit_and, ◌==◌, Option, Some, None, Ok, Err, IsSome, is_some, nat_lt, if◌then◌else◌}
 use Rattle.queue_steps.specs.declared.sizes.TheConstants.{LIMIT, BLOCK_SLOTS}
 use Rattle.queue_steps.specs.declared.model.Call.{Call}
-use Rattle.queue_steps.specs.declared.model.Call.TheVariants as call
 use Rattle.queue_steps.specs.declared.model.Reply.{Reply}
 use Rattle.queue_steps.specs.declared.model.Reply.TheVariants as reply
 use Rattle.queue_steps.specs.declared.errors.PopError.TheVariants as pop
@@ -26,6 +25,12 @@ use Rattle.queue_steps.specs.declared.steps.bounded.PushKind.TheVariants as kind
 use Rattle.queue_steps.specs.declared.steps.unbounded.TheConstants.{WRITE, READ, DESTROY}
 use Rattle.queue_steps.specs.declared.steps.unbounded.UnboundedLocal.{UnboundedLocal}
 use Rattle.queue_steps.specs.declared.steps.unbounded.UnboundedLocal.TheVariants as chain
+use Rattle.queue_steps.specs.declared.steps.looks.CallView.{CallView}
+use Rattle.queue_steps.specs.declared.steps.looks.CallView.TheVariants as view
+use Rattle.queue_steps.specs.declared.steps.looks.Glance.TheVariants as glance
+use Rattle.queue_steps.specs.declared.steps.looks.Look.{Look}
+use Rattle.queue_steps.specs.declared.steps.looks.Look.TheVariants as look
+use Rattle.queue_steps.specs.Looks.{call_view, glance_reply}
 use Rattle.queue_steps.specs.Words.{IsWord, position_of, is_shut}
 use Rattle.queue_steps.specs.ChainWords.{block_at, offset_of, items_before, over_end}
 use Rattle.queue_steps.specs.BoundedNext.{closed_reply, pushed_reply}
@@ -71,25 +76,32 @@ FitsChain (chain.Awaiting head block) (Found state) = Unit {0}
 FitsChain (chain.Reading block slot) (Found state) = slot < BLOCK_SLOTS
 FitsChain (chain.Walking block slot) (Found state) = slot < BLOCK_SLOTS
 FitsChain (chain.Destroying block slot) (Found state) = slot < BLOCK_SLOTS
-FitsChain chain.LenTail (Found tail) = Unit {0}
-FitsChain (chain.LenHead tail) (Found head) = Unit {0}
-FitsChain (chain.LenAgain tail head) (Found again) = IsWord tail × IsWord head × (again ≡ tail → items_before (position_of head) ≤ items_before (position_of tail))
+FitsChain (chain.CountTail g) (Found tail) = Unit {0}
+FitsChain (chain.CountHead g tail) (Found head) = Unit {0}
+FitsChain (chain.CountAgain g tail head) (Found again) = IsWord tail × IsWord head × (again ≡ tail → items_before (position_of head) ≤ items_before (position_of tail))
 FitsChain chain.EmptyHead (Found head) = Unit {0}
 FitsChain (chain.EmptyTail head) (Found tail) = IsWord head × IsWord tail
 FitsChain chain.Closing (Found tail) = Unit {0}
 FitsChain chain.ClosedTail (Found tail) = Unit {0}
 FitsChain _ _ = ⊥
 
+-- where a look begins: whether the chain is empty is told by two loads, it is never full, and any other glance counts the items
+abbrev pub chain_look : {B : Type 0} → Look → Next B
+chain_look look.IsClosed = loads chain.ClosedTail word.Tail
+chain_look (look.Glance glance.IsEmpty) = loads chain.EmptyHead word.Head
+chain_look (look.Glance glance.IsFull) = ends (reply.IsFull false)
+chain_look (look.Glance g) = loads (chain.CountTail g) word.Tail
+
+-- where a call begins, by what it does
+abbrev pub unbounded_start : {B : Type 0} → CallView → Next B
+unbounded_start (view.Push p) = loads (chain.PushTail p None) word.Tail
+unbounded_start view.Pop = loads chain.PopHead word.Head
+unbounded_start view.Close = at chain.Closing touch.Nothing (op.Or word.Tail MARK)
+unbounded_start (view.Look l) = chain_look l
+unbounded_start view.Capacity = ends (reply.Capacity None)
+
 abbrev pub unbounded_begin : {B : Type 0} → Call Unit → Next B
-unbounded_begin (call.Push v) = loads (chain.PushTail kind.Push None) word.Tail
-unbounded_begin (call.ForcePush v) = loads (chain.PushTail kind.Force None) word.Tail
-unbounded_begin call.Pop = loads chain.PopHead word.Head
-unbounded_begin call.Close = at chain.Closing touch.Nothing (op.Or word.Tail MARK)
-unbounded_begin call.IsClosed = loads chain.ClosedTail word.Tail
-unbounded_begin call.IsEmpty = loads chain.EmptyHead word.Head
-unbounded_begin call.IsFull = ends (reply.IsFull false)
-unbounded_begin call.Len = loads chain.LenTail word.Tail
-unbounded_begin call.Capacity = ends (reply.Capacity None)
+unbounded_begin c = unbounded_start (call_view c)
 
 -- the reply of a push that was refused a block
 abbrev pub gives_up : PushKind → Reply Unit
@@ -223,11 +235,11 @@ unbounded_next (chain.Walking block slot) (Found state) =
     if not (bit_and state READ == 0) then walks_on block slot
     else at (chain.Destroying block slot) touch.Nothing (op.Or (word.State block slot) DESTROY)
 unbounded_next (chain.Destroying block slot) (Found state) = if not (bit_and state READ == 0) then walks_on block slot else ends (reply.Pop (Ok tt))
-unbounded_next chain.LenTail (Found tail) = loads (chain.LenHead tail) word.Head
-unbounded_next (chain.LenHead tail) (Found head) = loads (chain.LenAgain tail head) word.Tail
-unbounded_next (chain.LenAgain tail head) (Found again) =
-    if again == tail then ends (reply.Len (items_before (position_of tail) - items_before (position_of head)))
-    else loads chain.LenTail word.Tail
+unbounded_next (chain.CountTail g) (Found tail) = loads (chain.CountHead g tail) word.Head
+unbounded_next (chain.CountHead g tail) (Found head) = loads (chain.CountAgain g tail head) word.Tail
+unbounded_next (chain.CountAgain g tail head) (Found again) =
+    if again == tail then ends (glance_reply None (items_before (position_of tail) - items_before (position_of head)) g)
+    else loads (chain.CountTail g) word.Tail
 unbounded_next chain.EmptyHead (Found head) = loads (chain.EmptyTail head) word.Tail
 unbounded_next (chain.EmptyTail head) (Found tail) = ends (reply.IsEmpty (over_end (position_of tail) == over_end (position_of head)))
 unbounded_next chain.Closing (Found tail) = ends (reply.Close (tail % 2 == 0))

@@ -70,9 +70,9 @@ module _ {B C : Type 0} (f : B → C) where
   chain_map (chain.Reading b i) = chain.Reading (f b) i
   chain_map (chain.Walking b i) = chain.Walking (f b) i
   chain_map (chain.Destroying b i) = chain.Destroying (f b) i
-  chain_map chain.LenTail = chain.LenTail
-  chain_map (chain.LenHead t) = chain.LenHead t
-  chain_map (chain.LenAgain t h) = chain.LenAgain t h
+  chain_map (chain.CountTail g) = chain.CountTail g
+  chain_map (chain.CountHead g t) = chain.CountHead g t
+  chain_map (chain.CountAgain g t h) = chain.CountAgain g t h
   chain_map chain.EmptyHead = chain.EmptyHead
   chain_map (chain.EmptyTail h) = chain.EmptyTail h
   chain_map chain.Closing = chain.Closing

@@ -3,11 +3,11 @@ use Rattle.std.proofs.Common.{ℕ, Bool, List}
 use Rattle.queue_steps.specs.State.{State}
 use Rattle.law_common.specs.Stand.{Stand}
 use Rattle.law_chain.specs.ChainCells.{Chain, ChainOk}
-use Rattle.law_chain.specs.ChainAt.{At, push_tail, push_block, asking, installing, showing, claiming, laying, opening, chaining, writing, spending, pop_head, pop_block, pop_tail, taking, following, peeking, passing, entering, awaiting, len_tail, len_head, len_again, empty_head, empty_tail, closing, closed_tail, walking, destroying, reading, beginning}
+use Rattle.law_chain.specs.ChainAt.{At, push_tail, push_block, asking, installing, showing, claiming, laying, opening, chaining, writing, spending, pop_head, pop_block, pop_tail, taking, following, peeking, passing, entering, awaiting, count_tail, count_head, count_again, empty_head, empty_tail, closing, closed_tail, walking, destroying, reading, beginning}
 use Rattle.machine_memory.specs.SharedMemory.{Shared}
 use Rattle.machine_replay.proofs.Chain.Coded.{CodesShared, Coded}
 use Rattle.machine_replay.proofs.Chain.CodedPush.{coded_push_tail, coded_push_block, coded_asking, coded_installing, coded_showing, coded_claiming, coded_laying, coded_opening, coded_chaining, coded_writing, coded_spending}
-use Rattle.machine_replay.proofs.Chain.CodedPop.{coded_pop_head, coded_pop_block, coded_pop_tail, coded_taking, coded_following, coded_peeking, coded_passing, coded_entering, coded_awaiting, coded_len_tail, coded_len_head, coded_len_again, coded_empty_head, coded_empty_tail, coded_closing, coded_closed_tail}
+use Rattle.machine_replay.proofs.Chain.CodedPop.{coded_pop_head, coded_pop_block, coded_pop_tail, coded_taking, coded_following, coded_peeking, coded_passing, coded_entering, coded_awaiting, coded_count_tail, coded_count_head, coded_count_again, coded_empty_head, coded_empty_tail, coded_closing, coded_closed_tail}
 use Rattle.machine_replay.proofs.Chain.CodedRead.{coded_walking, coded_destroying, coded_reading, coded_beginning}
 
 pub coded : {A : Type 0} {c : Chain A} {who : ℕ} {ms : List (State A)} {k : Stand A} (ok : Bool) (s : Shared A) (at : At c who ms k)
@@ -32,9 +32,9 @@ coded {c = c} {who = who} {ms = ms} ok s (peeking x n name after more holds got 
 coded {c = c} {who = who} {ms = ms} ok s (passing x n name after more further holds got pass behind_it room) right codes = coded_passing c who ms ok s x n name after more further holds got pass behind_it room right codes
 coded {c = c} {who = who} {ms = ms} ok s (entering x n name more further holds got enters room) right codes = coded_entering c who ms ok s x n name more further holds got enters room right codes
 coded {c = c} {who = who} {ms = ms} ok s (awaiting x n name more holds got) right codes = coded_awaiting c who ms ok s x n name more holds got right codes
-coded {c = c} {who = who} {ms = ms} ok s (len_tail none) right codes = coded_len_tail c who ms ok s none right codes
-coded {c = c} {who = who} {ms = ms} ok s (len_head t none small low) right codes = coded_len_head c who ms ok s t none small low right codes
-coded {c = c} {who = who} {ms = ms} ok s (len_again t h none small seen) right codes = coded_len_again c who ms ok s t h none small seen right codes
+coded {c = c} {who = who} {ms = ms} ok s (count_tail l count none) right codes = coded_count_tail c who ms ok s l count none right codes
+coded {c = c} {who = who} {ms = ms} ok s (count_head l t count none small low) right codes = coded_count_head c who ms ok s l t count none small low right codes
+coded {c = c} {who = who} {ms = ms} ok s (count_again l t h count none small seen) right codes = coded_count_again c who ms ok s l t h count none small seen right codes
 coded {c = c} {who = who} {ms = ms} ok s (empty_head none) right codes = coded_empty_head c who ms ok s none right codes
 coded {c = c} {who = who} {ms = ms} ok s (empty_tail h none small saw) right codes = coded_empty_tail c who ms ok s h none small saw right codes
 coded {c = c} {who = who} {ms = ms} ok s (closing none) right codes = coded_closing c who ms ok s none right codes

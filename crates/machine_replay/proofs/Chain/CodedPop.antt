@@ -1,8 +1,9 @@
 -- The shared memory at each step of a pop on a chain up to the wait for its item, and at the steps that only look.
-use Rattle.std.proofs.Common.{ℕ, ◌+◌, ◌*◌, ◌/◌, ◌<◌, ◌≤◌, ◌≡◌, ◌≢◌, ◌==◌, ◌∙◌, ◌⊎◌, inl, inr, Bool, true, false, if◌then◌else◌, Option, IsSome, List, refl, sym, ap, subst, arith}
+use Rattle.std.proofs.Common.{ℕ, ◌+◌, ◌*◌, ◌/◌, ◌<◌, ◌≤◌, ◌≡◌, ◌≢◌, ◌==◌, ◌∙◌, ◌⊎◌, inl, inr, Bool, true, false, if◌then◌else◌, Option, IsSome, List, refl, sym, ap, subst, arith, None}
 use Rattle.std.proofs.lemmas.Bool.Decides.{eqb_tells}
-use Rattle.machine_replay.specs.Vocabulary.{Answer, BLOCK_SLOTS, TAIL_STEP}
+use Rattle.machine_replay.specs.Vocabulary.{Answer, BLOCK_SLOTS, TAIL_STEP, Glance}
 use Rattle.queue_steps.specs.State.{State}
+use Rattle.queue_steps.specs.Looks.{IsCount}
 use Rattle.queue_steps.specs.Words.{IsWord, position_of}
 use Rattle.queue_steps.specs.ChainWords.{offset_of, items_before}
 use Rattle.queue_steps.specs.UnboundedNext.{unbounded_next}
@@ -22,7 +23,7 @@ use Rattle.law_chain.proofs.ChainReads.{front_is}
 use Rattle.law_chain.specs.ChainTransitions.{taken}
 use Rattle.law_chain.specs.ChainAfter.{taken_if, if_taken}
 use Rattle.law_chain.proofs.ChainAnswers.{same_head, head_offset}
-use Rattle.law_chain.specs.ChainAt.{Only, Either, IsBehind, IsFurther, pop_head, pop_block, pop_tail, taking, following, peeking, passing, entering, awaiting, len_tail, len_head, len_again, empty_head, empty_tail, closing, closed_tail}
+use Rattle.law_chain.specs.ChainAt.{Only, Either, IsBehind, IsFurther, pop_head, pop_block, pop_tail, taking, following, peeking, passing, entering, awaiting, count_tail, count_head, count_again, empty_head, empty_tail, closing, closed_tail}
 use Rattle.law_chain.proofs.ChainReads.{not_given_up}
 use Rattle.machine_replay.proofs.Chain.CodesPush.{codes_marked}
 use Rattle.machine_replay.proofs.Chain.CodesPop.{codes_taken, codes_passed, codes_entered}
@@ -196,32 +197,32 @@ module _ {A : Type 0} (c : Chain A) (who : ℕ) (ms : List (State A)) (ok : Bool
         codes = λ fine gives. codes_left who (unbounded_next (chain.Awaiting (head_of n more) name) (Answer.Found (state_of s.blocks name i))) fine gives codes;
       }
 
-  -- the steps of a length
-  pub coded_len_tail : (none : HoldsOnly c who Nothing) → ChainOk c → CodesShared s c → Coded c who ms ok s (len_tail none)
-  coded_len_tail none right codes = record {
+  -- the steps of a count
+  pub coded_count_tail : (l : Glance) (count : IsCount A l) (none : HoldsOnly c who Nothing) → ChainOk c → CodesShared s c → Coded c who ms ok s (count_tail l count none)
+  coded_count_tail l count none right codes = record {
     touches = tt;
     operates = tt;
     answers = ap (λ w. Answer.Found w) codes.tail_is;
     carried = refl;
-    codes = λ fine gives. codes_left who (unbounded_next chain.LenTail (Answer.Found s.tail)) fine gives codes;
+    codes = λ fine gives. codes_left who (unbounded_next (chain.CountTail l) (Answer.Found s.tail)) fine gives codes;
   }
 
-  pub coded_len_head : (t : ℕ) (none : HoldsOnly c who Nothing) (small : IsWord t) (low : items_before (position_of t) ≤ c.tail) → ChainOk c → CodesShared s c → Coded c who ms ok s (len_head t none small low)
-  coded_len_head t none small low right codes = record {
+  pub coded_count_head : (l : Glance) (t : ℕ) (count : IsCount A l) (none : HoldsOnly c who Nothing) (small : IsWord t) (low : items_before (position_of t) ≤ c.tail) → ChainOk c → CodesShared s c → Coded c who ms ok s (count_head l t count none small low)
+  coded_count_head l t count none small low right codes = record {
     touches = tt;
     operates = tt;
     answers = ap (λ w. Answer.Found w) codes.head_is;
     carried = refl;
-    codes = λ fine gives. codes_left who (unbounded_next (chain.LenHead t) (Answer.Found s.head)) fine gives codes;
+    codes = λ fine gives. codes_left who (unbounded_next (chain.CountHead l t) (Answer.Found s.head)) fine gives codes;
   }
 
-  pub coded_len_again : (t h : ℕ) (none : HoldsOnly c who Nothing) (small : IsWord t × IsWord h) (seen : SeenIn ms (HeadWas (items_before (position_of h)) (items_before (position_of t)) c.tail)) → ChainOk c → CodesShared s c → Coded c who ms ok s (len_again t h none small seen)
-  coded_len_again t h none small seen right codes = record {
+  pub coded_count_again : (l : Glance) (t h : ℕ) (count : IsCount A l) (none : HoldsOnly c who Nothing) (small : IsWord t × IsWord h) (seen : SeenIn ms (HeadWas None (items_before (position_of h)) (items_before (position_of t)) c.tail)) → ChainOk c → CodesShared s c → Coded c who ms ok s (count_again l t h count none small seen)
+  coded_count_again l t h count none small seen right codes = record {
     touches = tt;
     operates = tt;
     answers = ap (λ w. Answer.Found w) codes.tail_is;
     carried = refl;
-    codes = λ fine gives. codes_left who (unbounded_next (chain.LenAgain t h) (Answer.Found s.tail)) fine gives codes;
+    codes = λ fine gives. codes_left who (unbounded_next (chain.CountAgain l t h) (Answer.Found s.tail)) fine gives codes;
   }
 
   -- the steps of is_empty, close and is_closed

@@ -4,7 +4,7 @@ use Rattle.machine_replay.specs.Vocabulary.{BLOCK_SLOTS}
 use Rattle.queue_steps.specs.State.{State}
 use Rattle.law_common.specs.Stand.{Stand}
 use Rattle.law_chain.specs.ChainCells.{Laying, Opening, Chain, ChainOk, BlocksOk, Part, Write, Tail, Next, writer_of, reader_of, mover_of, passer_of, linker_of, Read, Head}
-use Rattle.law_chain.specs.ChainAt.{Either, At, push_tail, push_block, asking, installing, showing, claiming, laying, opening, chaining, writing, spending, pop_head, pop_block, pop_tail, taking, following, peeking, passing, entering, awaiting, reading, beginning, walking, destroying, len_tail, len_head, len_again, empty_head, empty_tail, closing, closed_tail}
+use Rattle.law_chain.specs.ChainAt.{Either, At, push_tail, push_block, asking, installing, showing, claiming, laying, opening, chaining, writing, spending, pop_head, pop_block, pop_tail, taking, following, peeking, passing, entering, awaiting, reading, beginning, walking, destroying, count_tail, count_head, count_again, empty_head, empty_tail, closing, closed_tail}
 use Rattle.machine_steps.specs.ChainLeft.{front_at}
 use Rattle.machine_replay.proofs.Chain.Deeds.{deed_of, DeedIs, idle, walks, reads_alone, reads_and_passes, writes_it, lays_it}
 
@@ -62,9 +62,9 @@ at_deed {c = c} {who = who} ok (reading x n name more holds got wrote inner) = r
 at_deed {c = c} {who = who} ok (beginning x n name more holds got wrote last) = reads_alone c who n x name more holds got
 at_deed {c = c} {who = who} ok (walking x b name slot holds is named) = walks c who b holds
 at_deed {c = c} {who = who} ok (destroying x b name slot holds is named) = walks c who b holds
-at_deed {c = c} {who = who} ok (len_tail none) = idle c who none
-at_deed {c = c} {who = who} ok (len_head w none small low) = idle c who none
-at_deed {c = c} {who = who} ok (len_again w h none small seen) = idle c who none
+at_deed {c = c} {who = who} ok (count_tail l count none) = idle c who none
+at_deed {c = c} {who = who} ok (count_head l w count none small low) = idle c who none
+at_deed {c = c} {who = who} ok (count_again l w h count none small seen) = idle c who none
 at_deed {c = c} {who = who} ok (empty_head none) = idle c who none
 at_deed {c = c} {who = who} ok (empty_tail h none small saw) = idle c who none
 at_deed {c = c} {who = who} ok (closing none) = idle c who none

@@ -12,7 +12,7 @@ use Rattle.law_common.specs.Stand.{Stand}
 use Rattle.machine_replay.proofs.Engine.StandOf.{running_of}
 use Rattle.law_chain.specs.ChainAfter.{after_of, chain_of, left_by}
 use Rattle.law_chain.specs.ChainAnswers.{Answers, tail_word, head_word}
-use Rattle.law_chain.specs.ChainAt.{At, Only, push_tail, push_block, asking, installing, showing, claiming, spending, pop_head, pop_block, pop_tail, taking, following, peeking, passing, entering, awaiting, reading, beginning, walking, destroying, len_tail, len_head, len_again, empty_head, empty_tail, closing, closed_tail}
+use Rattle.law_chain.specs.ChainAt.{At, Only, push_tail, push_block, asking, installing, showing, claiming, spending, pop_head, pop_block, pop_tail, taking, following, peeking, passing, entering, awaiting, reading, beginning, walking, destroying, count_tail, count_head, count_again, empty_head, empty_tail, closing, closed_tail}
 use Rattle.law_chain.specs.ChainCells.{Shown, Hidden, Showing, Seen, Chain, ChainOk, ShownOk, First, owner, shower_of, HoldsOnly, Nothing, queue_of}
 use Rattle.law_chain.specs.ChainFacts.{head_of}
 use Rattle.law_chain.proofs.ChainRanks.{is_seen}
@@ -79,9 +79,9 @@ has_bare (pop_head none) e = λ x h. absurd (none x h)
 has_bare (pop_block n more none is room) e = λ x h. absurd (none x h)
 has_bare (pop_tail n block none is front) e = λ x h. absurd (none x h)
 has_bare (taking n name next more new none is front there word_is room) e = λ x h. absurd (none x h)
-has_bare (len_tail none) e = λ x h. absurd (none x h)
-has_bare (len_head w none small low) e = λ x h. absurd (none x h)
-has_bare (len_again w h none small seen) e = λ x h. absurd (none x h)
+has_bare (count_tail l count none) e = λ x h. absurd (none x h)
+has_bare (count_head l w count none small low) e = λ x h. absurd (none x h)
+has_bare (count_again l w h count none small seen) e = λ x h. absurd (none x h)
 has_bare (empty_head none) e = λ x h. absurd (none x h)
 has_bare (empty_tail h none small saw) e = λ x h. absurd (none x h)
 has_bare (closing none) e = λ x h. absurd (none x h)

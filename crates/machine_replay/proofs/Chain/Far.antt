@@ -2,8 +2,9 @@
 use Rattle.std.proofs.Common.{ℕ, ◌+◌, ◌==◌, ◌%◌, ◌<◌, ◌≤◌, ◌≡◌, inl, inr, ◌∙◌, true, false, Option, Some, None, IsSome, List, refl, sym, ap, subst, arith}
 use Rattle.std.proofs.lemmas.Bool.{ne_eqb}
 use Rattle.std.proofs.lemmas.Bool.Decides.{eqb_tells}
-use Rattle.machine_replay.specs.Vocabulary.{Call, Effect, Local, Next, PushKind, BLOCK_SLOTS, Running}
+use Rattle.machine_replay.specs.Vocabulary.{Call, Effect, Local, Next, PushKind, BLOCK_SLOTS, Running, Glance}
 use Rattle.queue_steps.specs.State.{State}
+use Rattle.queue_steps.specs.Looks.{call_of_glance}
 use Rattle.queue_steps.specs.ChainWords.{offset_of}
 use Rattle.queue_steps.specs.declared.steps.unbounded.UnboundedLocal.TheVariants as chain
 use Rattle.law_common.specs.Pushes.{pushes}
@@ -11,7 +12,7 @@ use Rattle.law_common.proofs.Ranks.{either_small}
 use Rattle.law_common.specs.Stand.{Stand}
 use Rattle.law_chain.specs.ChainCells.{Shown, Seen, Chain, ChainOk, ShownOk, LAST}
 use Rattle.law_chain.specs.ChainAnswers.{tail_word, head_word, shown_of}
-use Rattle.law_chain.specs.ChainAt.{At, push_tail, push_block, asking, installing, showing, claiming, laying, opening, chaining, writing, spending, pop_block, pop_tail, taking, reading, walking, destroying, len_head, len_again}
+use Rattle.law_chain.specs.ChainAt.{At, push_tail, push_block, asking, installing, showing, claiming, laying, opening, chaining, writing, spending, pop_block, pop_tail, taking, reading, walking, destroying, count_head, count_again, count_tail}
 use Rattle.law_chain.specs.ChainFacts.{head_of, open_tail_of}
 use Rattle.law_chain.proofs.ChainAnswers.{head_offset}
 use Rattle.law_chain.proofs.ChainRanks.{rank, lag, walk_rank, is_seen}
@@ -46,9 +47,9 @@ far_at t h (Local.Unbounded (chain.Awaiting head block)) = BLOCK_SLOTS + 1
 far_at t h (Local.Unbounded (chain.Reading block slot)) = walk_rank slot
 far_at t h (Local.Unbounded (chain.Walking block slot)) = walk_rank slot
 far_at t h (Local.Unbounded (chain.Destroying block slot)) = walk_rank slot
-far_at t h (Local.Unbounded chain.LenTail) = 3
-far_at t h (Local.Unbounded (chain.LenHead tail)) = 2 + lag t tail 3
-far_at t h (Local.Unbounded (chain.LenAgain tail head)) = 1 + lag t tail 3
+far_at t h (Local.Unbounded (chain.CountTail l)) = 3
+far_at t h (Local.Unbounded (chain.CountHead l tail)) = 2 + lag t tail 3
+far_at t h (Local.Unbounded (chain.CountAgain l tail head)) = 1 + lag t tail 3
 far_at t h (Local.Unbounded chain.EmptyHead) = 2
 far_at t h _ = 1
 
@@ -84,6 +85,11 @@ unfolding pop_is_one
 no_pop PushKind.Push v = refl
 no_pop PushKind.Force v = refl
 
+glance_no_pop : (A : Type 0) (l : Glance) → pop_is_one (call_of_glance {T = A} l) ≡ 0
+unfolding pop_is_one
+glance_no_pop A Glance.Len = refl
+glance_no_pop A l = refl
+
 pub by_call : {A : Type 0} {c : Chain A} {who : ℕ} {ms : List (State A)} {k : Stand A} → At c who ms k → one_of_pop k.local ≡ pop_is_one k.call
 unfolding one_of_pop pop_is_one
 by_call (push_tail d v spare none spare_is) = sym (no_pop d v)
@@ -97,6 +103,9 @@ by_call (opening d v n name f holds mine opens links named) = sym (no_pop d v)
 by_call (chaining d v n name f holds mine links named) = sym (no_pop d v)
 by_call (writing d v n name spare holds mine spare_is) = sym (no_pop d v)
 by_call (spending d v spare none spare_is spent) = sym (no_pop d v)
+by_call {A} (count_tail l count none) = sym (glance_no_pop A l)
+by_call {A} (count_head l w count none small low) = sym (glance_no_pop A l)
+by_call {A} (count_again l w h count none small seen) = sym (glance_no_pop A l)
 by_call x = refl
 
 -- a call goes on as the call that it is
@@ -126,8 +135,8 @@ bounded tail head (taking n name next more new none is front there word_is room)
 bounded tail head (reading x n name more holds got wrote inner) ok = let low = inner_low n (offset_of (head_of n more)) (head_offset n more) inner in (omega arith, omega arith)
 bounded {c = c} {who = who} tail head (walking x b name slot holds is named) ok = let low = (last_claimed c who b slot ok is).0 in (omega arith, omega arith)
 bounded {c = c} {who = who} tail head (destroying x b name slot holds is named) ok = let low = (last_claimed c who b slot ok is).0 in (omega arith, omega arith)
-bounded tail head (len_head w none small low) ok = let x = lag_most tail w 3 in (omega arith, omega arith)
-bounded tail head (len_again w h none small seen) ok = let x = lag_most tail w 3 in (omega arith, omega arith)
+bounded tail head (count_head l w count none small low) ok = let x = lag_most tail w 3 in (omega arith, omega arith)
+bounded tail head (count_again l w h count none small seen) ok = let x = lag_most tail w 3 in (omega arith, omega arith)
 bounded tail head _ ok = (omega arith, omega arith)
 
 seen_if : (x : Shown) (name : ℕ) → IsSome (shown_of x name) → x ≡ Seen

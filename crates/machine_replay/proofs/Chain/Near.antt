@@ -1,8 +1,9 @@
 -- How many steps a call on a chain has before it from the opening on, and that each step of one that nobody hinders leaves fewer.
 use Rattle.std.proofs.Common.{ℕ, ◌+◌, ◌-◌, ◌/◌, ◌%◌, ◌==◌, if◌then◌else◌, ◌<◌, ◌≤◌, ◌≡◌, ◌≢◌, inl, inr, ◌∙◌, zero, suc, Bool, true, false, Option, Some, None, List, refl, sym, ap, arith}
 use Rattle.std.proofs.lemmas.Bool.{ne_eqb, eq-eqb}
-use Rattle.machine_replay.specs.Vocabulary.{Reply, Word, Link, Op, Touch, Answer, Local, Next, PushKind, BLOCK_SLOTS}
+use Rattle.machine_replay.specs.Vocabulary.{Reply, Word, Link, Op, Touch, Answer, Local, Next, PushKind, BLOCK_SLOTS, Glance}
 use Rattle.queue_steps.specs.State.{State}
+use Rattle.queue_steps.specs.Looks.{glance_reply}
 use Rattle.queue_steps.specs.Words.{is_shut, position_of, tail_of}
 use Rattle.queue_steps.specs.ChainWords.{offset_of, items_before}
 use Rattle.queue_steps.specs.UnboundedNext as steps
@@ -13,7 +14,7 @@ use Rattle.law_common.proofs.Tails.{position_tail, shut_tail}
 use Rattle.law_common.specs.Stand.{Stand}
 use Rattle.law_chain.specs.ChainAfter.{after_of, chain_of, claimed_if, if_installed}
 use Rattle.law_chain.specs.ChainAnswers.{Answers, tail_place, tail_word, head_word, last_of, shown_of}
-use Rattle.law_chain.specs.ChainAt.{At, Only, push_tail, push_block, asking, installing, showing, claiming, laying, opening, chaining, writing, spending, pop_head, pop_block, pop_tail, taking, len_tail, len_head, len_again, empty_head, empty_tail, closing, closed_tail}
+use Rattle.law_chain.specs.ChainAt.{At, Only, push_tail, push_block, asking, installing, showing, claiming, laying, opening, chaining, writing, spending, pop_head, pop_block, pop_tail, taking, count_tail, count_head, count_again, empty_head, empty_tail, closing, closed_tail}
 use Rattle.law_chain.specs.ChainCells.{Rests, Stands, Shown, Seen, Chain, ChainOk, Tail, Head, First, HoldsOnly, Nothing}
 use Rattle.law_chain.specs.ChainFacts.{place, head_of, open_tail_of, HeadIs, TailIs, HasSpare}
 use Rattle.law_chain.specs.ChainTransitions.{installed}
@@ -188,10 +189,10 @@ stands_bare : {A : Type 0} (c : Chain A) (who : ℕ) → IsBare c who → HoldsO
 stands_bare c who bare none = stands_if c.passer (unheld c who Nothing (Only First) Head bare none (λ z. z) (λ z. absurd (cc)))
 
 -- Y3: the tail is read again
-again_fewer : (now head t h : ℕ) → Fewer now head (unbounded_next (chain.LenAgain t h) (Answer.Found now)) (1 + lag now t 3)
+again_fewer : (now head : ℕ) (l : Glance) (t h : ℕ) → Fewer now head (unbounded_next (chain.CountAgain l t h) (Answer.Found now)) (1 + lag now t 3)
 unfolding near_at far_at
-again_fewer now head t h =
-    elim (now == t) as (λ b. Fewer now head (if b then ends (Reply.Len (items_before (position_of t) - items_before (position_of h))) else loads chain.LenTail Word.Tail) (1 + (if b then 0 else 3))) [ true ↦ tt | false ↦ omega arith ]
+again_fewer now head l t h =
+    elim (now == t) as (λ b. Fewer now head (if b then ends (glance_reply None (items_before (position_of t) - items_before (position_of h)) l) else loads (chain.CountTail l) Word.Tail) (1 + (if b then 0 else 3))) [ true ↦ tt | false ↦ omega arith ]
 
 -- each step of a call leaves fewer steps before it; of a pop, while no block is to be seen and nothing was accepted
 pub fewer : {A : Type 0} {c : Chain A} {who : ℕ} {ms : List (State A)} {k : Stand A} (at : At c who ms k) (a : Answer ℕ) → ChainOk c → Answers c k.op a → IsBare c who
@@ -215,9 +216,9 @@ fewer {c = c} (pop_block n true none is room) a ok found bare pop = absurd (seen
 fewer {c = c} (pop_block n false none is room) a ok found bare pop = let p = pop refl in rw found (no_block_fewer c n p.0 p.1)
 fewer {c = c} (pop_tail n block none is front) a ok found bare pop = let p = pop refl in rw (found, same_place c n ok is p.1) tt
 fewer {c = c} (taking n name next more new none is front there word_is room) a ok found bare pop = absurd (seen_not c front.0 (pop refl).0)
-fewer {c = c} (len_tail none) a ok found bare pop = rw found (lag_none (tail_word c) 2 3 3 (omega arith))
-fewer (len_head w none small low) a ok found bare pop = rw found (omega arith)
-fewer {c = c} (len_again w h none small seen) a ok found bare pop = rw found (again_fewer (tail_word c) (head_word c) w h)
+fewer {c = c} (count_tail l count none) a ok found bare pop = rw found (lag_none (tail_word c) 2 3 3 (omega arith))
+fewer (count_head l w count none small low) a ok found bare pop = rw found (omega arith)
+fewer {c = c} (count_again l w h count none small seen) a ok found bare pop = rw found (again_fewer (tail_word c) (head_word c) l w h)
 fewer (empty_head none) a ok found bare pop = rw found (omega arith)
 fewer (empty_tail h none small saw) a ok found bare pop = rw found tt
 fewer (closing none) a ok found bare pop = rw found tt

@@ -11,7 +11,7 @@ use Rattle.machine_replay.proofs.Engine.StandOf.{running_of}
 use Rattle.law_chain.specs.ChainCells.{Chain, queue_of}
 use Rattle.law_chain.specs.ChainAfter.{after_of, left_by}
 use Rattle.law_chain.specs.ChainAnswers.{tail_place, tail_word}
-use Rattle.law_chain.specs.ChainAt.{At, push_tail, push_block, asking, installing, showing, claiming, spending, pop_head, pop_block, pop_tail, taking, len_tail, len_head, len_again, empty_head, empty_tail, closing, closed_tail}
+use Rattle.law_chain.specs.ChainAt.{At, push_tail, push_block, asking, installing, showing, claiming, spending, pop_head, pop_block, pop_tail, taking, count_tail, count_head, count_again, empty_head, empty_tail, closing, closed_tail}
 use Rattle.law_chain.proofs.ChainFirst.{first}
 use Rattle.law_chain.proofs.ChainRanks.{rank, rank_some, Falls, IsQuiet}
 use Rattle.law_chain.proofs.ChainRanksStep.{step_falls}
@@ -72,9 +72,9 @@ words_stay ok s (pop_head none) e is quiet = (refl, refl)
 words_stay ok s (pop_block n more none at room) e is quiet = (refl, refl)
 words_stay ok s (pop_tail n block none at front) e is quiet = (refl, refl)
 words_stay ok s (taking n name next more new none at front there word_is room) e is quiet = lost_head _ s _ _ quiet
-words_stay ok s (len_tail none) e is quiet = (refl, refl)
-words_stay ok s (len_head w none small low) e is quiet = (refl, refl)
-words_stay ok s (len_again w h none small seen) e is quiet = (refl, refl)
+words_stay ok s (count_tail l count none) e is quiet = (refl, refl)
+words_stay ok s (count_head l w count none small low) e is quiet = (refl, refl)
+words_stay ok s (count_again l w h count none small seen) e is quiet = (refl, refl)
 words_stay ok s (empty_head none) e is quiet = (refl, refl)
 words_stay ok s (empty_tail h none small saw) e is quiet = (refl, refl)
 words_stay {c = c} ok s (closing none) e is quiet = (refl, marked_before s.tail (tail_place c.tail c.mover) c.closed _ is quiet)

@@ -49,35 +49,35 @@ late_most t u = elim (eqb_tells t u) [ inl e ↦ let z : late t u ≡ 0 = ap (λ
 
 -- how many steps a call of `len` has before it, and more than any has at the steps of other calls
 before : ℕ → Local ℕ → ℕ
-before t (Local.Single (Looking Look.Len)) = 1
-before t (Local.Bounded BoundedLocal.LenTail) = 3
-before t (Local.Bounded (BoundedLocal.LenHead u)) = 2 + late t u
-before t (Local.Bounded (BoundedLocal.LenAgain u h)) = 1 + late t u
-before t (Local.Unbounded chain.LenTail) = 3
-before t (Local.Unbounded (chain.LenHead u)) = 2 + late t u
-before t (Local.Unbounded (chain.LenAgain u h)) = 1 + late t u
+before t (Local.Single (Looking (Look.Glance l))) = 1
+before t (Local.Bounded (BoundedLocal.CountTail l)) = 3
+before t (Local.Bounded (BoundedLocal.CountHead l u)) = 2 + late t u
+before t (Local.Bounded (BoundedLocal.CountAgain l u h)) = 1 + late t u
+before t (Local.Unbounded (chain.CountTail l)) = 3
+before t (Local.Unbounded (chain.CountHead l u)) = 2 + late t u
+before t (Local.Unbounded (chain.CountAgain l u h)) = 1 + late t u
 before t _ = 9
 
 within : (t : ℕ) (l : Local ℕ) → IsOfLen l → (0 < before t l) × (before t l ≤ 5)
 unfolding before
-within t (Local.Single (Looking Look.Len)) is = (omega arith, omega arith)
-within t (Local.Bounded BoundedLocal.LenTail) is = (omega arith, omega arith)
-within t (Local.Bounded (BoundedLocal.LenHead u)) is = let z = late_most t u in (omega arith, omega (arith, z))
-within t (Local.Bounded (BoundedLocal.LenAgain u h)) is = let z = late_most t u in (omega arith, omega (arith, z))
-within t (Local.Unbounded chain.LenTail) is = (omega arith, omega arith)
-within t (Local.Unbounded (chain.LenHead u)) is = let z = late_most t u in (omega arith, omega (arith, z))
-within t (Local.Unbounded (chain.LenAgain u h)) is = let z = late_most t u in (omega arith, omega (arith, z))
+within t (Local.Single (Looking (Look.Glance l))) is = (omega arith, omega arith)
+within t (Local.Bounded (BoundedLocal.CountTail l)) is = (omega arith, omega arith)
+within t (Local.Bounded (BoundedLocal.CountHead l u)) is = let z = late_most t u in (omega arith, omega (arith, z))
+within t (Local.Bounded (BoundedLocal.CountAgain l u h)) is = let z = late_most t u in (omega arith, omega (arith, z))
+within t (Local.Unbounded (chain.CountTail l)) is = (omega arith, omega arith)
+within t (Local.Unbounded (chain.CountHead l u)) is = let z = late_most t u in (omega arith, omega (arith, z))
+within t (Local.Unbounded (chain.CountAgain l u h)) is = let z = late_most t u in (omega arith, omega (arith, z))
 within t _ is = absurd is
 
 is_of_len : (t : ℕ) (l : Local ℕ) → before t l ≤ 5 → IsOfLen l
 unfolding before
-is_of_len t (Local.Single (Looking Look.Len)) low = tt
-is_of_len t (Local.Bounded BoundedLocal.LenTail) low = tt
-is_of_len t (Local.Bounded (BoundedLocal.LenHead u)) low = tt
-is_of_len t (Local.Bounded (BoundedLocal.LenAgain u h)) low = tt
-is_of_len t (Local.Unbounded chain.LenTail) low = tt
-is_of_len t (Local.Unbounded (chain.LenHead u)) low = tt
-is_of_len t (Local.Unbounded (chain.LenAgain u h)) low = tt
+is_of_len t (Local.Single (Looking (Look.Glance l))) low = tt
+is_of_len t (Local.Bounded (BoundedLocal.CountTail l)) low = tt
+is_of_len t (Local.Bounded (BoundedLocal.CountHead l u)) low = tt
+is_of_len t (Local.Bounded (BoundedLocal.CountAgain l u h)) low = tt
+is_of_len t (Local.Unbounded (chain.CountTail l)) low = tt
+is_of_len t (Local.Unbounded (chain.CountHead l u)) low = tt
+is_of_len t (Local.Unbounded (chain.CountAgain l u h)) low = tt
 is_of_len t _ low = absurd (omega (arith, low))
 
 -- what a kind of queue owes: a step of `len` brings it nearer to its reply, where it leaves the tail
@@ -118,7 +118,7 @@ module _ (T : Type 0) (k : Kind) (laws : Rules T k) (parties : ℕ) (looks : Loo
 -- on one slot it is one look
 slot_looks : {T : Type 0} {c : Stand T} {own : SlotHolder T} (ok : Bool) (s : Shared T) (x : Running T) → slot.At c own → IsOfLen c.local
     → (step_of Kind.Single ok s (running_of c)).call ≡ Some x → before s.tail x.local < before s.tail c.local
-slot_looks ok s x (slot.look_at Look.Len) is goes = cc
+slot_looks ok s x (slot.look_at (Look.Glance l)) is goes = cc
 slot_looks ok s x y is goes = absurd is
 
 -- the second read of the tail finds it as it was, or the call begins again
@@ -131,17 +131,17 @@ again now read m l v x ends begins goes = elim (eqb_tells now read) [
 ring_looks : {A : Type 0} {cap : ℕ} {r : Ring A} {who : ℕ} {ms : List (State A)} {was : Bool} {c : Stand A} (ok : Bool) (s : Shared A) (x : Running A) → ring.At cap r who ms was c → IsOfLen c.local
     → (step_of (Kind.Bounded cap) ok s (running_of c)).call ≡ Some x → before s.tail x.local < before s.tail c.local
 unfolding before
-ring_looks ok s x (ring.len_tail none) is goes = let same = same_call x goes in let z = late_same s.tail in subst (λ y. before s.tail y.local < 3) same (omega (arith, z))
-ring_looks ok s x (ring.len_head t none low) is goes = let same = same_call x goes in subst (λ y. before s.tail y.local < 2 + late s.tail t) same (omega arith)
-ring_looks ok s x (ring.len_again t h none seen) is goes = again s.tail t _ _ _ x (λ e. cc) (λ e. ap (λ y. before s.tail y.local) (sym (same_call x e))) goes
+ring_looks ok s x (ring.count_tail l count none) is goes = let same = same_call x goes in let z = late_same s.tail in subst (λ y. before s.tail y.local < 3) same (omega (arith, z))
+ring_looks ok s x (ring.count_head l t count none low) is goes = let same = same_call x goes in subst (λ y. before s.tail y.local < 2 + late s.tail t) same (omega arith)
+ring_looks ok s x (ring.count_again l t h count none seen) is goes = again s.tail t _ _ _ x (λ e. cc) (λ e. ap (λ y. before s.tail y.local) (sym (same_call x e))) goes
 ring_looks ok s x _ is goes = absurd is
 
 chain_looks : {A : Type 0} {c : Chain A} {who : ℕ} {ms : List (State A)} {k : Stand A} (ok : Bool) (s : Shared A) (x : Running A) → links.At c who ms k → IsOfLen k.local
     → (step_of Kind.Unbounded ok s (running_of k)).call ≡ Some x → before s.tail x.local < before s.tail k.local
 unfolding before
-chain_looks ok s x (links.len_tail none) is goes = let same = same_call x goes in let z = late_same s.tail in subst (λ y. before s.tail y.local < 3) same (omega (arith, z))
-chain_looks ok s x (links.len_head t none small low) is goes = let same = same_call x goes in subst (λ y. before s.tail y.local < 2 + late s.tail t) same (omega arith)
-chain_looks ok s x (links.len_again t h none small seen) is goes = again s.tail t _ _ _ x (λ e. cc) (λ e. ap (λ y. before s.tail y.local) (sym (same_call x e))) goes
+chain_looks ok s x (links.count_tail l count none) is goes = let same = same_call x goes in let z = late_same s.tail in subst (λ y. before s.tail y.local < 3) same (omega (arith, z))
+chain_looks ok s x (links.count_head l t count none small low) is goes = let same = same_call x goes in subst (λ y. before s.tail y.local < 2 + late s.tail t) same (omega arith)
+chain_looks ok s x (links.count_again l t h count none small seen) is goes = again s.tail t _ _ _ x (λ e. cc) (λ e. ap (λ y. before s.tail y.local) (sym (same_call x e))) goes
 chain_looks ok s x _ is goes = absurd is
 
 pub len_waits : (T : Type 0) → LenWaitsForNobody T

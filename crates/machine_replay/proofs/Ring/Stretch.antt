@@ -16,7 +16,7 @@ use Rattle.law_common.specs.Stand.{Stand}
 use Rattle.machine_replay.proofs.Engine.StandOf.{running_of}
 use Rattle.law_ring.specs.RingShared as ring
 use Rattle.law_ring.specs.RingCells.{Cell, Free, Written, Read, Coming, Swapped, Ring, RingOk, CellOk, owner, queue_of}
-use Rattle.law_ring.specs.RingAt.{At, push_stamp, claiming, filling, push_head, displacing, arriving, swapping, pop_stamp, taking, emptying, pop_tail, len_head, len_again}
+use Rattle.law_ring.specs.RingAt.{At, push_stamp, claiming, filling, push_head, displacing, arriving, swapping, pop_stamp, taking, emptying, pop_tail, count_head, count_again}
 use Rattle.law_ring.proofs.RingStart.{holds_none}
 use Rattle.law_ring.specs.RingOpening.{opening_ring}
 use Rattle.law_ring.specs.RingWords.{Codes, stamp_in}
@@ -146,8 +146,8 @@ falls_at {cap = cap} ok s x (displacing v t h none saw back full) fine codes qui
 falls_at ok s x (pop_stamp h none low) fine codes quiet goes less = near_falls _ _ less (either_small (h == s.head) 3 6 6 (omega arith) (omega arith))
 falls_at ok s x (taking h none low full) fine codes quiet goes less = near_falls _ _ less (either_small (h == s.head) 2 4 6 (omega arith) (omega arith))
 falls_at ok s x (pop_tail h none low free) fine codes quiet goes less = near_falls _ _ less (either_small (position_of s.tail == h) 1 5 6 (omega arith) (omega arith))
-falls_at ok s x (len_head t none low) fine codes quiet goes less = near_falls _ _ less (either_small _ 2 5 6 (omega arith) (omega arith))
-falls_at ok s x (len_again t h none seen) fine codes quiet goes less = near_falls _ _ less (either_small _ 1 4 6 (omega arith) (omega arith))
+falls_at ok s x (count_head l t count none low) fine codes quiet goes less = near_falls _ _ less (either_small _ 2 5 6 (omega arith) (omega arith))
+falls_at ok s x (count_again l t h count none seen) fine codes quiet goes less = near_falls _ _ less (either_small _ 1 4 6 (omega arith) (omega arith))
 falls_at ok s x _ fine codes quiet goes less = near_falls _ _ less (omega arith)
 
 module _ {A : Type 0} (cap : ℕ) where

@@ -1,6 +1,6 @@
 -- Every call on a chain of blocks ends with its reply.
 use Rattle.std.specs.Prelude.{◌==◌}
-use Rattle.std.proofs.Common.{◌≡◌, ℕ, ◌-◌, ◌%◌, ◌<◌, Bool, true, false, List, [], ◌∷◌, length, Option, None, refl, arith, sym, ap}
+use Rattle.std.proofs.Common.{◌≡◌, ℕ, ◌-◌, ◌%◌, ◌<◌, Bool, true, false, List, [], ◌∷◌, length, Option, None, refl, arith, ap}
 use Rattle.queue_steps.specs.declared.sizes.TheConstants.{BLOCK_SLOTS, SOLO_STEPS}
 use Rattle.queue_steps.specs.declared.model.Call.{Call}
 use Rattle.queue_steps.specs.declared.model.Call.TheVariants as call
@@ -13,7 +13,9 @@ use Rattle.queue_steps.specs.declared.steps.types.Touch.TheVariants as touch
 use Rattle.queue_steps.specs.declared.steps.bounded.TheConstants.{MARK}
 use Rattle.queue_steps.specs.declared.steps.bounded.PushKind.TheVariants as push_kind
 use Rattle.queue_steps.specs.declared.steps.unbounded.UnboundedLocal.TheVariants as chain
-use Rattle.queue_steps.specs.Looks.{look_reply}
+use Rattle.queue_steps.specs.Looks.{call_of_glance, glance_reply}
+use Rattle.queue_steps.specs.declared.steps.looks.Glance.{Glance}
+use Rattle.queue_steps.proofs.LookLaws.{glance_filled, glance_table}
 use Rattle.queue_steps.specs.Replies.{is_empty}
 use Rattle.queue_steps.specs.Words.{position_of, is_shut}
 use Rattle.queue_steps.specs.ChainWords.{offset_at, over_end}
@@ -22,7 +24,7 @@ use Rattle.own_unbounded.specs.declared.unbounded.Name.{Name}
 use Rattle.own_bounded.specs.Laws.Numbers.{same_nat, equal_nat, apart_nat, is_even}
 use Rattle.own_unbounded.specs.OwnChainCells.{OwnChain, own_chain_touches}
 use Rattle.own_unbounded.specs.OwnChainOwned.{taken, accepted, own_chain_queue, IsIdle}
-use Rattle.own_unbounded.specs.Laws.OwnChainRuns.{bare_step}
+use Rattle.own_unbounded.specs.Laws.OwnChainRuns.{bare_step, OwnChainEnds}
 use Rattle.own_unbounded.specs.Laws.OwnChainLeaves.{marked, idle-marked, queue-marked, tail-word, head-word}
 use Rattle.own_unbounded.specs.Laws.OwnChainSequential.{Right, OwnChainAnswers, sequential, length-items}
 use Rattle.own_unbounded.specs.Laws.OwnChainPushes.{push-answers}
@@ -66,16 +68,17 @@ is_empty-answers {T} r i = (
     is : (xs : List T) → length xs ≡ accepted r - taken r → met r ≡ is_empty xs
     is xs long = rw (unmoved (position_of r.tail) i.tail_rests, unmoved (position_of r.head) i.head_rests) (same xs long)
 
-len-answers : {T : Type 0} (r : OwnChain T) → IsIdle r → OwnChainAnswers r call.Len
-len-answers r i =
-    let again : (r.tail == r.tail) ≡ true = same_nat r.tail in (
-      tt,
-      bare_step (SOLO_STEPS - 1) chain.LenTail (op.Load word.Tail) r r None (answer.Found r.tail) (loads (chain.LenHead r.tail) word.Head) (Right call.Len r) tt (λ x y e. e) refl tt refl
-          (bare_step (SOLO_STEPS - 2) (chain.LenHead r.tail) (op.Load word.Head) r r None (answer.Found r.head) (loads (chain.LenAgain r.tail r.head) word.Tail) (Right call.Len r) tt (λ x y e. e) refl tt refl
-          (bare_step (SOLO_STEPS - 3) (chain.LenAgain r.tail r.head) (op.Load word.Tail) r r None (answer.Found r.tail) (ends (reply.Len (accepted r - taken r))) (Right call.Len r) tt (λ x y e. e) refl
-          (tail-word r i, head-word r i, λ e. i.order) (rw again refl)
-          (i, (reply.Len (accepted r - taken r), refl, sequential r r call.Len (reply.Len (accepted r - taken r)) i (ap reply.Len (sym (length-items r i))) refl (λ x. refl))))),
-    )
+-- a call that counts the items
+counted : {T : Type 0} (r : OwnChain T) (g : Glance) → IsIdle r → OwnChainEnds SOLO_STEPS (loads (chain.CountTail g) word.Tail) r None (Right (call_of_glance g) r)
+counted {T} r g i =
+    let again : (r.tail == r.tail) ≡ true = same_nat r.tail in
+    let many : ℕ = accepted r - taken r in
+    let table = glance_table (own_chain_queue r) None many g refl (length-items r i) in
+    bare_step (SOLO_STEPS - 1) (chain.CountTail g) (op.Load word.Tail) r r None (answer.Found r.tail) (loads (chain.CountHead g r.tail) word.Head) (Right (call_of_glance g) r) tt (λ x y e. e) refl tt refl
+    (bare_step (SOLO_STEPS - 2) (chain.CountHead g r.tail) (op.Load word.Head) r r None (answer.Found r.head) (loads (chain.CountAgain g r.tail r.head) word.Tail) (Right (call_of_glance g) r) tt (λ x y e. e) refl tt refl
+    (bare_step (SOLO_STEPS - 3) (chain.CountAgain g r.tail r.head) (op.Load word.Tail) r r None (answer.Found r.tail) (ends (glance_reply None many g)) (Right (call_of_glance g) r) tt (λ x y e. e) refl
+    (tail-word r i, head-word r i, λ e. i.order) (rw again refl)
+    (i, (glance_reply None many g, glance_filled T None many g, sequential r r (call_of_glance g) (glance_reply None many g) i table.0 table.1 (λ x. refl)))))
 
 pub own_chain_answers : {T : Type 0} (r : OwnChain T) (c : Call T) → IsIdle r → OwnChainAnswers r c
 own_chain_answers r (call.Push v) i = (tt, push-answers r v push_kind.Push i)
@@ -84,8 +87,9 @@ own_chain_answers r call.Pop i = (tt, pop-answers r i)
 own_chain_answers r call.Close i = close-answers r i
 own_chain_answers r call.IsClosed i = is_closed-answers r i
 own_chain_answers r call.IsEmpty i = is_empty-answers r i
-own_chain_answers r call.Len i = len-answers r i
-own_chain_answers r look i = (tt, (i, (look_reply (own_chain_queue r) look, refl, sequential r r look (look_reply (own_chain_queue r) look) i refl refl (λ x. refl))))
+own_chain_answers r call.IsFull i = (tt, (i, (reply.IsFull false, refl, sequential r r call.IsFull (reply.IsFull false) i refl refl (λ x. refl))))
+own_chain_answers r call.Capacity i = (tt, (i, (reply.Capacity None, refl, sequential r r call.Capacity (reply.Capacity None) i refl refl (λ x. refl))))
+own_chain_answers r count i = (tt, counted r _ i)
 
 pub own_chain_stays : {T : Type 0} (r : OwnChain T) (o : Op (Name T)) (carried : Option T) → own_chain_touches r touch.Nothing o carried r carried
 own_chain_stays r o carried = refl

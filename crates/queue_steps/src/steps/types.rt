@@ -139,15 +139,6 @@ impl<B: Copy> Clone for Answer<B> {
     }
 }
 
-/// A call that looks at the queue and changes nothing.
-#[derive(Clone, Copy, PartialEq)]
-pub enum Look {
-    IsClosed,
-    IsEmpty,
-    IsFull,
-    Len,
-}
-
 /// Where a call stands: what it asked last, and what it has to remember.
 #[derive(Copy, Drop)]
 pub enum Local<B> {

@@ -72,7 +72,7 @@ module _ {B C : Type 0} (f : B → C) where
   unbounded_next_map (chain.Reading b i) (Found x) fits = if_map (not (bit_and x DESTROY == 0)) _ _ _ _ (walks_on_map b i) refl
   unbounded_next_map (chain.Walking b i) (Found x) fits = if_map (not (bit_and x READ == 0)) _ _ _ _ (walks_on_map b i) refl
   unbounded_next_map (chain.Destroying b i) (Found x) fits = if_map (not (bit_and x READ == 0)) _ _ _ _ (walks_on_map b i) refl
-  unbounded_next_map (chain.LenAgain t h) (Found x) fits = if_map (x == t) _ _ _ _ refl refl
+  unbounded_next_map (chain.CountAgain g t h) (Found x) fits = if_map (x == t) _ _ _ _ refl refl
   unbounded_next_map l (Found x) fits = refl
   unbounded_next_map l a fits = refl
 

@@ -4,7 +4,7 @@ use denote.RawPtr.{Ptr}
 use Rattle.queue_steps.specs.State.{State}
 use Rattle.law_common.specs.Stand.{Stand}
 use Rattle.law_chain.specs.ChainCells.{ChainOk}
-use Rattle.law_chain.specs.ChainAt.{At, push_tail, push_block, asking, installing, showing, claiming, laying, opening, chaining, writing, spending, pop_head, pop_block, pop_tail, taking, following, peeking, passing, entering, awaiting, reading, beginning, walking, destroying, len_tail, len_head, len_again, empty_head, empty_tail, closing, closed_tail}
+use Rattle.law_chain.specs.ChainAt.{At, push_tail, push_block, asking, installing, showing, claiming, laying, opening, chaining, writing, spending, pop_head, pop_block, pop_tail, taking, following, peeking, passing, entering, awaiting, reading, beginning, walking, destroying, count_tail, count_head, count_again, empty_head, empty_tail, closing, closed_tail}
 use Rattle.mem_blocks.specs.Web.{Block, Sitter}
 use Rattle.shared_parties.specs.declared.known.CallState.{CallState}
 use Rattle.shared_parties.specs.Calling.{touched_list}
@@ -12,7 +12,7 @@ use Rattle.shared_chain.specs.ChainCalls.{OutChain, SlotsAs, ChainLent}
 use Rattle.shared_chain.specs.Rule.{Codes}
 use Rattle.shared_chain.specs.Steps.{HoldsBy, BlockStep}
 use Rattle.shared_chain.proofs.CallLaws.{OnBlocks}
-use Rattle.shared_chain.proofs.Steps.Loads.{step_push_tail, step_closed_tail, step_pop_tail, step_empty_tail, step_len_tail, step_len_again, step_pop_head, step_len_head, step_empty_head}
+use Rattle.shared_chain.proofs.Steps.Loads.{step_push_tail, step_closed_tail, step_pop_tail, step_empty_tail, step_count_tail, step_count_again, step_pop_head, step_count_head, step_empty_head}
 use Rattle.shared_chain.proofs.Steps.Marking.{step_opening, step_spending, step_closing}
 use Rattle.shared_chain.proofs.Steps.Taking.{step_taking}
 use Rattle.shared_chain.proofs.Steps.Claiming.{step_claiming}
@@ -30,10 +30,10 @@ block_steps te he g who bs m {ms = ms} (push_tail d x spare none spare_is) on ok
 block_steps te he g who bs m {ms = ms} (closed_tail none) on ok wrote codes slots xs lent held = step_closed_tail te he g who bs m ms none codes xs lent held
 block_steps te he g who bs m {ms = ms} (pop_tail n block none is front) on ok wrote codes slots xs lent held = step_pop_tail te he g who bs m ms n block none is front codes xs lent held
 block_steps te he g who bs m {ms = ms} (empty_tail h none small saw) on ok wrote codes slots xs lent held = step_empty_tail te he g who bs m ms h none small saw codes xs lent held
-block_steps te he g who bs m {ms = ms} (len_tail none) on ok wrote codes slots xs lent held = step_len_tail te he g who bs m ms none codes xs lent held
-block_steps te he g who bs m {ms = ms} (len_again w h none small seen) on ok wrote codes slots xs lent held = step_len_again te he g who bs m ms w h none small seen codes xs lent held
+block_steps te he g who bs m {ms = ms} (count_tail l count none) on ok wrote codes slots xs lent held = step_count_tail te he g who bs m ms l count none codes xs lent held
+block_steps te he g who bs m {ms = ms} (count_again l w h count none small seen) on ok wrote codes slots xs lent held = step_count_again te he g who bs m ms l w h count none small seen codes xs lent held
 block_steps te he g who bs m {ms = ms} (pop_head none) on ok wrote codes slots xs lent held = step_pop_head te he g who bs m ms none codes xs lent held
-block_steps te he g who bs m {ms = ms} (len_head w none small low) on ok wrote codes slots xs lent held = step_len_head te he g who bs m ms w none small low codes xs lent held
+block_steps te he g who bs m {ms = ms} (count_head l w count none small low) on ok wrote codes slots xs lent held = step_count_head te he g who bs m ms l w count none small low codes xs lent held
 block_steps te he g who bs m {ms = ms} (empty_head none) on ok wrote codes slots xs lent held = step_empty_head te he g who bs m ms none codes xs lent held
 block_steps te he g who bs m {ms = ms} (opening d x n name f holds mine opens links named) on ok wrote codes slots xs lent held = step_opening te he g who bs m ms d x n name f holds mine opens links named ok codes slots xs lent held
 block_steps te he g who bs m {ms = ms} (spending d x spare none spare_is spent) on ok wrote codes slots xs lent held = step_spending te he g who bs m ms d x spare none spare_is spent codes xs lent held

@@ -2,8 +2,9 @@
 use Rattle.std.proofs.Common.{ℕ, ◌≡◌, ◌≤◌, inl, inr, false, Option, Some, None, List, refl, ap}
 use Rattle.std.proofs.lemmas.Bool.Decides.{eqb_tells}
 use denote.RawPtr.{Ptr}
-use Rattle.law_common.specs.Vocabulary.{Call, Effect, Word, Op, Touch, Answer, Local, PushKind, BLOCK_SLOTS}
+use Rattle.law_common.specs.Vocabulary.{Call, Effect, Word, Op, Touch, Answer, Local, PushKind, BLOCK_SLOTS, Glance}
 use Rattle.queue_steps.specs.State.{State}
+use Rattle.queue_steps.specs.Looks.{IsCount}
 use Rattle.queue_steps.specs.Words.{IsWord, position_of}
 use Rattle.queue_steps.specs.ChainWords.{block_at, offset_of, items_before}
 use Rattle.queue_steps.specs.UnboundedNext.{unbounded_next, chain_tail_found, chain_pop_tail_found, chain_head_found}
@@ -12,7 +13,7 @@ use Rattle.law_common.specs.Moments.{SeenIn, HeadWas}
 use Rattle.law_common.specs.Stand.{stand}
 use Rattle.law_chain.specs.ChainCells.{HoldsOnly, Nothing}
 use Rattle.law_chain.specs.ChainFacts.{head_of, HasSpare, HeadIs, HeadBlockRead, SawEmpty}
-use Rattle.law_chain.specs.ChainAt.{At, push_tail, pop_head, pop_tail, len_tail, len_head, len_again, empty_head, empty_tail, closed_tail}
+use Rattle.law_chain.specs.ChainAt.{At, push_tail, pop_head, pop_tail, count_tail, count_head, count_again, empty_head, empty_tail, closed_tail}
 use Rattle.law_chain.specs.ChainAnswers.{Answers}
 use Rattle.law_chain.specs.ChainPasses.{spare_in}
 use Rattle.law_chain.proofs.ChainPush.{tail_ways}
@@ -39,8 +40,8 @@ pop_spare h (Some b) x = elim (eqb_tells (position_of x) (position_of h)) [
   | inr t ↦ elim (eqb_tells (block_at (position_of x)) (block_at (position_of h))) [ inl u ↦ rw (t.0, u.0) refl | inr u ↦ rw (t.0, u.0) refl ]
 ]
 
-again_spare : (t h x : ℕ) → spare_on (unbounded_next (chain.LenAgain t h) (Answer.Found x)) ≡ None
-again_spare t h x = elim (eqb_tells x t) [ inl e ↦ rw (e.0) refl | inr e ↦ rw (e.0) refl ]
+again_spare : (g : Glance) (t h x : ℕ) → spare_on (unbounded_next (chain.CountAgain g t h) (Answer.Found x)) ≡ None
+again_spare g t h x = elim (eqb_tells x t) [ inl e ↦ rw (e.0) refl | inr e ↦ rw (e.0) refl ]
 
 module _ {A : Type 0} (te he : Ptr) (g : OutChain A) (who : ℕ) (bs : List (Block A)) (m : Sitter A (CallState A)) (ms : List (State A)) where
   -- the load of the first word of the block k, which is the word w
@@ -81,23 +82,23 @@ module _ {A : Type 0} (te he : Ptr) (g : OutChain A) (who : ℕ) (bs : List (Blo
       → BlockStep te he g who bs m {ms = ms} (empty_tail h none small saw)
   step_empty_tail h none small saw = load_tail (empty_tail h none small saw) refl none refl
 
-  pub step_len_tail : (none : HoldsOnly g.chain who Nothing)
-      → Codes te he g bs → (xs : List (ℕ × Option A)) → ChainLent g who xs → HoldsBy (Local.Unbounded chain.LenTail) (Op.Load Word.Tail) xs m → BlockStep te he g who bs m {ms = ms} (len_tail none)
-  step_len_tail none = load_tail (len_tail none) refl none refl
+  pub step_count_tail : (l : Glance) (count : IsCount A l) (none : HoldsOnly g.chain who Nothing)
+      → Codes te he g bs → (xs : List (ℕ × Option A)) → ChainLent g who xs → HoldsBy (Local.Unbounded (chain.CountTail l)) (Op.Load Word.Tail) xs m → BlockStep te he g who bs m {ms = ms} (count_tail l count none)
+  step_count_tail l count none = load_tail (count_tail l count none) refl none refl
 
-  pub step_len_again : (t h : ℕ) (none : HoldsOnly g.chain who Nothing) (small : IsWord t × IsWord h) (seen : SeenIn ms (HeadWas (items_before (position_of h)) (items_before (position_of t)) g.chain.tail))
-      → Codes te he g bs → (xs : List (ℕ × Option A)) → ChainLent g who xs → HoldsBy (Local.Unbounded (chain.LenAgain t h)) (Op.Load Word.Tail) xs m
-      → BlockStep te he g who bs m {ms = ms} (len_again t h none small seen)
-  step_len_again t h none small seen = load_tail (len_again t h none small seen) refl none (again_spare t h (word_of bs 0 0))
+  pub step_count_again : (l : Glance) (t h : ℕ) (count : IsCount A l) (none : HoldsOnly g.chain who Nothing) (small : IsWord t × IsWord h) (seen : SeenIn ms (HeadWas None (items_before (position_of h)) (items_before (position_of t)) g.chain.tail))
+      → Codes te he g bs → (xs : List (ℕ × Option A)) → ChainLent g who xs → HoldsBy (Local.Unbounded (chain.CountAgain l t h)) (Op.Load Word.Tail) xs m
+      → BlockStep te he g who bs m {ms = ms} (count_again l t h count none small seen)
+  step_count_again l t h count none small seen = load_tail (count_again l t h count none small seen) refl none (again_spare l t h (word_of bs 0 0))
 
   pub step_pop_head : (none : HoldsOnly g.chain who Nothing)
       → Codes te he g bs → (xs : List (ℕ × Option A)) → ChainLent g who xs → HoldsBy (Local.Unbounded chain.PopHead) (Op.Load Word.Head) xs m → BlockStep te he g who bs m {ms = ms} (pop_head none)
   step_pop_head none = load_head (pop_head none) refl none (head_spare (word_of bs 1 0))
 
-  pub step_len_head : (t : ℕ) (none : HoldsOnly g.chain who Nothing) (small : IsWord t) (low : items_before (position_of t) ≤ g.chain.tail)
-      → Codes te he g bs → (xs : List (ℕ × Option A)) → ChainLent g who xs → HoldsBy (Local.Unbounded (chain.LenHead t)) (Op.Load Word.Head) xs m
-      → BlockStep te he g who bs m {ms = ms} (len_head t none small low)
-  step_len_head t none small low = load_head (len_head t none small low) refl none refl
+  pub step_count_head : (l : Glance) (t : ℕ) (count : IsCount A l) (none : HoldsOnly g.chain who Nothing) (small : IsWord t) (low : items_before (position_of t) ≤ g.chain.tail)
+      → Codes te he g bs → (xs : List (ℕ × Option A)) → ChainLent g who xs → HoldsBy (Local.Unbounded (chain.CountHead l t)) (Op.Load Word.Head) xs m
+      → BlockStep te he g who bs m {ms = ms} (count_head l t count none small low)
+  step_count_head l t count none small low = load_head (count_head l t count none small low) refl none refl
 
   pub step_empty_head : (none : HoldsOnly g.chain who Nothing)
       → Codes te he g bs → (xs : List (ℕ × Option A)) → ChainLent g who xs → HoldsBy (Local.Unbounded chain.EmptyHead) (Op.Load Word.Head) xs m → BlockStep te he g who bs m {ms = ms} (empty_head none)

@@ -9,6 +9,7 @@ use Rattle.queue_steps.specs.State.{State}
 use Rattle.queue_steps.specs.Kinds.{call_kind}
 use Rattle.queue_steps.specs.Next.{CanNext, next_of}
 use Rattle.queue_steps.specs.SingleNext.{single_begin}
+use Rattle.queue_steps.specs.Looks.{call_of_look}
 use Rattle.queue_steps.specs.WaitFree.{is_wait_free, EndsBefore, EndsWaitFree}
 use Rattle.law_common.specs.Effects.{Leads, with_effect, MayFront}
 use Rattle.law_common.specs.Stand.{Stand, stand}
@@ -32,11 +33,10 @@ ends_next : (l : SingleLocal) → ((n : ℕ) → EndsBefore {B = ℕ} 2 Kind.Sin
 ends_next l ends (Answer.Found n) can = ends n
 ends_next l ends a can = absurd can
 
--- where those calls begin; a length takes one step too, and is no wait-free call
+-- where those calls begin; a look that is not wait-free takes one step here too
 abbrev is_quick : SingleLocal → Bool
 is_quick Closing = true
-is_quick (Looking Look.Len) = false
-is_quick (Looking look) = true
+is_quick (Looking look) = is_wait_free (call_of_look {T = Unit} look)
 is_quick _ = false
 
 quick_ends : (l : SingleLocal) → is_quick l ≡ true → (a : Answer ℕ) → CanNext Kind.Single (Local.Single l) a → EndsBefore {B = ℕ} 2 Kind.Single (next_of Kind.Single (Local.Single l) a)

@@ -3,6 +3,3 @@ use Rattle.each_step.proofs.unbounded.begin.Goals as goal
 
 pub returns-in-Push : goal.returns-in-Push
 returns-in-Push g c = search rules
-
-pub returns-in-ForcePush : goal.returns-in-ForcePush
-returns-in-ForcePush g c = search rules
