@@ -110,14 +110,14 @@ fn next_look<B: Copy>(cap: u64, local: BoundedLocal, answer: Answer<B>) -> Next<
     ensures { result ≡ bounded_next cap local answer }
 {
     match (local, answer) {
-        (BoundedLocal::CountTail(glance), Answer::Found(tail)) => {
-            load(BoundedLocal::CountHead(glance, tail), Word::Head)
+        (BoundedLocal::CountTail(look), Answer::Found(tail)) => {
+            load(BoundedLocal::CountHead(look, tail), Word::Head)
         }
-        (BoundedLocal::CountHead(glance, tail), Answer::Found(head)) => {
-            load(BoundedLocal::CountAgain(glance, tail, head), Word::Tail)
+        (BoundedLocal::CountHead(look, tail), Answer::Found(head)) => {
+            load(BoundedLocal::CountAgain(look, tail, head), Word::Tail)
         }
-        (BoundedLocal::CountAgain(glance, tail, head), Answer::Found(again)) => {
-            looking::after_count(cap, glance, tail, head, again)
+        (BoundedLocal::CountAgain(look, tail, head), Answer::Found(again)) => {
+            looking::after_count(cap, look, tail, head, again)
         }
         (BoundedLocal::EmptyHead, Answer::Found(head)) => {
             load(BoundedLocal::EmptyTail(head), Word::Tail)

@@ -259,14 +259,14 @@ fn next_look<B: Copy>(local: UnboundedLocal<B>, answer: Answer<B>) -> Next<B>
     ensures { result ≡ unbounded_next local answer }
 {
     match (local, answer) {
-        (UnboundedLocal::CountTail(glance), Answer::Found(tail)) => {
-            load(UnboundedLocal::CountHead(glance, tail), Word::Head)
+        (UnboundedLocal::CountTail(look), Answer::Found(tail)) => {
+            load(UnboundedLocal::CountHead(look, tail), Word::Head)
         }
-        (UnboundedLocal::CountHead(glance, tail), Answer::Found(head)) => {
-            load(UnboundedLocal::CountAgain(glance, tail, head), Word::Tail)
+        (UnboundedLocal::CountHead(look, tail), Answer::Found(head)) => {
+            load(UnboundedLocal::CountAgain(look, tail, head), Word::Tail)
         }
-        (UnboundedLocal::CountAgain(glance, tail, head), Answer::Found(again)) => {
-            looking::after_count(glance, tail, head, again)
+        (UnboundedLocal::CountAgain(look, tail, head), Answer::Found(again)) => {
+            looking::after_count(look, tail, head, again)
         }
         (UnboundedLocal::EmptyHead, Answer::Found(head)) => {
             load(UnboundedLocal::EmptyTail(head), Word::Tail)

@@ -6,7 +6,7 @@ ghost use Rattle.queue_steps.specs.BoundedNext.{at, loads, ring_look, bounded_be
 use queue_steps::errors::{ForcePushError, PushError};
 use queue_steps::model::{CallKind, Reply, ReplyKind};
 use queue_steps::steps::{
-    BoundedLocal, CallView, Glance, Local, Look, MARK, Next, Op, PushKind, Touch, Word,
+    BoundedLocal, CallView, Local, Look, MARK, Next, Op, PushKind, Touch, Word,
 };
 
 pub mod looking;
@@ -42,16 +42,16 @@ pub fn load<B: Copy>(local: BoundedLocal, word: Word<B>) -> Next<B>
     step(local, Touch::Nothing, Op::Load(word))
 }
 
-/// The first step of a look. Two loads tell whether the ring is empty or full; any other glance counts the items.
+/// The first step of a look. Two loads tell whether the ring is empty or full; any other look counts the items.
 #[inline(always)]
 fn look<B: Copy>(look: Look) -> Next<B>
     ensures { result ≡ ring_look look }
 {
     match look {
         Look::IsClosed => load(BoundedLocal::ClosedTail, Word::Tail),
-        Look::Glance(Glance::IsEmpty) => load(BoundedLocal::EmptyHead, Word::Head),
-        Look::Glance(Glance::IsFull) => load(BoundedLocal::FullTail, Word::Tail),
-        Look::Glance(glance) => load(BoundedLocal::CountTail(glance), Word::Tail),
+        Look::IsEmpty => load(BoundedLocal::EmptyHead, Word::Head),
+        Look::IsFull => load(BoundedLocal::FullTail, Word::Tail),
+        counted => load(BoundedLocal::CountTail(counted), Word::Tail),
     }
 }
 

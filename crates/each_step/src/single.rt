@@ -105,10 +105,11 @@ pub fn begin<B: Copy>(call: CallKind) -> Next<B>
 fn seen(look: Look, word: u64) -> ReplyKind
     ensures { result ≡ seen_reply look word }
 {
-    match look {
-        Look::IsClosed => Reply::IsClosed(is_closed(word)),
-        Look::Glance(glance) => glance.reply(Some(1), if is_pushed(word) { 1 } else { 0 }),
-    }
+    look.reply(
+        Some(1),
+        if is_pushed(word) { 1 } else { 0 },
+        is_closed(word),
+    )
 }
 
 /// What follows the word that the exchange of a push found.

@@ -9,7 +9,7 @@ ghost use Rattle.queue_steps.specs.UnboundedNext.{at, loads, chain_look, unbound
 use queue_steps::model::{CallKind, Reply};
 use queue_steps::sizes::{BLOCK_POSITIONS, BLOCK_SLOTS};
 use queue_steps::steps::{
-    CallView, Glance, Local, Look, MARK, Next, Op, TAIL_STEP, Touch, UnboundedLocal, Word,
+    CallView, Local, Look, MARK, Next, Op, TAIL_STEP, Touch, UnboundedLocal, Word,
 };
 use queue_steps::words::position_of;
 
@@ -80,16 +80,16 @@ pub fn load<B: Copy>(local: UnboundedLocal<B>, word: Word<B>) -> Next<B>
     step(local, Touch::Nothing, Op::Load(word))
 }
 
-/// The first step of a look. Two loads tell whether the chain is empty, and it is never full; any other glance counts the items.
+/// The first step of a look. Two loads tell whether the chain is empty, and it is never full; any other look counts the items.
 #[inline(always)]
 fn look<B: Copy>(look: Look) -> Next<B>
     ensures { result ≡ chain_look look }
 {
     match look {
         Look::IsClosed => load(UnboundedLocal::ClosedTail, Word::Tail),
-        Look::Glance(Glance::IsEmpty) => load(UnboundedLocal::EmptyHead, Word::Head),
-        Look::Glance(Glance::IsFull) => Next::Reply(Reply::IsFull(false), None),
-        Look::Glance(glance) => load(UnboundedLocal::CountTail(glance), Word::Tail),
+        Look::IsEmpty => load(UnboundedLocal::EmptyHead, Word::Head),
+        Look::IsFull => Next::Reply(Reply::IsFull(false), None),
+        counted => load(UnboundedLocal::CountTail(counted), Word::Tail),
     }
 }
 

@@ -2,7 +2,7 @@
 use Rattle.std.proofs.Common.{ℕ, ◌≡◌, inl, true, false, Some, List, [], refl, sym}
 use Rattle.queue_steps.specs.State.{State}
 use Rattle.queue_steps.specs.Kinds.{call_value}
-use Rattle.queue_steps.proofs.LookLaws.{glance_value}
+use Rattle.queue_steps.proofs.LookLaws.{look_value}
 use Rattle.law_common.specs.Vocabulary.{PushKind}
 use Rattle.law_common.specs.Pushes.{pushes}
 use Rattle.law_common.specs.Stand.{Stand}
@@ -28,9 +28,9 @@ early is (pop_head none) = (refl, none, tt, refl)
 early is (pop_block n more none front there) = (refl, none, tt, refl)
 early is (pop_tail n block none front read) = (refl, none, tt, refl)
 early is (taking n name after more new none front there low word_is room) = (refl, none, tt, refl)
-early {A} is (count_tail g count none) = (refl, none, tt, sym (glance_value A g))
-early {A} is (count_head g t count none word low) = (refl, none, tt, sym (glance_value A g))
-early {A} is (count_again g t h count none words seen) = (refl, none, tt, sym (glance_value A g))
+early {A} is (count_tail g count none) = (refl, none, tt, sym (look_value A g))
+early {A} is (count_head g t count none word low) = (refl, none, tt, sym (look_value A g))
+early {A} is (count_again g t h count none words seen) = (refl, none, tt, sym (look_value A g))
 early is (empty_head none) = (refl, none, tt, refl)
 early is (empty_tail h none word saw) = (refl, none, tt, refl)
 early is (closing none) = (refl, none, tt, refl)

@@ -6,9 +6,9 @@ use Rattle.queue_steps.specs.State.{State}
 use Rattle.queue_steps.specs.Words.{IsWord, position_of, is_shut, tail_of}
 use Rattle.queue_steps.specs.ChainWords.{items_before}
 use Rattle.queue_steps.specs.UnboundedNext.{unbounded_next}
-use Rattle.queue_steps.specs.Looks.{call_of_glance, glance_reply, IsCount}
-use Rattle.queue_steps.proofs.LookLaws.{glance_filled, glance_tells, glance_right}
-use Rattle.law_common.specs.Vocabulary.{Call, Reply, Effect, Answer, Glance}
+use Rattle.queue_steps.specs.Looks.{call_of_look, reply_of_look, IsCount}
+use Rattle.queue_steps.proofs.LookLaws.{reply_filled, reply_tells, reply_right, count_waits}
+use Rattle.law_common.specs.Vocabulary.{Call, Reply, Effect, Answer, Look}
 use Rattle.queue_steps.specs.declared.steps.unbounded.UnboundedLocal.TheVariants as chain
 use Rattle.law_common.proofs.Tails.{shut_tail}
 use Rattle.law_common.specs.Moments.{SeenIn, HeadWas, HasItems}
@@ -27,20 +27,20 @@ good_closed_tail c who ms ok none =
     still c who ms chain.ClosedTail None Call.IsClosed [] (Answer.Found (tail_word c)) refl ok tt
     (none, tt, (Reply.IsClosed (is_shut (tail_word c)), refl, refl, λ e. inl (inl (shut_tail (tail_place c.tail c.mover) c.closed))))
 
-pub good_count_tail : {A : Type 0} (c : Chain A) (who : ℕ) (ms : List (State A)) (g : Glance) → ChainOk c → IsCount A g → HoldsOnly c who Nothing → StepOk c c who ms (chain.CountTail g) None (call_of_glance g) [] (Answer.Found (tail_word c))
+pub good_count_tail : {A : Type 0} (c : Chain A) (who : ℕ) (ms : List (State A)) (g : Look) → ChainOk c → IsCount A g → HoldsOnly c who Nothing → StepOk c c who ms (chain.CountTail g) None (call_of_look g) [] (Answer.Found (tail_word c))
 good_count_tail c who ms g ok count none =
-    still c who ms (chain.CountTail g) None (call_of_glance g) [] (Answer.Found (tail_word c)) refl ok tt (count_head g (tail_word c) count none (tail_small c ok) (let e = tail_items c ok in omega arith))
+    still c who ms (chain.CountTail g) None (call_of_look g) [] (Answer.Found (tail_word c)) refl ok tt (count_head g (tail_word c) count none (tail_small c ok) (let e = tail_items c ok in omega arith))
 
-pub good_count_head : {A : Type 0} (c : Chain A) (who : ℕ) (ms : List (State A)) (g : Glance) (t : ℕ) → ChainOk c → IsCount A g → HoldsOnly c who Nothing → IsWord t → items_before (position_of t) ≤ c.tail
-    → StepOk c c who ms (chain.CountHead g t) None (call_of_glance g) [] (Answer.Found (head_word c))
+pub good_count_head : {A : Type 0} (c : Chain A) (who : ℕ) (ms : List (State A)) (g : Look) (t : ℕ) → ChainOk c → IsCount A g → HoldsOnly c who Nothing → IsWord t → items_before (position_of t) ≤ c.tail
+    → StepOk c c who ms (chain.CountHead g t) None (call_of_look g) [] (Answer.Found (head_word c))
 good_count_head c who ms g t ok count none small low =
-    still c who ms (chain.CountHead g t) None (call_of_glance g) [] (Answer.Found (head_word c)) refl ok tt
+    still c who ms (chain.CountHead g t) None (call_of_look g) [] (Answer.Found (head_word c)) refl ok tt
     (count_again g t (head_word c) count none (small, head_small c ok) (inl (refl, let e = head_items c ok in let n = ok.count in omega arith, low, omega arith)))
 
-pub good_count_again : {A : Type 0} (c : Chain A) (who : ℕ) (ms : List (State A)) (g : Glance) (t h : ℕ) → ChainOk c → IsCount A g → HoldsOnly c who Nothing → IsWord t × IsWord h → SeenIn ms (HeadWas None (items_before (position_of h)) (items_before (position_of t)) c.tail)
-    → StepOk c c who ms (chain.CountAgain g t h) None (call_of_glance g) [] (Answer.Found (tail_word c))
+pub good_count_again : {A : Type 0} (c : Chain A) (who : ℕ) (ms : List (State A)) (g : Look) (t h : ℕ) → ChainOk c → IsCount A g → HoldsOnly c who Nothing → IsWord t × IsWord h → SeenIn ms (HeadWas None (items_before (position_of h)) (items_before (position_of t)) c.tail)
+    → StepOk c c who ms (chain.CountAgain g t h) None (call_of_look g) [] (Answer.Found (tail_word c))
 good_count_again {A} c who ms g t h ok count none small seen =
-    still c who ms (chain.CountAgain g t h) None (call_of_glance g) [] (Answer.Found (tail_word c)) refl ok (small.0, small.1, λ e. below ms e seen) (go (eqb_tells (tail_word c) t))
+    still c who ms (chain.CountAgain g t h) None (call_of_look g) [] (Answer.Found (tail_word c)) refl ok (small.0, small.1, λ e. below ms e seen) (go (eqb_tells (tail_word c) t))
   where
     at : tail_word c ≡ t → items_before (position_of t) ≡ c.tail
     at e = ap (λ w. items_before (position_of w)) (sym e) ∙ tail_items c ok
@@ -50,10 +50,10 @@ good_count_again {A} c who ms g t h ok count none small seen =
     below (m ∷ ms) e (inl p) = let z = at e in let a = p.1 in let b = p.3 in omega arith
     below (m ∷ ms) e (inr s) = below ms e s
 
-    go : (((tail_word c == t) ≡ true) × (tail_word c ≡ t)) ⊎ (((tail_word c == t) ≡ false) × (tail_word c ≢ t)) → NextOk c who (queue_of c ∷ ms) (unbounded_next (chain.CountAgain g t h) (Answer.Found (tail_word c))) None (call_of_glance g) []
+    go : (((tail_word c == t) ≡ true) × (tail_word c ≡ t)) ⊎ (((tail_word c == t) ≡ false) × (tail_word c ≢ t)) → NextOk c who (queue_of c ∷ ms) (unbounded_next (chain.CountAgain g t h) (Answer.Found (tail_word c))) None (call_of_look g) []
     go (inl e) =
         let many = items_before (position_of t) - items_before (position_of h) in
-        rw e.0 (none, tt, (glance_reply None many g, glance_filled A None many g, glance_tells A None many g, λ z. inr (seen_map ms (λ m p. inl (glance_right m None many g p.0 (let y = at e.1 in let a = p.1 in let b = p.2 in let d = p.3 in omega arith))) seen)))
+        rw e.0 (none, tt, (reply_of_look None many (is_shut t) g, reply_filled A None many (is_shut t) g, reply_tells A None many (is_shut t) g, λ z. inr (seen_map ms (λ m p. inl (reply_right m None many (is_shut t) g p.0 (let y = at e.1 in let a = p.1 in let b = p.2 in let d = p.3 in omega arith) (λ e. absurd (count_waits A g count e)))) seen)))
     go (inr e) = rw e.0 (count_tail g count none)
 
 pub good_empty_head : {A : Type 0} (c : Chain A) (who : ℕ) (ms : List (State A)) → ChainOk c → HoldsOnly c who Nothing → StepOk c c who ms chain.EmptyHead None Call.IsEmpty [] (Answer.Found (head_word c))

@@ -1,11 +1,11 @@
 -- The steps of the walk over a passed block, and of the calls that look, have fewer steps before them while no other party holds a part of the chain.
 use Rattle.std.proofs.Common.{ℕ, ◌+◌, ◌-◌, ◌<◌, ◌≤◌, ◌≡◌, ◌≢◌, ◌==◌, ◌∙◌, Bool, true, false, if◌then◌else◌, nat_lt, Some, None, Ok, List, refl, sym, ap, subst, arith, bit_and}
 use Rattle.std.proofs.lemmas.Bool.{cond_both, ltb-true}
-use Rattle.law_common.specs.Vocabulary.{Glance, Reply, Word, Touch, Answer, Next, BLOCK_SLOTS, READ}
+use Rattle.law_common.specs.Vocabulary.{Look, Reply, Word, Touch, Answer, Next, BLOCK_SLOTS, READ}
 use Rattle.queue_steps.specs.declared.steps.unbounded.UnboundedLocal.TheVariants as chain
-use Rattle.queue_steps.specs.Words.{position_of}
+use Rattle.queue_steps.specs.Words.{position_of, is_shut}
 use Rattle.queue_steps.specs.ChainWords.{items_before}
-use Rattle.queue_steps.specs.Looks.{glance_reply}
+use Rattle.queue_steps.specs.Looks.{reply_of_look}
 use Rattle.queue_steps.specs.UnboundedNext.{ends, loads, walks, walks_on, unbounded_next}
 use Rattle.law_chain.specs.ChainCells.{Writer, Free, Writing, Reader, Unread, Reading, Done, Walker, Chain, ItemOk, WalkOk, item_at, LAST, ChainOk, reader_of}
 use Rattle.law_chain.specs.ChainAnswers.{tail_word, is_done}
@@ -57,6 +57,6 @@ last_claimed c who b slot ok is =
     (at.0, λ e. let z : Done ≡ Unread = sym (at.1.0) ∙ e in cc)
 
 -- Y3: the tail is read again, after the head
-pub count_again_falls : {A : Type 0} (c : Chain A) (g : Glance) (t h : ℕ) → Falls c (unbounded_next (chain.CountAgain g t h) (Answer.Found (tail_word c))) (1 + lag (tail_word c) t 3)
+pub count_again_falls : {A : Type 0} (c : Chain A) (g : Look) (t h : ℕ) → Falls c (unbounded_next (chain.CountAgain g t h) (Answer.Found (tail_word c))) (1 + lag (tail_word c) t 3)
 count_again_falls c g t h =
-    elim (tail_word c == t) as (λ b. Falls c (if b then ends (glance_reply None (items_before (position_of t) - items_before (position_of h)) g) else loads (chain.CountTail g) Word.Tail) (1 + (if b then 0 else 3))) [ true ↦ tt | false ↦ omega arith ]
+    elim (tail_word c == t) as (λ b. Falls c (if b then ends (reply_of_look None (items_before (position_of t) - items_before (position_of h)) (is_shut t) g) else loads (chain.CountTail g) Word.Tail) (1 + (if b then 0 else 3))) [ true ↦ tt | false ↦ omega arith ]

@@ -1,8 +1,8 @@
 -- A party never has a spare but that in its call's hands.
 use Rattle.std.proofs.Common.{ℕ, ◌+◌, ◌/◌, ◌≡◌, ◌==◌, ◌∙◌, inl, inr, zero, suc, Bool, true, false, if◌then◌else◌, Option, Some, None, List, ◌∷◌, refl, sym, subst}
-use Rattle.law_common.specs.Vocabulary.{Call, Effect, Answer, Next, PushKind, BLOCK_SLOTS, Glance}
+use Rattle.law_common.specs.Vocabulary.{Call, Effect, Answer, Next, PushKind, BLOCK_SLOTS, Look}
 use Rattle.queue_steps.specs.State.{State}
-use Rattle.queue_steps.specs.Looks.{call_of_glance}
+use Rattle.queue_steps.specs.Looks.{call_of_look}
 use Rattle.queue_steps.specs.ChainWords.{offset_of}
 use Rattle.queue_steps.specs.UnboundedNext.{unbounded_next, chain_tail_found, tail_block_found, asks, claims, granted, lays, writes}
 use Rattle.queue_steps.specs.declared.steps.unbounded.UnboundedLocal.TheVariants as chain
@@ -33,9 +33,9 @@ abbrev pub SparesAfter : {A : Type 0} → Chain A → ℕ → Next ℕ → Type 
 SparesAfter s who (Next.Step l t o) = Spares s who (spare_in l)
 SparesAfter s who (Next.Reply x spare) = Spares (given_up s spare) who None
 
-glance_is : (A : Type 0) (g : Glance) → is_push (call_of_glance {T = A} g) ≡ false
-glance_is A Glance.Len = refl
-glance_is A g = refl
+look_is : (A : Type 0) (g : Look) → is_push (call_of_look {T = A} g) ≡ false
+look_is A Look.Len = refl
+look_is A g = refl
 
 push_is : {A : Type 0} (d : PushKind) (v : A) → is_push (pushes d v) ≡ true
 push_is PushKind.Push v = refl
@@ -146,7 +146,7 @@ step_spares (opening d x n name f holds mine opens links named) a ok found only 
 step_spares (chaining d x n name f holds mine links named) a ok found only = rw found only
 step_spares {c = c} {who = who} (writing d x n name spare holds mine spare_is) a ok found only = rw ((found (n / BLOCK_SLOTS) mine.named).1) (spares_given (written c n x) who spare only)
 step_spares {c = c} {who = who} (spending d x spare none spare_is spent) a ok found only = rw found (spares_given (marked c) who spare only)
-step_spares {ms = ms} (count_tail g count none) a ok found only = others_step {ms = ms} (count_tail g count none) a ok found (glance_is _ g) only
-step_spares {ms = ms} (count_head g w count none small low) a ok found only = others_step {ms = ms} (count_head g w count none small low) a ok found (glance_is _ g) only
-step_spares (count_again g w h count none small seen) a ok found only = others_step (count_again g w h count none small seen) a ok found (glance_is _ g) only
+step_spares {ms = ms} (count_tail g count none) a ok found only = others_step {ms = ms} (count_tail g count none) a ok found (look_is _ g) only
+step_spares {ms = ms} (count_head g w count none small low) a ok found only = others_step {ms = ms} (count_head g w count none small low) a ok found (look_is _ g) only
+step_spares (count_again g w h count none small seen) a ok found only = others_step (count_again g w h count none small seen) a ok found (look_is _ g) only
 step_spares at a ok found only = others_step at a ok found refl only

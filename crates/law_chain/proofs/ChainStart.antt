@@ -1,11 +1,11 @@
 -- Where a call on a chain begins.
 use Rattle.std.proofs.Common.{ℕ, ◌≡◌, true, false, None, Some, List, [], refl}
-use Rattle.queue_steps.specs.State.{State, start}
+use Rattle.queue_steps.specs.State.{State}
 use Rattle.queue_steps.specs.Kinds.{call_kind, call_value, filled}
-use Rattle.queue_steps.specs.Looks.{has_steps, look_reply}
+use Rattle.queue_steps.specs.Looks.{has_steps}
 use Rattle.queue_steps.specs.Replies.{IsRightAt, Tells}
 use Rattle.queue_steps.specs.UnboundedNext.{unbounded_begin}
-use Rattle.law_common.specs.Vocabulary.{Call, Glance, Reply, Next, Op, Touch, Word, PushKind}
+use Rattle.law_common.specs.Vocabulary.{Call, Reply, Next, Op, Touch, Word, PushKind}
 use Rattle.law_common.specs.Stand.{stand}
 use Rattle.law_chain.specs.ChainCells.{Chain, HoldsOnly, Nothing}
 use Rattle.law_chain.specs.ChainPasses.{spare_in}
@@ -34,5 +34,6 @@ at_begun Call.Pop = (refl, refl, refl, tt, λ c who ms none. pop_head none)
 at_begun Call.Close = (refl, refl, refl, tt, λ c who ms none. closing none)
 at_begun Call.IsClosed = (refl, refl, refl, tt, λ c who ms none. closed_tail none)
 at_begun Call.IsEmpty = (refl, refl, refl, tt, λ c who ms none. empty_head none)
-at_begun Call.Len = (refl, refl, refl, tt, λ c who ms none. count_tail Glance.Len refl none)
-at_begun {A} look = (refl, refl, (look_reply (start {T = A} None 0) look, refl, refl, λ m open_ended. rw open_ended refl))
+at_begun Call.IsFull = (refl, refl, (Reply.IsFull false, refl, refl, λ m open_ended. rw open_ended refl))
+at_begun Call.Capacity = (refl, refl, (Reply.Capacity None, refl, refl, λ m open_ended. rw open_ended refl))
+at_begun look = (refl, refl, refl, tt, λ c who ms none. count_tail _ refl none)

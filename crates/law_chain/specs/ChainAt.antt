@@ -1,8 +1,8 @@
 -- Where a call on a chain stands between its steps, and what it knows there.
 use Rattle.std.proofs.Common.{ℕ, ◌+◌, ◌*◌, ◌/◌, ◌%◌, ◌<◌, ◌≤◌, ◌≡◌, ◌⊎◌, Bool, true, false, if◌then◌else◌, Option, Some, None, IsSome, List, [], ◌∷◌}
-use Rattle.law_common.specs.Vocabulary.{Call, Effect, Word, Link, Op, Touch, Glance, Local, UnboundedLocal, PushKind, LIMIT, BLOCK_SLOTS, MARK, TAIL_STEP, WRITE, READ, DESTROY}
+use Rattle.law_common.specs.Vocabulary.{Call, Effect, Word, Link, Op, Touch, Look, Local, UnboundedLocal, PushKind, LIMIT, BLOCK_SLOTS, MARK, TAIL_STEP, WRITE, READ, DESTROY}
 use Rattle.queue_steps.specs.State.{State}
-use Rattle.queue_steps.specs.Looks.{call_of_glance, IsCount}
+use Rattle.queue_steps.specs.Looks.{call_of_look, IsCount}
 use Rattle.queue_steps.specs.Words.{IsWord, position_of}
 use Rattle.queue_steps.specs.ChainWords.{offset_of, items_before}
 use Rattle.queue_steps.specs.declared.steps.unbounded.UnboundedLocal.TheVariants as chain
@@ -94,12 +94,12 @@ pub data At {A : Type 0} (c : Chain A) (who : ℕ) (ms : List (State A)) : Stand
       → At c who ms (has_taken (chain.Walking name slot) Touch.Nothing (Op.Load (Word.State name slot)) (Some x) x)
   destroying : (x : A) (b name slot : ℕ) → HoldsOnly c who (Only (Passed b)) → c.walks b ≡ Walker who slot → IsNamed c b name
       → At c who ms (has_taken (chain.Destroying name slot) Touch.Nothing (Op.Or (Word.State name slot) DESTROY) (Some x) x)
-  count_tail : (g : Glance) → IsCount A g → HoldsOnly c who Nothing
-      → At c who ms (empty_handed (Local.Unbounded (chain.CountTail g)) (Op.Load Word.Tail) (call_of_glance g))
-  count_head : (g : Glance) (t : ℕ) → IsCount A g → HoldsOnly c who Nothing → IsWord t → items_before (position_of t) ≤ c.tail
-      → At c who ms (empty_handed (Local.Unbounded (chain.CountHead g t)) (Op.Load Word.Head) (call_of_glance g))
-  count_again : (g : Glance) (t h : ℕ) → IsCount A g → HoldsOnly c who Nothing → (IsWord t × IsWord h) → SeenIn ms (HeadWas None (items_before (position_of h)) (items_before (position_of t)) c.tail)
-      → At c who ms (empty_handed (Local.Unbounded (chain.CountAgain g t h)) (Op.Load Word.Tail) (call_of_glance g))
+  count_tail : (g : Look) → IsCount A g → HoldsOnly c who Nothing
+      → At c who ms (empty_handed (Local.Unbounded (chain.CountTail g)) (Op.Load Word.Tail) (call_of_look g))
+  count_head : (g : Look) (t : ℕ) → IsCount A g → HoldsOnly c who Nothing → IsWord t → items_before (position_of t) ≤ c.tail
+      → At c who ms (empty_handed (Local.Unbounded (chain.CountHead g t)) (Op.Load Word.Head) (call_of_look g))
+  count_again : (g : Look) (t h : ℕ) → IsCount A g → HoldsOnly c who Nothing → (IsWord t × IsWord h) → SeenIn ms (HeadWas None (items_before (position_of h)) (items_before (position_of t)) c.tail)
+      → At c who ms (empty_handed (Local.Unbounded (chain.CountAgain g t h)) (Op.Load Word.Tail) (call_of_look g))
   empty_head : HoldsOnly c who Nothing
       → At c who ms (empty_handed (Local.Unbounded chain.EmptyHead) (Op.Load Word.Head) Call.IsEmpty)
   empty_tail : (h : ℕ) → HoldsOnly c who Nothing → IsWord h → SawEmpty (items_before (position_of h)) c ms

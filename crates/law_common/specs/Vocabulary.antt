@@ -11,7 +11,6 @@ pub use Rattle.queue_steps.specs.declared.steps.types.Link.{Link}
 pub use Rattle.queue_steps.specs.declared.steps.types.Op.{Op}
 pub use Rattle.queue_steps.specs.declared.steps.types.Touch.{Touch}
 pub use Rattle.queue_steps.specs.declared.steps.types.Answer.{Answer}
-pub use Rattle.queue_steps.specs.declared.steps.looks.Glance.{Glance}
 pub use Rattle.queue_steps.specs.declared.steps.looks.Look.{Look}
 pub use Rattle.queue_steps.specs.declared.steps.types.Local.{Local}
 pub use Rattle.queue_steps.specs.declared.steps.types.Next.{Next}

@@ -2,7 +2,7 @@
 use Rattle.std.proofs.Common.{ℕ, ◌≡◌, Bool, Some, List, [], refl, sym}
 use Rattle.queue_steps.specs.State.{State}
 use Rattle.queue_steps.specs.Kinds.{call_value}
-use Rattle.queue_steps.proofs.LookLaws.{glance_value}
+use Rattle.queue_steps.proofs.LookLaws.{look_value}
 use Rattle.law_common.specs.Vocabulary.{PushKind}
 use Rattle.law_common.specs.Pushes.{pushes}
 use Rattle.law_common.specs.Stand.{Stand}
@@ -25,7 +25,7 @@ early is (filling d v q one) = cc
 early is (arriving old v t h below back one) = cc
 early is (swapping old v h one) = cc
 early is (emptying x h one) = cc
-early {A} is (count_tail g count none) = (refl, none, sym (glance_value A g))
-early {A} is (count_head g t count none low) = (refl, none, sym (glance_value A g))
-early {A} is (count_again g t h count none seen) = (refl, none, sym (glance_value A g))
+early {A} is (count_tail g count none) = (refl, none, sym (look_value A g))
+early {A} is (count_head g t count none low) = (refl, none, sym (look_value A g))
+early {A} is (count_again g t h count none seen) = (refl, none, sym (look_value A g))
 early is x = (refl, holds_none x refl, refl)

@@ -7,9 +7,9 @@ use Rattle.queue_steps.specs.Replies.{is_empty}
 use Rattle.queue_steps.specs.Words.{position_of, is_shut, tail_of}
 use Rattle.queue_steps.specs.BoundedNext.{loads, ends, bounded_begin}
 use Rattle.queue_steps.specs.Kinds.{call_kind}
-use Rattle.queue_steps.specs.Looks.{IsLook, call_of_glance, glance_reply, IsCount}
-use Rattle.queue_steps.proofs.LookLaws.{glance_filled, glance_tells, glance_right}
-use Rattle.law_common.specs.Vocabulary.{Call, Reply, Effect, Word, Op, Glance, Local, MARK}
+use Rattle.queue_steps.specs.Looks.{IsLook, call_of_look, reply_of_look, IsCount}
+use Rattle.queue_steps.proofs.LookLaws.{reply_filled, reply_tells, reply_right, count_waits}
+use Rattle.law_common.specs.Vocabulary.{Call, Reply, Effect, Word, Op, Look, Local, MARK}
 use Rattle.queue_steps.specs.declared.steps.bounded.BoundedLocal.TheVariants as ring
 use Rattle.law_common.proofs.Tails.{position_tail, shut_tail}
 use Rattle.law_common.specs.Moments.{HasItems, HeadWas, SeenIn}
@@ -41,29 +41,29 @@ look_first cap r who Call.IsClosed is none = closed_tail none
 look_first cap r who Call.IsEmpty is none = empty_head none
 look_first cap r who Call.IsFull is none = full_tail none
 look_first cap r who Call.Capacity is none = tt
-look_first cap r who glance is none = count_tail _ refl none
+look_first cap r who look is none = count_tail _ refl none
 
 module _ {A : Type 0} {cap : ℕ} {r : Ring A} {who : ℕ} {s : Shared A} {ms : List (State A)} {was : Bool} (ok : RingOk cap r) (codes : Codes cap r s) where
-  pub good_count_tail : (g : Glance) → IsCount A g → HoldsNone r.cells who
-      → StepOk cap r who s ms was (empty_handed (Local.Bounded (ring.CountTail g)) (Op.Load Word.Tail) (call_of_glance g))
+  pub good_count_tail : (g : Look) → IsCount A g → HoldsNone r.cells who
+      → StepOk cap r who s ms was (empty_handed (Local.Bounded (ring.CountTail g)) (Op.Load Word.Tail) (call_of_look g))
   good_count_tail g count none =
       still ok codes tt refl (ok.ring, tt) refl (
         count_head g s.tail count none (let a = ap position_of codes.tail ∙ position_tail r.tail r.closed in omega arith),
         λ calm. rw (pick s.tail (tail_of r.tail r.closed) 2 5 codes.tail) (omega arith),
       )
 
-  pub good_count_head : (g : Glance) (t : ℕ) → IsCount A g
+  pub good_count_head : (g : Look) (t : ℕ) → IsCount A g
       → HoldsNone r.cells who → position_of t ≤ r.tail
-      → StepOk cap r who s ms was (empty_handed (Local.Bounded (ring.CountHead g t)) (Op.Load Word.Head) (call_of_glance g))
+      → StepOk cap r who s ms was (empty_handed (Local.Bounded (ring.CountHead g t)) (Op.Load Word.Head) (call_of_look g))
   good_count_head g t count none low =
       still ok codes tt refl (ok.ring, tt) refl (
         count_again g t s.head count none (inl (refl, (let a = codes.head in let b = ok.count in omega arith), low, omega arith)),
         λ calm. elim (t == tail_of r.tail r.closed) as (λ b. (if b then 1 else 4) < (if b then 2 else 5)) [ true ↦ omega arith | false ↦ omega arith ],
       )
 
-  pub good_count_again : (g : Glance) (t h : ℕ) → IsCount A g
+  pub good_count_again : (g : Look) (t h : ℕ) → IsCount A g
       → HoldsNone r.cells who → SeenIn ms (HeadWas (Some cap) h (position_of t) r.tail)
-      → StepOk cap r who s ms was (empty_handed (Local.Bounded (ring.CountAgain g t h)) (Op.Load Word.Tail) (call_of_glance g))
+      → StepOk cap r who s ms was (empty_handed (Local.Bounded (ring.CountAgain g t h)) (Op.Load Word.Tail) (call_of_look g))
   good_count_again g t h count none seen =
       still ok codes tt refl
       (ok.ring, λ e. low_of (at_tail e) ms seen) refl
@@ -78,11 +78,11 @@ module _ {A : Type 0} {cap : ℕ} {r : Ring A} {who : ℕ} {s : Shared A} {ms : 
       low_of e (m ∷ ns) (inr seen) = low_of e ns seen
 
       go : (((s.tail == t) ≡ true) × (s.tail ≡ t)) ⊎ (((s.tail == t) ≡ false) × (s.tail ≢ t))
-          → Stays cap r who ms was (if s.tail == t then ends (glance_reply (Some cap) (position_of t - h) g) else loads (ring.CountTail g) Word.Tail) None (call_of_glance g) [] (if t == tail_of r.tail r.closed then 1 else 4)
+          → Stays cap r who ms was (if s.tail == t then ends (reply_of_look (Some cap) (position_of t - h) (is_shut t) g) else loads (ring.CountTail g) Word.Tail) None (call_of_look g) [] (if t == tail_of r.tail r.closed then 1 else 4)
       go (inl e) =
           let at = at_tail e.1 in
           let many = position_of t - h in
-          rw e.0 (none, refl, (glance_reply (Some cap) many g, glance_filled A (Some cap) many g, glance_tells A (Some cap) many g, λ _. inr (seen_map ms (λ m was. glance_right m (Some cap) many g was.0 (let a = was.1 in let b = was.2 in let c = was.3 in omega arith)) seen)))
+          rw e.0 (none, refl, (reply_of_look (Some cap) many (is_shut t) g, reply_filled A (Some cap) many (is_shut t) g, reply_tells A (Some cap) many (is_shut t) g, λ _. inr (seen_map ms (λ m was. reply_right m (Some cap) many (is_shut t) g was.0 (let a = was.1 in let b = was.2 in let c = was.3 in omega arith) (λ e. absurd (count_waits A g count e))) seen)))
       go (inr e) =
           let other : (t == tail_of r.tail r.closed) ≡ false = ne_eqb t (tail_of r.tail r.closed) (λ same. e.1 (codes.tail ∙ sym same)) in
           rw (e.0, other) (count_tail g count none, λ calm. omega arith)

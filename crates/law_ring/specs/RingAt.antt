@@ -3,13 +3,13 @@ use Rattle.std.proofs.Common.{ℕ, ◌+◌, ◌%◌, ◌<◌, ◌≤◌, ◌≡�
 use Rattle.queue_steps.specs.State.{State}
 use Rattle.law_common.specs.Moments.{HasItems, IsStarted, SeenIn, HeadWas}
 use Rattle.law_ring.specs.RingCells.{Free, Full, Ring, Written, Read, Coming, Swapped, HoldsNone, HoldsOne}
-use Rattle.law_common.specs.Vocabulary.{Call, Effect, Word, Op, Touch, Glance, Local, BoundedLocal, Next, PushKind, LIMIT, MARK, TAIL_STEP}
+use Rattle.law_common.specs.Vocabulary.{Call, Effect, Word, Op, Touch, Look, Local, BoundedLocal, Next, PushKind, LIMIT, MARK, TAIL_STEP}
 use Rattle.queue_steps.specs.Words.{position_of, is_shut, slot_at, stamp_filled, stamp_emptied}
 use Rattle.queue_steps.specs.declared.steps.bounded.BoundedLocal.TheVariants as ring
 use Rattle.law_common.specs.Pushes.{pushes}
 use Rattle.law_common.specs.Stand.{Stand, stand, empty_handed, brings}
 use Rattle.queue_steps.specs.Kinds.{call_value}
-use Rattle.queue_steps.specs.Looks.{call_of_glance, IsCount}
+use Rattle.queue_steps.specs.Looks.{call_of_look, IsCount}
 
 -- the slot of the position q is free for it, or the tail has moved on
 abbrev pub FreeAt : {A : Type 0} → ℕ → Ring A → ℕ → Type 0
@@ -77,12 +77,12 @@ pub data At {A : Type 0} (cap : ℕ) (r : Ring A) (who : ℕ) (ms : List (State 
       → At cap r who ms was (stores ring.Emptying Touch.Take (slot_at cap h) (stamp_emptied cap h) None Call.Pop (Effect.Take x ∷ []))
   pop_tail : (h : ℕ) → HoldsNone r.cells who → h ≤ r.head → FreeAt cap r h
       → At cap r who ms was (empty_handed (Local.Bounded (ring.PopTail h)) (Op.Load Word.Tail) Call.Pop)
-  count_tail : (g : Glance) → IsCount A g → HoldsNone r.cells who
-      → At cap r who ms was (empty_handed (Local.Bounded (ring.CountTail g)) (Op.Load Word.Tail) (call_of_glance g))
-  count_head : (g : Glance) (t : ℕ) → IsCount A g → HoldsNone r.cells who → position_of t ≤ r.tail
-      → At cap r who ms was (empty_handed (Local.Bounded (ring.CountHead g t)) (Op.Load Word.Head) (call_of_glance g))
-  count_again : (g : Glance) (t h : ℕ) → IsCount A g → HoldsNone r.cells who → SeenIn ms (HeadWas (Some cap) h (position_of t) r.tail)
-      → At cap r who ms was (empty_handed (Local.Bounded (ring.CountAgain g t h)) (Op.Load Word.Tail) (call_of_glance g))
+  count_tail : (g : Look) → IsCount A g → HoldsNone r.cells who
+      → At cap r who ms was (empty_handed (Local.Bounded (ring.CountTail g)) (Op.Load Word.Tail) (call_of_look g))
+  count_head : (g : Look) (t : ℕ) → IsCount A g → HoldsNone r.cells who → position_of t ≤ r.tail
+      → At cap r who ms was (empty_handed (Local.Bounded (ring.CountHead g t)) (Op.Load Word.Head) (call_of_look g))
+  count_again : (g : Look) (t h : ℕ) → IsCount A g → HoldsNone r.cells who → SeenIn ms (HeadWas (Some cap) h (position_of t) r.tail)
+      → At cap r who ms was (empty_handed (Local.Bounded (ring.CountAgain g t h)) (Op.Load Word.Tail) (call_of_look g))
   empty_head : HoldsNone r.cells who
       → At cap r who ms was (empty_handed (Local.Bounded ring.EmptyHead) (Op.Load Word.Head) Call.IsEmpty)
   empty_tail : (h : ℕ) → HoldsNone r.cells who → SawEmpty h r ms

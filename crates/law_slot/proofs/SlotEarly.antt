@@ -1,7 +1,7 @@
 -- A call on one slot that has had no effect yet has nothing of the lock, and still carries its own value: so its party may give it up.
 use Rattle.std.proofs.Common.{◌≡◌, true, false, [], refl}
 use Rattle.queue_steps.specs.Kinds.{call_value}
-use Rattle.law_common.specs.Vocabulary.{Look, Glance}
+use Rattle.law_common.specs.Vocabulary.{Look}
 use Rattle.law_common.specs.Stand.{Stand}
 use Rattle.law_slot.specs.SlotEarly.{IsEarly}
 use Rattle.law_slot.specs.SlotHolder.{SlotHolder, Nobody}
@@ -13,5 +13,5 @@ early is (push_put v) = absurd (let f : false ≡ true = is in cc)
 early is (force_put_empty v) = absurd (let f : false ≡ true = is in cc)
 early is (force_put_full old v) = absurd (let f : false ≡ true = is in cc)
 early is (pop_take x) = absurd (let f : false ≡ true = is in cc)
-early is (look_at (Look.Glance Glance.Len)) = (refl, refl, refl)
+early is (look_at Look.Len) = (refl, refl, refl)
 early is x = (refl, refl, refl)

@@ -1,10 +1,10 @@
 -- One slot: each atomic step of a call is a step of the queue.
-use Rattle.std.proofs.Common.{◌≡◌, ℕ, ◌+◌, Bool, true, false, not, Option, Some, None, Err, List, [], ◌∷◌, length, bit_or, if◌then◌else◌, refl, inl, inr}
-use Rattle.queue_steps.specs.State.{State, is_full}
-use Rattle.queue_steps.specs.Replies.{is_empty, IsRightAt, Tells}
-use Rattle.queue_steps.specs.SingleNext.{is_marked, is_pushed, seen_reply}
-use Rattle.queue_steps.specs.Looks.{call_of_look, call_of_glance, glance_reply}
-use Rattle.queue_steps.proofs.LookLaws.{glance_filled, glance_tells, glance_right}
+use Rattle.std.proofs.Common.{◌≡◌, ℕ, ◌+◌, Bool, true, false, Option, Some, None, Err, List, [], ◌∷◌, length, bit_or, if◌then◌else◌, refl, inl, inr, sym}
+use Rattle.queue_steps.specs.State.{State}
+use Rattle.queue_steps.specs.Replies.{IsRightAt, Tells}
+use Rattle.queue_steps.specs.SingleNext.{is_marked, is_pushed}
+use Rattle.queue_steps.specs.Looks.{call_of_look, reply_of_look}
+use Rattle.queue_steps.proofs.LookLaws.{reply_filled, reply_tells, reply_right}
 use Rattle.law_common.specs.Vocabulary.{Call, Reply, Effect, PopError, PushError, ForcePushError, Op, Look, Local, PushKind, LOCKED, PUSHED, CLOSED}
 use Rattle.queue_steps.specs.declared.steps.single.SingleLocal.TheVariants.{Pushing, Forcing, Popping, Closing, Looking}
 use Rattle.queue_steps.specs.declared.steps.types.Word.TheVariants.{Lock}
@@ -103,11 +103,11 @@ reads (taking true x) = (refl, refl)
 reads x = (refl, refl)
 
 look_step : {T : Type 0} {word : ℕ} {slot : Option T} {h : SlotHolder T} {items : List T} {c : Bool} (l : Look) → Codes word slot h items c → Row word slot Nobody h items c (empty_handed (Local.Single (Looking l)) (Op.Load Lock) (call_of_look l))
-look_step {word = word} {slot = slot} {h = h} {items = items} {c = c} Look.IsClosed st n ms = record { word' = word; slot' = slot; items' = items; c' = c; n' = n; e = None; own' = Nobody; h' = h; leaves = refl; stands = st; told = refl; makes = refl; lands = right_now (single items c n) ms Call.IsClosed (Reply.IsClosed (is_marked word)) refl (reads st).0; passes = stays Nobody h }
-look_step {T} {word = word} {slot = slot} {h = h} {items = items} {c = c} (Look.Glance g) st n ms =
+look_step {T} {word = word} {slot = slot} {h = h} {items = items} {c = c} l st n ms =
     let many : ℕ = if is_pushed word then 1 else 0 in
-    let right = glance_right (single items c n) (Some 1) many g refl (reads st).1 in
-    record { word' = word; slot' = slot; items' = items; c' = c; n' = n; e = None; own' = Nobody; h' = h; leaves = refl; stands = st; told = refl; makes = refl; lands = (refl, refl, (glance_reply (Some 1) many g, glance_filled T (Some 1) many g, glance_tells T (Some 1) many g, λ e. inl right)); passes = stays Nobody h }
+    let right = reply_right (single items c n) (Some 1) many (is_marked word) l refl (reads st).1 (λ e. sym (reads st).0) in
+    let reply = reply_of_look (Some 1) many (is_marked word) l in
+    record { word' = word; slot' = slot; items' = items; c' = c; n' = n; e = None; own' = Nobody; h' = h; leaves = refl; stands = st; told = refl; makes = refl; lands = (refl, refl, (reply, reply_filled T (Some 1) many (is_marked word) l, reply_tells T (Some 1) many (is_marked word) l, λ e. inl right)); passes = stays Nobody h }
 
 -- each step of a call, wherever it stands, is a step of the queue
 pub step_good : {T : Type 0} {x : Stand T} {word : ℕ} {slot : Option T} {own h : SlotHolder T} {items : List T} {c : Bool}

@@ -4,8 +4,7 @@ use Rattle.queue_steps.specs.declared.steps.bounded.PushKind.{PushKind}
 use Rattle.queue_steps.specs.declared.steps.bounded.PushKind.TheVariants as push
 use Rattle.queue_steps.specs.declared.steps.looks.CallView.{CallView}
 use Rattle.queue_steps.specs.declared.steps.looks.CallView.TheVariants as view
-use Rattle.queue_steps.specs.declared.steps.looks.Glance.{Glance}
-use Rattle.queue_steps.specs.declared.steps.looks.Glance.TheVariants as glance
+use Rattle.queue_steps.specs.declared.steps.looks.Look.{Look}
 use Rattle.queue_steps.specs.declared.steps.looks.Look.TheVariants as look
 use Rattle.queue_steps.specs.declared.steps.types.Local.{Local}
 use Rattle.queue_steps.specs.declared.steps.types.Local.TheVariants as local
@@ -106,16 +105,16 @@ abbrev pub or_else : {A : Type 0} → A → Option A → A
 or_else a (Some x) = x
 or_else a None = a
 
--- which push a call is, and which glance, if it is one
+-- which push a call is, and which look, if it is one
 abbrev pub push_of : Option CallView → PushKind
 push_of (Some (view.Push p)) = p
 push_of _ = push.Push
 
-abbrev pub glance_of : Option CallView → Glance
-glance_of (Some (view.Look (look.Glance g))) = g
-glance_of _ = glance.Len
+abbrev pub look_of : Option CallView → Look
+look_of (Some (view.Look l)) = l
+look_of _ = look.Len
 
--- a ring: which push or glance it is, and two words
+-- a ring: which push or look it is, and two words
 abbrev pub ring_at : List ℕ → Option CallView × ℕ × ℕ → BoundedLocal
 ring_at label (which, one, two) = pick ring.ClosedTail label (
     (codes "B1", ring.PushTail (push_of which))
@@ -132,9 +131,9 @@ ring_at label (which, one, two) = pick ring.ClosedTail label (
     ∷ (codes "O3", ring.Taking one)
     ∷ (codes "O4", ring.Emptying)
     ∷ (codes "O5", ring.PopTail one)
-    ∷ (codes "L1", ring.CountTail (glance_of which))
-    ∷ (codes "L2", ring.CountHead (glance_of which) one)
-    ∷ (codes "L3", ring.CountAgain (glance_of which) one two)
+    ∷ (codes "L1", ring.CountTail (look_of which))
+    ∷ (codes "L2", ring.CountHead (look_of which) one)
+    ∷ (codes "L3", ring.CountAgain (look_of which) one two)
     ∷ (codes "E1", ring.EmptyHead)
     ∷ (codes "E2", ring.EmptyTail one)
     ∷ (codes "G1", ring.FullTail)
@@ -143,7 +142,7 @@ ring_at label (which, one, two) = pick ring.ClosedTail label (
     ∷ (codes "K1", ring.ClosedTail)
     ∷ [])
 
--- a chain: which push or glance it is, two words, a block, and the one after it or the spare
+-- a chain: which push or look it is, two words, a block, and the one after it or the spare
 abbrev pub chain_at : List ℕ → Option CallView × (ℕ × ℕ) × (Option ℕ × Option ℕ) → UnboundedLocal ℕ
 chain_at label (which, (one, two), (block, other)) = pick chain.ClosedTail label (
     (codes "U1", chain.PushTail (push_of which) other)
@@ -169,9 +168,9 @@ chain_at label (which, (one, two), (block, other)) = pick chain.ClosedTail label
     ∷ (codes "V10", chain.Reading (or_else 0 block) one)
     ∷ (codes "W1", chain.Walking (or_else 0 block) one)
     ∷ (codes "W2", chain.Destroying (or_else 0 block) one)
-    ∷ (codes "Y1", chain.CountTail (glance_of which))
-    ∷ (codes "Y2", chain.CountHead (glance_of which) one)
-    ∷ (codes "Y3", chain.CountAgain (glance_of which) one two)
+    ∷ (codes "Y1", chain.CountTail (look_of which))
+    ∷ (codes "Y2", chain.CountHead (look_of which) one)
+    ∷ (codes "Y3", chain.CountAgain (look_of which) one two)
     ∷ (codes "E1", chain.EmptyHead)
     ∷ (codes "E2", chain.EmptyTail one)
     ∷ (codes "C1", chain.Closing)

@@ -3,13 +3,13 @@ ghost use Rattle.std.specs.Prelude.{◌≡◌, Some};
 ghost use Rattle.machine_memory.specs.Places.{chain_at, chain_label, label_text, ring_at, ring_label, slot_label};
 
 use queue_steps::steps::{
-    BoundedLocal, CallView, Glance, Local, Look, PushKind, SingleLocal, UnboundedLocal,
+    BoundedLocal, CallView, Local, Look, PushKind, SingleLocal, UnboundedLocal,
 };
 
-/// On a ring: which push or glance it is, and two words. What the call does not remember is `None` or 0.
+/// On a ring: which push or look it is, and two words. What the call does not remember is `None` or 0.
 pub(crate) type RingKept = (Option<CallView>, u64, u64);
 
-/// On a chain: which push or glance it is, two words, a block, and the one after it or the spare.
+/// On a chain: which push or look it is, two words, a block, and the one after it or the spare.
 pub(crate) type ChainKept = (Option<CallView>, (u64, u64), (Option<usize>, Option<usize>));
 
 /// The label of the step before which a call stands.
@@ -116,11 +116,11 @@ fn a_push(push: PushKind) -> Option<CallView>
     Some(CallView::Push(push))
 }
 
-// A step of this glance.
-fn a_glance(glance: Glance) -> Option<CallView>
-    ensures { result ≡ Some (CallView.Look (Look.Glance glance)) }
+// A step of this look.
+fn a_look(look: Look) -> Option<CallView>
+    ensures { result ≡ Some (CallView.Look look) }
 {
-    Some(CallView::Look(Look::Glance(glance)))
+    Some(CallView::Look(look))
 }
 
 /// What a call on a ring remembers. With the label, that is where it is.
@@ -144,9 +144,9 @@ pub(crate) fn ring_kept(local: BoundedLocal) -> RingKept
         | BoundedLocal::PopTail(word)
         | BoundedLocal::EmptyTail(word)
         | BoundedLocal::FullHead(word) => (None, word, 0),
-        BoundedLocal::CountTail(glance) => (a_glance(glance), 0, 0),
-        BoundedLocal::CountHead(glance, tail) => (a_glance(glance), tail, 0),
-        BoundedLocal::CountAgain(glance, tail, head) => (a_glance(glance), tail, head),
+        BoundedLocal::CountTail(look) => (a_look(look), 0, 0),
+        BoundedLocal::CountHead(look, tail) => (a_look(look), tail, 0),
+        BoundedLocal::CountAgain(look, tail, head) => (a_look(look), tail, head),
         BoundedLocal::Swapping
         | BoundedLocal::PopHead
         | BoundedLocal::Emptying
@@ -203,10 +203,10 @@ pub(crate) fn chain_kept(local: UnboundedLocal<usize>) -> ChainKept
         ),
         UnboundedLocal::Passing(head, block, true) => (None, (head, 1), (Some(block), None)),
         UnboundedLocal::Passing(head, block, false) => (None, (head, 0), (Some(block), None)),
-        UnboundedLocal::CountTail(glance) => (a_glance(glance), (0, 0), (None, None)),
-        UnboundedLocal::CountHead(glance, tail) => (a_glance(glance), (tail, 0), (None, None)),
-        UnboundedLocal::CountAgain(glance, tail, head) => {
-            (a_glance(glance), (tail, head), (None, None))
+        UnboundedLocal::CountTail(look) => (a_look(look), (0, 0), (None, None)),
+        UnboundedLocal::CountHead(look, tail) => (a_look(look), (tail, 0), (None, None)),
+        UnboundedLocal::CountAgain(look, tail, head) => {
+            (a_look(look), (tail, head), (None, None))
         }
         UnboundedLocal::PopHead
         | UnboundedLocal::EmptyHead

@@ -139,9 +139,9 @@ pub record CallsWait (T : Type 0) : Type 0 where
   pub ring : (n : ℕ) → IsRing n → RingCallsWait T n
   pub chain : ChainCallsWait T
 
--- a step of `len`, or of another glance that counts the items
+-- a step of `len`, or of another look that counts the items; on one slot, of each look
 abbrev pub IsOfLen : Local ℕ → Type 0
-IsOfLen (Local.Single (Looking (Look.Glance l))) = Unit {0}
+IsOfLen (Local.Single (Looking l)) = Unit {0}
 IsOfLen (Local.Bounded (ring.CountTail l)) = Unit {0}
 IsOfLen (Local.Bounded (ring.CountHead l tail)) = Unit {0}
 IsOfLen (Local.Bounded (ring.CountAgain l tail head)) = Unit {0}

@@ -1,18 +1,18 @@
 -- Which replies a call that changes nothing may have: it has no effect, and answers what the state shows.
-use Rattle.std.proofs.Common.{◌≡◌, ◌==◌, ℕ, List, [], ◌∷◌, length, Option, Some, None, refl, sym, ap, ◌∙◌, subst, arith}
+use Rattle.std.proofs.Common.{◌≡◌, ◌==◌, ℕ, List, [], ◌∷◌, length, Option, Some, None, refl, sym, ap, ◌∙◌, subst, arith, Bool, true, false}
 use Rattle.std.proofs.lemmas.Bool.{ne_eqb}
 use Rattle.queue_steps.specs.State.{State}
 use Rattle.queue_steps.specs.Replies.{is_empty, IsRightAt, Tells}
 use Rattle.queue_steps.specs.Kinds.{call_value, filled}
 use Rattle.queue_steps.specs.Sequential.{sequential_reply, sequential_state}
-use Rattle.queue_steps.specs.Looks.{IsLook, IsGlance, look_reply, call_of_glance, glance_reply}
+use Rattle.queue_steps.specs.Looks.{IsLook, IsGlance, IsCount, is_wait_free, look_reply, call_of_look, reply_of_look}
 use Rattle.queue_steps.specs.declared.model.Call.{Call}
 use Rattle.queue_steps.specs.declared.model.Call.TheVariants as call
 use Rattle.queue_steps.specs.declared.model.Reply.{Reply}
 use Rattle.queue_steps.specs.declared.model.Reply.TheVariants as reply
 use Rattle.queue_steps.specs.declared.model.Effect.{Effect}
-use Rattle.queue_steps.specs.declared.steps.looks.Glance.{Glance}
-use Rattle.queue_steps.specs.declared.steps.looks.Glance.TheVariants as glance
+use Rattle.queue_steps.specs.declared.steps.looks.Look.{Look}
+use Rattle.queue_steps.specs.declared.steps.looks.Look.TheVariants as look
 
 module _ {T : Type 0} where
   -- its reply stands for no effect
@@ -65,31 +65,38 @@ module _ {T : Type 0} where
   pub look_there : (Q S : State T) (c : Call T) (r : Reply T) → IsLook c → Q.cap ≡ S.cap → Q.closed ≡ S.closed → (IsGlance c → length Q.items ≡ length S.items) → IsRightAt Q c r → IsRightAt S c r
   look_there Q S c r is cap closed many right = subst (λ x. IsRightAt S c x) (sym (look_right Q c r is right ∙ look_same Q S c is cap closed many)) (look_shows S c is).0
 
--- a glance has no value, and what it answers has none and stands for no effect
+-- a look has no value, and what it answers has none and stands for no effect
 module _ (T : Type 0) where
-  pub glance_value : (g : Glance) → call_value (call_of_glance {T = T} g) ≡ None
-  glance_value glance.Len = refl
-  glance_value g = refl
+  pub look_value : (l : Look) → call_value (call_of_look {T = T} l) ≡ None
+  look_value look.Len = refl
+  look_value l = refl
 
-  pub glance_filled : (cap : Option ℕ) (n : ℕ) (g : Glance) → filled (glance_reply cap n g) None ≡ Some (glance_reply {R = T} cap n g)
-  glance_filled cap n glance.Len = refl
-  glance_filled cap n g = refl
+  pub reply_filled : (cap : Option ℕ) (n : ℕ) (closed : Bool) (l : Look) → filled (reply_of_look cap n closed l) None ≡ Some (reply_of_look {R = T} cap n closed l)
+  reply_filled cap n closed look.Len = refl
+  reply_filled cap n closed l = refl
 
-  pub glance_tells : (cap : Option ℕ) (n : ℕ) (g : Glance) → Tells (call_of_glance {T = T} g) (glance_reply cap n g) []
-  glance_tells cap n glance.Len = refl
-  glance_tells cap n g = refl
+  pub reply_tells : (cap : Option ℕ) (n : ℕ) (closed : Bool) (l : Look) → Tells (call_of_look {T = T} l) (reply_of_look cap n closed l) []
+  reply_tells cap n closed look.Len = refl
+  reply_tells cap n closed l = refl
+
+  -- a look that counts is not wait-free
+  pub count_waits : (l : Look) → IsCount T l → is_wait_free (call_of_look {T = T} l) ≡ true → ⊥
+  count_waits l count wait_free = absurd (let f : true ≡ false = sym wait_free ∙ count in cc)
 
 module _ {T : Type 0} where
   empty_counted : (xs : List T) → (length xs == 0) ≡ is_empty xs
   empty_counted [] = refl
   empty_counted (x ∷ xs) = ne_eqb (length (x ∷ xs)) 0 (λ e. absurd (omega arith))
 
-  -- and is right at a state of this capacity with so many items
-  pub glance_right : (Q : State T) (cap : Option ℕ) (n : ℕ) (g : Glance) → Q.cap ≡ cap → length Q.items ≡ n → IsRightAt Q (call_of_glance g) (glance_reply cap n g)
-  glance_right Q cap n glance.IsEmpty is_cap many = ap (λ m. m == 0) (sym many) ∙ empty_counted Q.items
-  glance_right Q cap n g is_cap many = cc
+  -- and is right at a state of this capacity with so many items; a look that counts answers nothing of the flag
+  pub reply_right : (Q : State T) (cap : Option ℕ) (n : ℕ) (closed : Bool) (l : Look) → Q.cap ≡ cap → length Q.items ≡ n → (is_wait_free (call_of_look {T = T} l) ≡ true → Q.closed ≡ closed)
+      → IsRightAt Q (call_of_look l) (reply_of_look cap n closed l)
+  reply_right Q cap n closed look.IsClosed is_cap many shut = sym (shut refl)
+  reply_right Q cap n closed look.IsEmpty is_cap many shut = ap (λ m. m == 0) (sym many) ∙ empty_counted Q.items
+  reply_right Q cap n closed l is_cap many shut = cc
 
   -- it is what the table of one owner says, which leaves the state
-  pub glance_table : (Q : State T) (cap : Option ℕ) (n : ℕ) (g : Glance) → Q.cap ≡ cap → length Q.items ≡ n → (glance_reply cap n g ≡ sequential_reply Q (call_of_glance g)) × (Q ≡ sequential_state Q (call_of_glance g))
-  glance_table Q cap n glance.Len is_cap many = (look_right Q call.Len (glance_reply cap n glance.Len) tt (glance_right Q cap n glance.Len is_cap many), refl)
-  glance_table Q cap n g is_cap many = (look_right Q (call_of_glance g) (glance_reply cap n g) tt (glance_right Q cap n g is_cap many), refl)
+  pub reply_table : (Q : State T) (cap : Option ℕ) (n : ℕ) (closed : Bool) (l : Look) → Q.cap ≡ cap → length Q.items ≡ n → Q.closed ≡ closed
+      → (reply_of_look cap n closed l ≡ sequential_reply Q (call_of_look l)) × (Q ≡ sequential_state Q (call_of_look l))
+  reply_table Q cap n closed look.Len is_cap many shut = (look_right Q call.Len (reply_of_look cap n closed look.Len) tt (reply_right Q cap n closed look.Len is_cap many (λ e. shut)), refl)
+  reply_table Q cap n closed l is_cap many shut = (look_right Q (call_of_look l) (reply_of_look cap n closed l) tt (reply_right Q cap n closed l is_cap many (λ e. shut)), refl)

@@ -13,15 +13,15 @@ use Rattle.queue_steps.specs.declared.steps.bounded.BoundedLocal.TheVariants as 
 use Rattle.queue_steps.specs.declared.steps.bounded.BoundedLocal.{BoundedLocal}
 use Rattle.queue_steps.specs.declared.steps.types.Word.TheVariants as word
 use Rattle.queue_steps.specs.declared.model.Reply.{Reply}
-use Rattle.queue_steps.specs.declared.steps.looks.Glance.{Glance}
+use Rattle.queue_steps.specs.declared.steps.looks.Look.{Look}
 use Rattle.queue_steps.specs.declared.steps.unbounded.UnboundedLocal.{UnboundedLocal}
 use Rattle.queue_steps.specs.declared.steps.unbounded.UnboundedLocal.TheVariants as chain
-use Rattle.queue_steps.specs.Words.{position_of}
+use Rattle.queue_steps.specs.Words.{position_of, is_shut}
 use Rattle.queue_steps.specs.ChainWords.{items_before}
 use Rattle.queue_steps.specs.UnboundedNext.{unbounded_next, FitsChain}
 use Rattle.queue_steps.specs.UnboundedNext as unbounded
 use Rattle.queue_steps.specs.BoundedNext.{ends, loads, bounded_next, FitsRing}
-use Rattle.queue_steps.specs.Looks.{IsLook, glance_reply}
+use Rattle.queue_steps.specs.Looks.{IsLook, reply_of_look}
 use Rattle.queue_steps.specs.Next.{CanNext, next_of, first_local}
 use Rattle.queue_steps.specs.LookNext.{IsLookLocal, IsLookNext}
 
@@ -35,23 +35,23 @@ look_next-first B (kind.Bounded n) look h = assumption
 look_next-first B kind.Unbounded look h = assumption
 
 -- items that were counted while the tail moved are counted again
-look_again : (B : Type 0) (b : Bool) (r : Reply Unit) (g : Glance) → IsLookNext {B = B} (if b then ends r else loads (ring.CountTail g) word.Tail)
+look_again : (B : Type 0) (b : Bool) (r : Reply Unit) (g : Look) → IsLookNext {B = B} (if b then ends r else loads (ring.CountTail g) word.Tail)
 look_again B true r g = refl
 look_again B false r g = (refl, tt, refl)
 
 look_next-ring : {B : Type 0} (n : ℕ) (l : BoundedLocal) (a : Answer B) → FitsRing n l a → IsLookLocal {B = B} (local.Bounded l) → IsLookNext (bounded_next n l a)
 look_next-ring n ring.Closing a fits is = absurd is
-look_next-ring {B} n (ring.CountAgain g t h) (answer.Found found) fits is = look_again B (found == t) (glance_reply (Some n) (position_of t - h) g) g
+look_next-ring {B} n (ring.CountAgain g t h) (answer.Found found) fits is = look_again B (found == t) (reply_of_look (Some n) (position_of t - h) (is_shut t) g) g
 look_next-ring n l (answer.Found found) fits is = first_of (assumption, cc)
 look_next-ring n l _ fits is = cc
 
-look_again-chain : (B : Type 0) (b : Bool) (r : Reply Unit) (g : Glance) → IsLookNext {B = B} (if b then unbounded.ends r else unbounded.loads (chain.CountTail g) word.Tail)
+look_again-chain : (B : Type 0) (b : Bool) (r : Reply Unit) (g : Look) → IsLookNext {B = B} (if b then unbounded.ends r else unbounded.loads (chain.CountTail g) word.Tail)
 look_again-chain B true r g = refl
 look_again-chain B false r g = (refl, tt, refl)
 
 look_next-chain : {B : Type 0} (l : UnboundedLocal B) (a : Answer B) → FitsChain l a → IsLookLocal {B = B} (local.Unbounded l) → IsLookNext (unbounded_next l a)
 look_next-chain chain.Closing a fits is = absurd is
-look_next-chain {B} (chain.CountAgain g t h) (answer.Found found) fits is = look_again-chain B (found == t) (glance_reply None (items_before (position_of t) - items_before (position_of h)) g) g
+look_next-chain {B} (chain.CountAgain g t h) (answer.Found found) fits is = look_again-chain B (found == t) (reply_of_look None (items_before (position_of t) - items_before (position_of h)) (is_shut t) g) g
 look_next-chain l (answer.Found found) fits is = first_of (assumption, cc)
 look_next-chain l _ fits is = cc
 

@@ -25,11 +25,9 @@ use Rattle.queue_steps.specs.declared.steps.bounded.BoundedLocal.{BoundedLocal}
 use Rattle.queue_steps.specs.declared.steps.bounded.BoundedLocal.TheVariants as ring
 use Rattle.queue_steps.specs.declared.steps.looks.CallView.{CallView}
 use Rattle.queue_steps.specs.declared.steps.looks.CallView.TheVariants as view
-use Rattle.queue_steps.specs.declared.steps.looks.Glance.{Glance}
-use Rattle.queue_steps.specs.declared.steps.looks.Glance.TheVariants as glance
 use Rattle.queue_steps.specs.declared.steps.looks.Look.{Look}
 use Rattle.queue_steps.specs.declared.steps.looks.Look.TheVariants as look
-use Rattle.queue_steps.specs.Looks.{call_view, glance_reply}
+use Rattle.queue_steps.specs.Looks.{call_view, reply_of_look}
 use Rattle.queue_steps.specs.Words.{IsWord, position_of, is_shut, slot_at, stamp_free, stamp_filled, stamp_emptied}
 
 -- one step, after which the call waits at l
@@ -76,12 +74,12 @@ FitsRing n ring.Closing (Found tail) = Unit {0}
 FitsRing n ring.ClosedTail (Found tail) = Unit {0}
 FitsRing n _ _ = ⊥
 
--- where a look begins: whether the ring is empty or full is told by two loads, and any other glance counts the items
+-- where a look begins: whether the ring is empty or full is told by two loads, and any other look counts the items
 abbrev pub ring_look : {B : Type 0} → Look → Next B
 ring_look look.IsClosed = loads ring.ClosedTail word.Tail
-ring_look (look.Glance glance.IsEmpty) = loads ring.EmptyHead word.Head
-ring_look (look.Glance glance.IsFull) = loads ring.FullTail word.Tail
-ring_look (look.Glance g) = loads (ring.CountTail g) word.Tail
+ring_look look.IsEmpty = loads ring.EmptyHead word.Head
+ring_look look.IsFull = loads ring.FullTail word.Tail
+ring_look l = loads (ring.CountTail l) word.Tail
 
 -- where a call begins, by what it does
 abbrev pub bounded_start : {B : Type 0} → ℕ → CallView → Next B
@@ -136,8 +134,8 @@ pop_tail_found head tail =
     else loads ring.PopHead word.Head
 
 -- after the second read of a tail
-abbrev pub count_found : {B : Type 0} → ℕ → Glance → ℕ → ℕ → ℕ → Next B
-count_found n g tail head again = if again == tail then ends (glance_reply (Some n) (position_of tail - head) g) else loads (ring.CountTail g) word.Tail
+abbrev pub count_found : {B : Type 0} → ℕ → Look → ℕ → ℕ → ℕ → Next B
+count_found n l tail head again = if again == tail then ends (reply_of_look (Some n) (position_of tail - head) (is_shut tail) l) else loads (ring.CountTail l) word.Tail
 
 -- after the answer to the last step. The last line stands for what `FitsRing` excludes
 abbrev pub bounded_next : {B : Type 0} → ℕ → BoundedLocal → Answer B → Next B

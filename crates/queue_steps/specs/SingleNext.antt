@@ -11,7 +11,6 @@ use Rattle.queue_steps.specs.declared.steps.bounded.PushKind.TheVariants as kind
 use Rattle.queue_steps.specs.declared.steps.looks.CallView.{CallView}
 use Rattle.queue_steps.specs.declared.steps.looks.CallView.TheVariants as view
 use Rattle.queue_steps.specs.declared.steps.looks.Look.{Look}
-use Rattle.queue_steps.specs.declared.steps.looks.Look.TheVariants as look
 use Rattle.queue_steps.specs.declared.steps.types.Next.{Next}
 use Rattle.queue_steps.specs.declared.steps.types.Next.TheVariants as next
 use Rattle.queue_steps.specs.declared.steps.types.Op.{Op}
@@ -19,7 +18,7 @@ use Rattle.queue_steps.specs.declared.steps.types.Op.TheVariants as op
 use Rattle.queue_steps.specs.declared.steps.types.Touch.{Touch}
 use Rattle.queue_steps.specs.declared.steps.types.Touch.TheVariants as touch
 use Rattle.queue_steps.specs.declared.steps.types.Word.TheVariants.{Lock}
-use Rattle.queue_steps.specs.Looks.{call_view, glance_reply}
+use Rattle.queue_steps.specs.Looks.{call_view, reply_of_look}
 use Rattle.queue_steps.specs.declared.steps.single.TheConstants.{LOCKED, PUSHED, CLOSED, UNLOCKED, UNPUSHED}
 use Rattle.queue_steps.specs.declared.steps.single.SingleLocal.{SingleLocal}
 use Rattle.queue_steps.specs.declared.steps.single.SingleLocal.TheVariants.{Pushing, Pushed, Forcing, Forced, Popping, Popped, Closing, Looking}
@@ -71,8 +70,7 @@ single_begin c = single_start (call_view c)
 
 -- what one look at the word answers
 abbrev pub seen_reply : {R : Type 0} → Look → ℕ → Reply R
-seen_reply look.IsClosed word = reply.IsClosed (is_marked word)
-seen_reply (look.Glance g) word = glance_reply (Some 1) (if is_pushed word then 1 else 0) g
+seen_reply l word = reply_of_look (Some 1) (if is_pushed word then 1 else 0) (is_marked word) l
 
 -- what follows the word that was found
 abbrev pub single_next : {B : Type 0} → SingleLocal → ℕ → Next B

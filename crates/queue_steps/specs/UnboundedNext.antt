@@ -27,10 +27,9 @@ use Rattle.queue_steps.specs.declared.steps.unbounded.UnboundedLocal.{UnboundedL
 use Rattle.queue_steps.specs.declared.steps.unbounded.UnboundedLocal.TheVariants as chain
 use Rattle.queue_steps.specs.declared.steps.looks.CallView.{CallView}
 use Rattle.queue_steps.specs.declared.steps.looks.CallView.TheVariants as view
-use Rattle.queue_steps.specs.declared.steps.looks.Glance.TheVariants as glance
 use Rattle.queue_steps.specs.declared.steps.looks.Look.{Look}
 use Rattle.queue_steps.specs.declared.steps.looks.Look.TheVariants as look
-use Rattle.queue_steps.specs.Looks.{call_view, glance_reply}
+use Rattle.queue_steps.specs.Looks.{call_view, reply_of_look}
 use Rattle.queue_steps.specs.Words.{IsWord, position_of, is_shut}
 use Rattle.queue_steps.specs.ChainWords.{block_at, offset_of, items_before, over_end}
 use Rattle.queue_steps.specs.BoundedNext.{closed_reply, pushed_reply}
@@ -85,12 +84,12 @@ FitsChain chain.Closing (Found tail) = Unit {0}
 FitsChain chain.ClosedTail (Found tail) = Unit {0}
 FitsChain _ _ = ⊥
 
--- where a look begins: whether the chain is empty is told by two loads, it is never full, and any other glance counts the items
+-- where a look begins: whether the chain is empty is told by two loads, it is never full, and any other look counts the items
 abbrev pub chain_look : {B : Type 0} → Look → Next B
 chain_look look.IsClosed = loads chain.ClosedTail word.Tail
-chain_look (look.Glance glance.IsEmpty) = loads chain.EmptyHead word.Head
-chain_look (look.Glance glance.IsFull) = ends (reply.IsFull false)
-chain_look (look.Glance g) = loads (chain.CountTail g) word.Tail
+chain_look look.IsEmpty = loads chain.EmptyHead word.Head
+chain_look look.IsFull = ends (reply.IsFull false)
+chain_look l = loads (chain.CountTail l) word.Tail
 
 -- where a call begins, by what it does
 abbrev pub unbounded_start : {B : Type 0} → CallView → Next B
@@ -238,7 +237,7 @@ unbounded_next (chain.Destroying block slot) (Found state) = if not (bit_and sta
 unbounded_next (chain.CountTail g) (Found tail) = loads (chain.CountHead g tail) word.Head
 unbounded_next (chain.CountHead g tail) (Found head) = loads (chain.CountAgain g tail head) word.Tail
 unbounded_next (chain.CountAgain g tail head) (Found again) =
-    if again == tail then ends (glance_reply None (items_before (position_of tail) - items_before (position_of head)) g)
+    if again == tail then ends (reply_of_look None (items_before (position_of tail) - items_before (position_of head)) (is_shut tail) g)
     else loads (chain.CountTail g) word.Tail
 unbounded_next chain.EmptyHead (Found head) = loads (chain.EmptyTail head) word.Tail
 unbounded_next (chain.EmptyTail head) (Found tail) = ends (reply.IsEmpty (over_end (position_of tail) == over_end (position_of head)))

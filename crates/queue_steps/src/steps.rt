@@ -7,7 +7,7 @@ mod types;
 mod unbounded;
 
 pub use bounded::{BoundedLocal, MARK, PushKind, TAIL_STEP};
-pub use looks::{CallView, Glance, Look};
+pub use looks::{CallView, Look};
 pub use single::{CLOSED, LOCKED, PUSHED, SingleLocal, UNLOCKED, UNPUSHED};
 pub use types::{Answer, Kind, Link, Local, Next, Op, Touch, Word};
 pub use unbounded::{DESTROY, READ, UnboundedLocal, WRITE};

@@ -5,20 +5,20 @@ ghost use Rattle.queue_steps.specs.ChainWords.{items_before};
 ghost use Rattle.queue_steps.specs.UnboundedNext.{unbounded_next};
 
 use crate::unbounded::{items, load};
-use queue_steps::steps::{Answer, Glance, Next, UnboundedLocal, Word};
-use queue_steps::words::position_of;
+use queue_steps::steps::{Answer, Look, Next, UnboundedLocal, Word};
+use queue_steps::words::{is_marked, position_of};
 
 /// What follows the second read of a tail.
 #[inline(always)]
-pub fn after_count<B: Copy>(glance: Glance, tail: u64, head: u64, again: u64) -> Next<B>
+pub fn after_count<B: Copy>(look: Look, tail: u64, head: u64, again: u64) -> Next<B>
     requires words { IsWord tail × IsWord head }
     requires ahead { again ≡ tail → items_before (position_of head) ≤ items_before (position_of tail) }
-    ensures { result ≡ unbounded_next (UnboundedLocal.CountAgain glance tail head) (Answer.Found again) }
+    ensures { result ≡ unbounded_next (UnboundedLocal.CountAgain look tail head) (Answer.Found again) }
 {
     if again == tail {
         let len = items(position_of(tail)) - items(position_of(head));
-        Next::Reply(glance.reply(None, len as usize), None)
+        Next::Reply(look.reply(None, len as usize, is_marked(tail)), None)
     } else {
-        load(UnboundedLocal::CountTail(glance), Word::Tail)
+        load(UnboundedLocal::CountTail(look), Word::Tail)
     }
 }

@@ -1,7 +1,7 @@
 -- The shared memory at each step of a pop on a chain up to the wait for its item, and at the steps that only look.
 use Rattle.std.proofs.Common.{ℕ, ◌+◌, ◌*◌, ◌/◌, ◌<◌, ◌≤◌, ◌≡◌, ◌≢◌, ◌==◌, ◌∙◌, ◌⊎◌, inl, inr, Bool, true, false, if◌then◌else◌, Option, IsSome, List, refl, sym, ap, subst, arith, None}
 use Rattle.std.proofs.lemmas.Bool.Decides.{eqb_tells}
-use Rattle.machine_replay.specs.Vocabulary.{Answer, BLOCK_SLOTS, TAIL_STEP, Glance}
+use Rattle.machine_replay.specs.Vocabulary.{Answer, BLOCK_SLOTS, TAIL_STEP, Look}
 use Rattle.queue_steps.specs.State.{State}
 use Rattle.queue_steps.specs.Looks.{IsCount}
 use Rattle.queue_steps.specs.Words.{IsWord, position_of}
@@ -198,7 +198,7 @@ module _ {A : Type 0} (c : Chain A) (who : ℕ) (ms : List (State A)) (ok : Bool
       }
 
   -- the steps of a count
-  pub coded_count_tail : (l : Glance) (count : IsCount A l) (none : HoldsOnly c who Nothing) → ChainOk c → CodesShared s c → Coded c who ms ok s (count_tail l count none)
+  pub coded_count_tail : (l : Look) (count : IsCount A l) (none : HoldsOnly c who Nothing) → ChainOk c → CodesShared s c → Coded c who ms ok s (count_tail l count none)
   coded_count_tail l count none right codes = record {
     touches = tt;
     operates = tt;
@@ -207,7 +207,7 @@ module _ {A : Type 0} (c : Chain A) (who : ℕ) (ms : List (State A)) (ok : Bool
     codes = λ fine gives. codes_left who (unbounded_next (chain.CountTail l) (Answer.Found s.tail)) fine gives codes;
   }
 
-  pub coded_count_head : (l : Glance) (t : ℕ) (count : IsCount A l) (none : HoldsOnly c who Nothing) (small : IsWord t) (low : items_before (position_of t) ≤ c.tail) → ChainOk c → CodesShared s c → Coded c who ms ok s (count_head l t count none small low)
+  pub coded_count_head : (l : Look) (t : ℕ) (count : IsCount A l) (none : HoldsOnly c who Nothing) (small : IsWord t) (low : items_before (position_of t) ≤ c.tail) → ChainOk c → CodesShared s c → Coded c who ms ok s (count_head l t count none small low)
   coded_count_head l t count none small low right codes = record {
     touches = tt;
     operates = tt;
@@ -216,7 +216,7 @@ module _ {A : Type 0} (c : Chain A) (who : ℕ) (ms : List (State A)) (ok : Bool
     codes = λ fine gives. codes_left who (unbounded_next (chain.CountHead l t) (Answer.Found s.head)) fine gives codes;
   }
 
-  pub coded_count_again : (l : Glance) (t h : ℕ) (count : IsCount A l) (none : HoldsOnly c who Nothing) (small : IsWord t × IsWord h) (seen : SeenIn ms (HeadWas None (items_before (position_of h)) (items_before (position_of t)) c.tail)) → ChainOk c → CodesShared s c → Coded c who ms ok s (count_again l t h count none small seen)
+  pub coded_count_again : (l : Look) (t h : ℕ) (count : IsCount A l) (none : HoldsOnly c who Nothing) (small : IsWord t × IsWord h) (seen : SeenIn ms (HeadWas None (items_before (position_of h)) (items_before (position_of t)) c.tail)) → ChainOk c → CodesShared s c → Coded c who ms ok s (count_again l t h count none small seen)
   coded_count_again l t h count none small seen right codes = record {
     touches = tt;
     operates = tt;

@@ -2,9 +2,9 @@
 use Rattle.std.proofs.Common.{ℕ, ◌+◌, ◌==◌, ◌%◌, ◌<◌, ◌≤◌, ◌≡◌, inl, inr, ◌∙◌, true, false, Option, Some, None, IsSome, List, refl, sym, ap, subst, arith}
 use Rattle.std.proofs.lemmas.Bool.{ne_eqb}
 use Rattle.std.proofs.lemmas.Bool.Decides.{eqb_tells}
-use Rattle.machine_replay.specs.Vocabulary.{Call, Effect, Local, Next, PushKind, BLOCK_SLOTS, Running, Glance}
+use Rattle.machine_replay.specs.Vocabulary.{Call, Effect, Local, Next, PushKind, BLOCK_SLOTS, Running, Look}
 use Rattle.queue_steps.specs.State.{State}
-use Rattle.queue_steps.specs.Looks.{call_of_glance}
+use Rattle.queue_steps.specs.Looks.{call_of_look}
 use Rattle.queue_steps.specs.ChainWords.{offset_of}
 use Rattle.queue_steps.specs.declared.steps.unbounded.UnboundedLocal.TheVariants as chain
 use Rattle.law_common.specs.Pushes.{pushes}
@@ -85,10 +85,10 @@ unfolding pop_is_one
 no_pop PushKind.Push v = refl
 no_pop PushKind.Force v = refl
 
-glance_no_pop : (A : Type 0) (l : Glance) → pop_is_one (call_of_glance {T = A} l) ≡ 0
+look_no_pop : (A : Type 0) (l : Look) → pop_is_one (call_of_look {T = A} l) ≡ 0
 unfolding pop_is_one
-glance_no_pop A Glance.Len = refl
-glance_no_pop A l = refl
+look_no_pop A Look.Len = refl
+look_no_pop A l = refl
 
 pub by_call : {A : Type 0} {c : Chain A} {who : ℕ} {ms : List (State A)} {k : Stand A} → At c who ms k → one_of_pop k.local ≡ pop_is_one k.call
 unfolding one_of_pop pop_is_one
@@ -103,9 +103,9 @@ by_call (opening d v n name f holds mine opens links named) = sym (no_pop d v)
 by_call (chaining d v n name f holds mine links named) = sym (no_pop d v)
 by_call (writing d v n name spare holds mine spare_is) = sym (no_pop d v)
 by_call (spending d v spare none spare_is spent) = sym (no_pop d v)
-by_call {A} (count_tail l count none) = sym (glance_no_pop A l)
-by_call {A} (count_head l w count none small low) = sym (glance_no_pop A l)
-by_call {A} (count_again l w h count none small seen) = sym (glance_no_pop A l)
+by_call {A} (count_tail l count none) = sym (look_no_pop A l)
+by_call {A} (count_head l w count none small low) = sym (look_no_pop A l)
+by_call {A} (count_again l w h count none small seen) = sym (look_no_pop A l)
 by_call x = refl
 
 -- a call goes on as the call that it is

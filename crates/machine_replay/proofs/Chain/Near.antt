@@ -1,9 +1,9 @@
 -- How many steps a call on a chain has before it from the opening on, and that each step of one that nobody hinders leaves fewer.
 use Rattle.std.proofs.Common.{ℕ, ◌+◌, ◌-◌, ◌/◌, ◌%◌, ◌==◌, if◌then◌else◌, ◌<◌, ◌≤◌, ◌≡◌, ◌≢◌, inl, inr, ◌∙◌, zero, suc, Bool, true, false, Option, Some, None, List, refl, sym, ap, arith}
 use Rattle.std.proofs.lemmas.Bool.{ne_eqb, eq-eqb}
-use Rattle.machine_replay.specs.Vocabulary.{Reply, Word, Link, Op, Touch, Answer, Local, Next, PushKind, BLOCK_SLOTS, Glance}
+use Rattle.machine_replay.specs.Vocabulary.{Reply, Word, Link, Op, Touch, Answer, Local, Next, PushKind, BLOCK_SLOTS, Look}
 use Rattle.queue_steps.specs.State.{State}
-use Rattle.queue_steps.specs.Looks.{glance_reply}
+use Rattle.queue_steps.specs.Looks.{reply_of_look}
 use Rattle.queue_steps.specs.Words.{is_shut, position_of, tail_of}
 use Rattle.queue_steps.specs.ChainWords.{offset_of, items_before}
 use Rattle.queue_steps.specs.UnboundedNext as steps
@@ -189,10 +189,10 @@ stands_bare : {A : Type 0} (c : Chain A) (who : ℕ) → IsBare c who → HoldsO
 stands_bare c who bare none = stands_if c.passer (unheld c who Nothing (Only First) Head bare none (λ z. z) (λ z. absurd (cc)))
 
 -- Y3: the tail is read again
-again_fewer : (now head : ℕ) (l : Glance) (t h : ℕ) → Fewer now head (unbounded_next (chain.CountAgain l t h) (Answer.Found now)) (1 + lag now t 3)
+again_fewer : (now head : ℕ) (l : Look) (t h : ℕ) → Fewer now head (unbounded_next (chain.CountAgain l t h) (Answer.Found now)) (1 + lag now t 3)
 unfolding near_at far_at
 again_fewer now head l t h =
-    elim (now == t) as (λ b. Fewer now head (if b then ends (glance_reply None (items_before (position_of t) - items_before (position_of h)) l) else loads (chain.CountTail l) Word.Tail) (1 + (if b then 0 else 3))) [ true ↦ tt | false ↦ omega arith ]
+    elim (now == t) as (λ b. Fewer now head (if b then ends (reply_of_look None (items_before (position_of t) - items_before (position_of h)) (is_shut t) l) else loads (chain.CountTail l) Word.Tail) (1 + (if b then 0 else 3))) [ true ↦ tt | false ↦ omega arith ]
 
 -- each step of a call leaves fewer steps before it; of a pop, while no block is to be seen and nothing was accepted
 pub fewer : {A : Type 0} {c : Chain A} {who : ℕ} {ms : List (State A)} {k : Stand A} (at : At c who ms k) (a : Answer ℕ) → ChainOk c → Answers c k.op a → IsBare c who

@@ -49,7 +49,7 @@ late_most t u = elim (eqb_tells t u) [ inl e ↦ let z : late t u ≡ 0 = ap (λ
 
 -- how many steps a call of `len` has before it, and more than any has at the steps of other calls
 before : ℕ → Local ℕ → ℕ
-before t (Local.Single (Looking (Look.Glance l))) = 1
+before t (Local.Single (Looking l)) = 1
 before t (Local.Bounded (BoundedLocal.CountTail l)) = 3
 before t (Local.Bounded (BoundedLocal.CountHead l u)) = 2 + late t u
 before t (Local.Bounded (BoundedLocal.CountAgain l u h)) = 1 + late t u
@@ -60,7 +60,7 @@ before t _ = 9
 
 within : (t : ℕ) (l : Local ℕ) → IsOfLen l → (0 < before t l) × (before t l ≤ 5)
 unfolding before
-within t (Local.Single (Looking (Look.Glance l))) is = (omega arith, omega arith)
+within t (Local.Single (Looking l)) is = (omega arith, omega arith)
 within t (Local.Bounded (BoundedLocal.CountTail l)) is = (omega arith, omega arith)
 within t (Local.Bounded (BoundedLocal.CountHead l u)) is = let z = late_most t u in (omega arith, omega (arith, z))
 within t (Local.Bounded (BoundedLocal.CountAgain l u h)) is = let z = late_most t u in (omega arith, omega (arith, z))
@@ -71,7 +71,7 @@ within t _ is = absurd is
 
 is_of_len : (t : ℕ) (l : Local ℕ) → before t l ≤ 5 → IsOfLen l
 unfolding before
-is_of_len t (Local.Single (Looking (Look.Glance l))) low = tt
+is_of_len t (Local.Single (Looking l)) low = tt
 is_of_len t (Local.Bounded (BoundedLocal.CountTail l)) low = tt
 is_of_len t (Local.Bounded (BoundedLocal.CountHead l u)) low = tt
 is_of_len t (Local.Bounded (BoundedLocal.CountAgain l u h)) low = tt
@@ -118,7 +118,7 @@ module _ (T : Type 0) (k : Kind) (laws : Rules T k) (parties : ℕ) (looks : Loo
 -- on one slot it is one look
 slot_looks : {T : Type 0} {c : Stand T} {own : SlotHolder T} (ok : Bool) (s : Shared T) (x : Running T) → slot.At c own → IsOfLen c.local
     → (step_of Kind.Single ok s (running_of c)).call ≡ Some x → before s.tail x.local < before s.tail c.local
-slot_looks ok s x (slot.look_at (Look.Glance l)) is goes = cc
+slot_looks ok s x (slot.look_at l) is goes = cc
 slot_looks ok s x y is goes = absurd is
 
 -- the second read of the tail finds it as it was, or the call begins again

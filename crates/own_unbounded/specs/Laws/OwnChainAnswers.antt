@@ -13,9 +13,9 @@ use Rattle.queue_steps.specs.declared.steps.types.Touch.TheVariants as touch
 use Rattle.queue_steps.specs.declared.steps.bounded.TheConstants.{MARK}
 use Rattle.queue_steps.specs.declared.steps.bounded.PushKind.TheVariants as push_kind
 use Rattle.queue_steps.specs.declared.steps.unbounded.UnboundedLocal.TheVariants as chain
-use Rattle.queue_steps.specs.Looks.{call_of_glance, glance_reply}
-use Rattle.queue_steps.specs.declared.steps.looks.Glance.{Glance}
-use Rattle.queue_steps.proofs.LookLaws.{glance_filled, glance_table}
+use Rattle.queue_steps.specs.Looks.{call_of_look, reply_of_look}
+use Rattle.queue_steps.specs.declared.steps.looks.Look.{Look}
+use Rattle.queue_steps.proofs.LookLaws.{reply_filled, reply_table}
 use Rattle.queue_steps.specs.Replies.{is_empty}
 use Rattle.queue_steps.specs.Words.{position_of, is_shut}
 use Rattle.queue_steps.specs.ChainWords.{offset_at, over_end}
@@ -69,16 +69,16 @@ is_empty-answers {T} r i = (
     is xs long = rw (unmoved (position_of r.tail) i.tail_rests, unmoved (position_of r.head) i.head_rests) (same xs long)
 
 -- a call that counts the items
-counted : {T : Type 0} (r : OwnChain T) (g : Glance) → IsIdle r → OwnChainEnds SOLO_STEPS (loads (chain.CountTail g) word.Tail) r None (Right (call_of_glance g) r)
+counted : {T : Type 0} (r : OwnChain T) (g : Look) → IsIdle r → OwnChainEnds SOLO_STEPS (loads (chain.CountTail g) word.Tail) r None (Right (call_of_look g) r)
 counted {T} r g i =
     let again : (r.tail == r.tail) ≡ true = same_nat r.tail in
     let many : ℕ = accepted r - taken r in
-    let table = glance_table (own_chain_queue r) None many g refl (length-items r i) in
-    bare_step (SOLO_STEPS - 1) (chain.CountTail g) (op.Load word.Tail) r r None (answer.Found r.tail) (loads (chain.CountHead g r.tail) word.Head) (Right (call_of_glance g) r) tt (λ x y e. e) refl tt refl
-    (bare_step (SOLO_STEPS - 2) (chain.CountHead g r.tail) (op.Load word.Head) r r None (answer.Found r.head) (loads (chain.CountAgain g r.tail r.head) word.Tail) (Right (call_of_glance g) r) tt (λ x y e. e) refl tt refl
-    (bare_step (SOLO_STEPS - 3) (chain.CountAgain g r.tail r.head) (op.Load word.Tail) r r None (answer.Found r.tail) (ends (glance_reply None many g)) (Right (call_of_glance g) r) tt (λ x y e. e) refl
+    let table = reply_table (own_chain_queue r) None many (is_shut r.tail) g refl (length-items r i) refl in
+    bare_step (SOLO_STEPS - 1) (chain.CountTail g) (op.Load word.Tail) r r None (answer.Found r.tail) (loads (chain.CountHead g r.tail) word.Head) (Right (call_of_look g) r) tt (λ x y e. e) refl tt refl
+    (bare_step (SOLO_STEPS - 2) (chain.CountHead g r.tail) (op.Load word.Head) r r None (answer.Found r.head) (loads (chain.CountAgain g r.tail r.head) word.Tail) (Right (call_of_look g) r) tt (λ x y e. e) refl tt refl
+    (bare_step (SOLO_STEPS - 3) (chain.CountAgain g r.tail r.head) (op.Load word.Tail) r r None (answer.Found r.tail) (ends (reply_of_look None many (is_shut r.tail) g)) (Right (call_of_look g) r) tt (λ x y e. e) refl
     (tail-word r i, head-word r i, λ e. i.order) (rw again refl)
-    (i, (glance_reply None many g, glance_filled T None many g, sequential r r (call_of_glance g) (glance_reply None many g) i table.0 table.1 (λ x. refl)))))
+    (i, (reply_of_look None many (is_shut r.tail) g, reply_filled T None many (is_shut r.tail) g, sequential r r (call_of_look g) (reply_of_look None many (is_shut r.tail) g) i table.0 table.1 (λ x. refl)))))
 
 pub own_chain_answers : {T : Type 0} (r : OwnChain T) (c : Call T) → IsIdle r → OwnChainAnswers r c
 own_chain_answers r (call.Push v) i = (tt, push-answers r v push_kind.Push i)

@@ -2,7 +2,7 @@
 //! A slot's stamp is the position for which it is free, and one more once it is filled for it.
 ghost use Rattle.std.specs.Prelude.{◌≡◌, ⊤};
 
-use crate::steps::Glance;
+use crate::steps::Look;
 use std::alloc::AllocError;
 
 /// What is set in a tail once the queue is closed.
@@ -50,11 +50,11 @@ pub enum BoundedLocal {
     /// O5: the read of the tail.
     PopTail(u64),
     /// L1: the read of the tail, by a call that counts the items.
-    CountTail(Glance),
+    CountTail(Look),
     /// L2: the read of the head after that tail.
-    CountHead(Glance, u64),
+    CountHead(Look, u64),
     /// L3: the second read of the tail, after that tail and that head.
-    CountAgain(Glance, u64, u64),
+    CountAgain(Look, u64, u64),
     /// E1: the read of the head.
     EmptyHead,
     /// E2: the read of the tail after that head.

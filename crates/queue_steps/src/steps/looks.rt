@@ -1,24 +1,18 @@
-//! Calls by what they do to the queue, and what those answer that look at the list alone.
+//! Calls by what they do to the queue, and what those answer that look at it.
 ghost use Rattle.std.specs.Prelude.{◌≡◌};
-ghost use Rattle.queue_steps.specs.Looks.{call_view, glance_reply};
+ghost use Rattle.queue_steps.specs.Looks.{call_view, reply_of_look};
 ghost use Rattle.queue_steps.specs.State.{fills};
 
 use crate::model::{Call, CallKind, Reply, ReplyKind};
 use crate::steps::PushKind;
 
-/// A call that looks at the list alone: what it answers depends on how many items there are, and on the capacity.
-#[derive(Clone, Copy, PartialEq)]
-pub enum Glance {
-    IsEmpty,
-    IsFull,
-    Len,
-}
-
 /// A call that looks at the queue and changes nothing.
 #[derive(Clone, Copy, PartialEq)]
 pub enum Look {
     IsClosed,
-    Glance(Glance),
+    IsEmpty,
+    IsFull,
+    Len,
 }
 
 /// What a call does.
@@ -44,24 +38,25 @@ impl CallView {
             Call::Pop => CallView::Pop,
             Call::Close => CallView::Close,
             Call::IsClosed => CallView::Look(Look::IsClosed),
-            Call::IsEmpty => CallView::Look(Look::Glance(Glance::IsEmpty)),
-            Call::IsFull => CallView::Look(Look::Glance(Glance::IsFull)),
-            Call::Len => CallView::Look(Look::Glance(Glance::Len)),
+            Call::IsEmpty => CallView::Look(Look::IsEmpty),
+            Call::IsFull => CallView::Look(Look::IsFull),
+            Call::Len => CallView::Look(Look::Len),
             Call::Capacity => CallView::Capacity,
         }
     }
 }
 
-impl Glance {
-    /// What it answers where a queue of this capacity has so many items.
+impl Look {
+    /// What it answers where a queue of this capacity has so many items, and is closed or not.
     #[inline(always)]
-    pub fn reply(self, cap: Option<usize>, len: usize) -> ReplyKind
-        ensures { result ≡ glance_reply cap len self }
+    pub fn reply(self, cap: Option<usize>, len: usize, is_closed: bool) -> ReplyKind
+        ensures { result ≡ reply_of_look cap len is_closed self }
     {
         match self {
-            Glance::IsEmpty => Reply::IsEmpty(len == 0),
-            Glance::IsFull => Reply::IsFull(is_filled(cap, len)),
-            Glance::Len => Reply::Len(len),
+            Look::IsClosed => Reply::IsClosed(is_closed),
+            Look::IsEmpty => Reply::IsEmpty(len == 0),
+            Look::IsFull => Reply::IsFull(is_filled(cap, len)),
+            Look::Len => Reply::Len(len),
         }
     }
 }

@@ -3,7 +3,7 @@
 //! offset of a block has no slot, and a tail or a head stands there only while a call moves it to the next block.
 ghost use Rattle.std.specs.Prelude.{◌≡◌, ⊤};
 
-use crate::steps::{Glance, PushKind};
+use crate::steps::{Look, PushKind};
 use std::alloc::AllocError;
 
 /// The slot's item is written.
@@ -65,11 +65,11 @@ pub enum UnboundedLocal<B> {
     /// W2: the mark by which the slot's reader is told to go on with the walk.
     Destroying(B, u64),
     /// Y1: the read of the tail, by a call that counts the items.
-    CountTail(Glance),
+    CountTail(Look),
     /// Y2: the read of the head after that tail.
-    CountHead(Glance, u64),
+    CountHead(Look, u64),
     /// Y3: the second read of the tail, after that tail and that head.
-    CountAgain(Glance, u64, u64),
+    CountAgain(Look, u64, u64),
     /// E1: the read of the head.
     EmptyHead,
     /// E2: the read of the tail after that head.

@@ -2,7 +2,7 @@
 use Rattle.std.proofs.Common.{ℕ, ◌≡◌, ◌≤◌, inl, inr, false, Option, Some, None, List, refl, ap}
 use Rattle.std.proofs.lemmas.Bool.Decides.{eqb_tells}
 use denote.RawPtr.{Ptr}
-use Rattle.law_common.specs.Vocabulary.{Call, Effect, Word, Op, Touch, Answer, Local, PushKind, BLOCK_SLOTS, Glance}
+use Rattle.law_common.specs.Vocabulary.{Call, Effect, Word, Op, Touch, Answer, Local, PushKind, BLOCK_SLOTS, Look}
 use Rattle.queue_steps.specs.State.{State}
 use Rattle.queue_steps.specs.Looks.{IsCount}
 use Rattle.queue_steps.specs.Words.{IsWord, position_of}
@@ -40,7 +40,7 @@ pop_spare h (Some b) x = elim (eqb_tells (position_of x) (position_of h)) [
   | inr t ↦ elim (eqb_tells (block_at (position_of x)) (block_at (position_of h))) [ inl u ↦ rw (t.0, u.0) refl | inr u ↦ rw (t.0, u.0) refl ]
 ]
 
-again_spare : (g : Glance) (t h x : ℕ) → spare_on (unbounded_next (chain.CountAgain g t h) (Answer.Found x)) ≡ None
+again_spare : (g : Look) (t h x : ℕ) → spare_on (unbounded_next (chain.CountAgain g t h) (Answer.Found x)) ≡ None
 again_spare g t h x = elim (eqb_tells x t) [ inl e ↦ rw (e.0) refl | inr e ↦ rw (e.0) refl ]
 
 module _ {A : Type 0} (te he : Ptr) (g : OutChain A) (who : ℕ) (bs : List (Block A)) (m : Sitter A (CallState A)) (ms : List (State A)) where
@@ -82,11 +82,11 @@ module _ {A : Type 0} (te he : Ptr) (g : OutChain A) (who : ℕ) (bs : List (Blo
       → BlockStep te he g who bs m {ms = ms} (empty_tail h none small saw)
   step_empty_tail h none small saw = load_tail (empty_tail h none small saw) refl none refl
 
-  pub step_count_tail : (l : Glance) (count : IsCount A l) (none : HoldsOnly g.chain who Nothing)
+  pub step_count_tail : (l : Look) (count : IsCount A l) (none : HoldsOnly g.chain who Nothing)
       → Codes te he g bs → (xs : List (ℕ × Option A)) → ChainLent g who xs → HoldsBy (Local.Unbounded (chain.CountTail l)) (Op.Load Word.Tail) xs m → BlockStep te he g who bs m {ms = ms} (count_tail l count none)
   step_count_tail l count none = load_tail (count_tail l count none) refl none refl
 
-  pub step_count_again : (l : Glance) (t h : ℕ) (count : IsCount A l) (none : HoldsOnly g.chain who Nothing) (small : IsWord t × IsWord h) (seen : SeenIn ms (HeadWas None (items_before (position_of h)) (items_before (position_of t)) g.chain.tail))
+  pub step_count_again : (l : Look) (t h : ℕ) (count : IsCount A l) (none : HoldsOnly g.chain who Nothing) (small : IsWord t × IsWord h) (seen : SeenIn ms (HeadWas None (items_before (position_of h)) (items_before (position_of t)) g.chain.tail))
       → Codes te he g bs → (xs : List (ℕ × Option A)) → ChainLent g who xs → HoldsBy (Local.Unbounded (chain.CountAgain l t h)) (Op.Load Word.Tail) xs m
       → BlockStep te he g who bs m {ms = ms} (count_again l t h count none small seen)
   step_count_again l t h count none small seen = load_tail (count_again l t h count none small seen) refl none (again_spare l t h (word_of bs 0 0))
@@ -95,7 +95,7 @@ module _ {A : Type 0} (te he : Ptr) (g : OutChain A) (who : ℕ) (bs : List (Blo
       → Codes te he g bs → (xs : List (ℕ × Option A)) → ChainLent g who xs → HoldsBy (Local.Unbounded chain.PopHead) (Op.Load Word.Head) xs m → BlockStep te he g who bs m {ms = ms} (pop_head none)
   step_pop_head none = load_head (pop_head none) refl none (head_spare (word_of bs 1 0))
 
-  pub step_count_head : (l : Glance) (t : ℕ) (count : IsCount A l) (none : HoldsOnly g.chain who Nothing) (small : IsWord t) (low : items_before (position_of t) ≤ g.chain.tail)
+  pub step_count_head : (l : Look) (t : ℕ) (count : IsCount A l) (none : HoldsOnly g.chain who Nothing) (small : IsWord t) (low : items_before (position_of t) ≤ g.chain.tail)
       → Codes te he g bs → (xs : List (ℕ × Option A)) → ChainLent g who xs → HoldsBy (Local.Unbounded (chain.CountHead l t)) (Op.Load Word.Head) xs m
       → BlockStep te he g who bs m {ms = ms} (count_head l t count none small low)
   step_count_head l t count none small low = load_head (count_head l t count none small low) refl none refl
