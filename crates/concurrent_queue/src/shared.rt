@@ -312,24 +312,46 @@ impl<T, A: Allocator> ConcurrentQueue<T, A> {
         requires { IsPartyOf party.old self.now }
         ensures { Calls party.old call.Pop (reply.Pop result) party.new }
     {
-        let reply = match &mut party.place {
-            SeatPlace::Table(seat) => {
-                match self.form.begin_at::<Open, Pops>(&Open, seat, Call::Pop) {
+        let call = Call::Pop;
+        let reply = match (&self.form, &mut party.place) {
+            (Form::Single(slot), SeatPlace::Table(seat)) => {
+                let begun = <OnSlot as FastSteps<SharedTable<T, Slots, A>>>::run::<Open, Pops>(
+                    OnSlot, slot, &Open, seat, call,
+                );
+                match begun {
                     ControlFlow::Break(reply) => reply,
-                    ControlFlow::Continue(left) => self.form.end_at(rt, &Open, seat, left),
+                    ControlFlow::Continue(left) => run_slow::<SharedTable<T, Slots, A>, Open, _>(
+                        slot,
+                        &Open,
+                        Waiting { rt },
+                        seat,
+                        left,
+                    ),
                 }
             }
-            SeatPlace::Web(rested) => match &self.form {
-                Form::Chain(chain) => chain::answer::<T, A, Refusing, Open, R, Pops>(
-                    chain,
-                    rt,
+            (Form::Ring(ring), SeatPlace::Table(seat)) => {
+                let begun = <OnRing as FastSteps<SharedTable<T, Rings, A>>>::run::<Open, Pops>(
+                    on_ring(ring),
+                    ring,
                     &Open,
-                    rested,
-                    Call::Pop,
-                ),
-                _ => unreachable!(),
-            },
-            SeatPlace::Away => unreachable!(),
+                    seat,
+                    call,
+                );
+                match begun {
+                    ControlFlow::Break(reply) => reply,
+                    ControlFlow::Continue(left) => run_slow::<SharedTable<T, Rings, A>, Open, _>(
+                        ring,
+                        &Open,
+                        Waiting { rt },
+                        seat,
+                        left,
+                    ),
+                }
+            }
+            (Form::Chain(chain), SeatPlace::Web(rested)) => {
+                chain::answer::<T, A, Refusing, Open, R, Pops>(chain, rt, &Open, rested, call)
+            }
+            _ => unreachable!(),
         };
         match reply {
             Reply::Pop(result) => result,

@@ -1,35 +1,42 @@
 use Rattle.std.proofs.Common.{rules, ap, subst, ◌∙◌, sym}
 use Rattle.queue_steps.specs.declared.model.Call.TheVariants as call
-use Rattle.concurrent_queue.specs.declared.party.SeatPlace.TheVariants as place
 use Rattle.concurrent_queue.specs.Shared.{QueueId, form_id, IsHeld, Calls, party_view_of}
 use Rattle.concurrent_queue.proofs.PartyViews.{pop_reply}
-use Rattle.concurrent_queue.proofs.TableCalls.{ends_where}
+use Rattle.concurrent_queue.proofs.TableCalls.{begins_here, ends_here}
 use Rattle.concurrent_queue.proofs.WebParties.{web_ends}
 use Rattle.concurrent_queue.proofs.shared.ConcurrentQueue.pop.Given.{Over}
-use Rattle.concurrent_queue.proofs.shared.ConcurrentQueue.pop.Goals.{In-Pop, in-Table+in-Break, in-Table+in-Continue, in-Web+in-Chain}
+use Rattle.concurrent_queue.proofs.shared.ConcurrentQueue.pop.Goals.{In-Pop, in-Single-Table+in-Break, in-Single-Table+in-Continue, in-Ring-Table+in-Break-begun, in-Ring-Table+in-Continue-begun, in-Chain-Web}
 use Rattle.concurrent_queue.proofs.shared.ConcurrentQueue.pop.Goals as goal
 
-pub end_at-requires : goal.end_at-requires
-end_at-requires g c = record { left = (call.Pop, c.in-Table.seat, c.in-Continue.ensures) }
+pub run-begun-requires : goal.run-begun-requires
+run-begun-requires g c = let b = c.in-Single-Table in record { rests = begins_here _ b.seat _ _ c.args.party.now b.is-1 c.party.invariant c.party.view_is (c.requires ∙ (sym c.self.view_is ∙ ap form_id b.is-0)) }
 
-ends : (g : Over) (c : In-Pop g) → IsHeld c.match-party.party-inside.place × Calls c.args.party.now call.Pop c.match-party.reply (party_view_of c.match-party.party-inside.place)
-ends g c = elim c.match-party.branch [
-  | in-Table+in-Break w ↦ (ends_where _ (place.Table w.in-Table.seat) _ (place.Table w.begin_at.new.seat) c.args.party.now call.Pop _ _ w.in-Table.is c.party.view_is (ap (λ p. p.place) w.party-inside-is) w.reply-is w.in-Break.ensures)
-  | in-Table+in-Continue w ↦ (ends_where _ (place.Table w.in-Table.seat) _ (place.Table w.end_at.new.seat) c.args.party.now call.Pop _ _ w.in-Table.is c.party.view_is (ap (λ p. p.place) w.party-inside-is) w.reply-is (w.end_at.ensures call.Pop w.in-Table.seat (w.in-Continue.ensures)))
-  | in-Web+in-Chain w ↦ (web_ends _ _ w.in-Web.rested w.answer.new.party c.args.party.now call.Pop _ _ w.in-Web.is c.party.invariant (ap (λ p. p.place) w.party-inside-is) w.reply-is c.party.view_is (ap (λ (z : QueueId). z.cap) (c.requires ∙ (sym c.self.view_is ∙ ap form_id w.in-Chain.is))) w.answer.ensures)
+pub run-begun-requires-in-Ring-Table : goal.run-begun-requires-in-Ring-Table
+run-begun-requires-in-Ring-Table g c = let b = c.in-Ring-Table in record { rests = begins_here _ b.seat _ _ c.args.party.now b.is-1 c.party.invariant c.party.view_is (c.requires ∙ (sym c.self.view_is ∙ ap form_id b.is-0)) }
+
+ends : (g : Over) (c : In-Pop g) → IsHeld c.match-self.party-inside.place × Calls c.args.party.now call.Pop c.match-self.reply (party_view_of c.match-self.party-inside.place)
+ends g c = let v = c.args.party.now in let k = call.Pop in elim c.match-self.branch [
+  | in-Single-Table+in-Break w ↦ let b = w.in-Single-Table in (ends_here _ b.seat _ _ v b.is-1 c.party.invariant c.party.view_is (c.requires ∙ (sym c.self.view_is ∙ ap form_id b.is-0)) w.run-begun.new.seat _ k _ _ (ap (λ p. p.place) w.party-inside-is) w.reply-is w.in-Break.ensures)
+  | in-Single-Table+in-Continue w ↦ let b = w.in-Single-Table in (ends_here _ b.seat _ _ v b.is-1 c.party.invariant c.party.view_is (c.requires ∙ (sym c.self.view_is ∙ ap form_id b.is-0)) w.run_slow.new.seat _ k _ _ (ap (λ p. p.place) w.party-inside-is) w.reply-is (w.run_slow.ensures k b.seat w.in-Continue.ensures))
+  | in-Ring-Table+in-Break-begun w ↦ let b = w.in-Ring-Table in (ends_here _ b.seat _ _ v b.is-1 c.party.invariant c.party.view_is (c.requires ∙ (sym c.self.view_is ∙ ap form_id b.is-0)) w.run-begun-in-Ring-Table.new.seat _ k _ _ (ap (λ p. p.place) w.party-inside-is) w.reply-is w.in-Break-begun.ensures)
+  | in-Ring-Table+in-Continue-begun w ↦ let b = w.in-Ring-Table in (ends_here _ b.seat _ _ v b.is-1 c.party.invariant c.party.view_is (c.requires ∙ (sym c.self.view_is ∙ ap form_id b.is-0)) w.run_slow-in-Continue-begun.new.seat _ k _ _ (ap (λ p. p.place) w.party-inside-is) w.reply-is (w.run_slow-in-Continue-begun.ensures k b.seat w.in-Continue-begun.ensures))
+  | in-Chain-Web w ↦ let b = w.in-Chain-Web in (web_ends _ _ b.rested w.answer-reply.new.party v k _ _ b.is-1 c.party.invariant (ap (λ p. p.place) w.party-inside-is) w.reply-is c.party.view_is (ap (λ (z : QueueId). z.cap) (c.requires ∙ (sym c.self.view_is ∙ ap form_id b.is-0))) w.answer-reply.ensures)
 ]
 
 pub invariant_of-party : goal.invariant_of-party
 invariant_of-party g c = (ends g c).0
 
 pub returns : goal.returns
-returns g c = subst (λ r. Calls c.args.party.now call.Pop r (party_view_of c.match-party.party-inside.place)) c.in-Pop.is (ends g c).1
+returns g c = subst (λ r. Calls c.args.party.now call.Pop r (party_view_of c.match-self.party-inside.place)) c.in-Pop.is (ends g c).1
 
 pub unreachable-requires-in_default-reply : goal.unreachable-requires-in_default-reply
 unreachable-requires-in_default-reply g c =
-    let told : Calls c.args.party.now call.Pop c.match-party.reply (party_view_of c.match-party.party-inside.place) = elim c.match-party.branch [
-      | in-Table+in-Break w ↦ (ends_where _ (place.Table w.in-Table.seat) _ (place.Table w.begin_at.new.seat) c.args.party.now call.Pop _ _ w.in-Table.is c.party.view_is (ap (λ p. p.place) w.party-inside-is) w.reply-is w.in-Break.ensures).1
-      | in-Table+in-Continue w ↦ (ends_where _ (place.Table w.in-Table.seat) _ (place.Table w.end_at.new.seat) c.args.party.now call.Pop _ _ w.in-Table.is c.party.view_is (ap (λ p. p.place) w.party-inside-is) w.reply-is (w.end_at.ensures call.Pop w.in-Table.seat (w.in-Continue.ensures))).1
-      | in-Web+in-Chain w ↦ (web_ends _ _ w.in-Web.rested w.answer.new.party c.args.party.now call.Pop _ _ w.in-Web.is c.party.invariant (ap (λ p. p.place) w.party-inside-is) w.reply-is c.party.view_is (ap (λ (z : QueueId). z.cap) (c.requires ∙ (sym c.self.view_is ∙ ap form_id w.in-Chain.is))) w.answer.ensures).1
+    let v = c.args.party.now in let k = call.Pop in
+    let told : Calls v k c.match-self.reply (party_view_of c.match-self.party-inside.place) = elim c.match-self.branch [
+      | in-Single-Table+in-Break w ↦ let b = w.in-Single-Table in (ends_here _ b.seat _ _ v b.is-1 c.party.invariant c.party.view_is (c.requires ∙ (sym c.self.view_is ∙ ap form_id b.is-0)) w.run-begun.new.seat _ k _ _ (ap (λ p. p.place) w.party-inside-is) w.reply-is w.in-Break.ensures).1
+      | in-Single-Table+in-Continue w ↦ let b = w.in-Single-Table in (ends_here _ b.seat _ _ v b.is-1 c.party.invariant c.party.view_is (c.requires ∙ (sym c.self.view_is ∙ ap form_id b.is-0)) w.run_slow.new.seat _ k _ _ (ap (λ p. p.place) w.party-inside-is) w.reply-is (w.run_slow.ensures k b.seat w.in-Continue.ensures)).1
+      | in-Ring-Table+in-Break-begun w ↦ let b = w.in-Ring-Table in (ends_here _ b.seat _ _ v b.is-1 c.party.invariant c.party.view_is (c.requires ∙ (sym c.self.view_is ∙ ap form_id b.is-0)) w.run-begun-in-Ring-Table.new.seat _ k _ _ (ap (λ p. p.place) w.party-inside-is) w.reply-is w.in-Break-begun.ensures).1
+      | in-Ring-Table+in-Continue-begun w ↦ let b = w.in-Ring-Table in (ends_here _ b.seat _ _ v b.is-1 c.party.invariant c.party.view_is (c.requires ∙ (sym c.self.view_is ∙ ap form_id b.is-0)) w.run_slow-in-Continue-begun.new.seat _ k _ _ (ap (λ p. p.place) w.party-inside-is) w.reply-is (w.run_slow-in-Continue-begun.ensures k b.seat w.in-Continue-begun.ensures)).1
+      | in-Chain-Web w ↦ let b = w.in-Chain-Web in (web_ends _ _ b.rested w.answer-reply.new.party v k _ _ b.is-1 c.party.invariant (ap (λ p. p.place) w.party-inside-is) w.reply-is c.party.view_is (ap (λ (z : QueueId). z.cap) (c.requires ∙ (sym c.self.view_is ∙ ap form_id b.is-0))) w.answer-reply.ensures).1
     ] in
     let is = pop_reply _ _ _ told in search rules
