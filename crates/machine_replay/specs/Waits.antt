@@ -2,7 +2,7 @@
 use Rattle.std.specs.Prelude.{◌≡◌, ◌≢◌, ℕ, true, Option, Some, None, List, false, [], ◌∷◌, ◌<◌, count_by}
 use Rattle.queue_steps.specs.SingleNext.{unlocked}
 use Rattle.queue_steps.specs.Words.{IsRing}
-use Rattle.machine_replay.specs.Vocabulary.{Kind, Look, Local, PushKind, Event, Running}
+use Rattle.machine_replay.specs.Vocabulary.{Kind, Local, PushKind, Event, Running}
 use Rattle.queue_steps.specs.declared.steps.bounded.BoundedLocal.TheVariants as ring
 use Rattle.queue_steps.specs.declared.steps.single.SingleLocal.TheVariants.{Pushing, Pushed, Forcing, Forced, Popping, Popped, Looking}
 use Rattle.queue_steps.specs.declared.steps.unbounded.UnboundedLocal.TheVariants as chain

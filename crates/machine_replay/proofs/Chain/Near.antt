@@ -1,7 +1,7 @@
 -- How many steps a call on a chain has before it from the opening on, and that each step of one that nobody hinders leaves fewer.
 use Rattle.std.proofs.Common.{ℕ, ◌+◌, ◌-◌, ◌/◌, ◌%◌, ◌==◌, if◌then◌else◌, ◌<◌, ◌≤◌, ◌≡◌, ◌≢◌, inl, inr, ◌∙◌, zero, suc, Bool, true, false, Option, Some, None, List, refl, sym, ap, arith}
 use Rattle.std.proofs.lemmas.Bool.{ne_eqb, eq-eqb}
-use Rattle.machine_replay.specs.Vocabulary.{Reply, Word, Link, Op, Touch, Answer, Local, Next, PushKind, BLOCK_SLOTS, Look}
+use Rattle.machine_replay.specs.Vocabulary.{Word, Link, Op, Touch, Answer, Local, Next, PushKind, BLOCK_SLOTS, Look}
 use Rattle.queue_steps.specs.State.{State}
 use Rattle.queue_steps.specs.Looks.{reply_of_look}
 use Rattle.queue_steps.specs.Words.{is_shut, position_of, tail_of}

@@ -3,7 +3,7 @@ use Rattle.std.proofs.Common.{◌≡◌, ◌≢◌, ◌∙◌, ℕ, ◌+◌, ◌
 use Rattle.std.proofs.lemmas.Bool.{eq-eqb, ltb-false}
 use Rattle.std.proofs.lemmas.Bool.Decides.{eqb_tells}
 use Rattle.queue_steps.specs.State.{State}
-use Rattle.machine_replay.specs.Vocabulary.{Kind, Look, Local, Next, BoundedLocal, MAX_CAPACITY, Event, Running}
+use Rattle.machine_replay.specs.Vocabulary.{Kind, Local, Next, BoundedLocal, MAX_CAPACITY, Event, Running}
 use Rattle.queue_steps.specs.declared.steps.single.SingleLocal.TheVariants.{Looking}
 use Rattle.queue_steps.specs.declared.steps.unbounded.UnboundedLocal.TheVariants as chain
 use Rattle.law_slot.specs.SlotHolder.{SlotHolder}
