@@ -140,7 +140,7 @@ impl<B: Copy> Clone for Answer<B> {
 }
 
 /// Where a call stands: what it asked last, and what it has to remember.
-// Over all variants it has eight parts, bytes and words by their places. With a ninth, as by a place with two bytes, the compiler keeps it in memory, and a call takes three to five times as many instructions.
+// Over all variants it has eight parts, bytes and words by their places. With a ninth, as by a place with two bytes, the compiler keeps it in memory, and a call takes three to six times as many instructions.
 #[derive(Copy, Drop)]
 pub enum Local<B> {
     /// Before the first step.
