@@ -15,6 +15,8 @@
  * Checked, each by an answer of its own: a handle without a party, so also one that was dropped twice; one that has a party where none may be; a capacity
  * of 0; a queue that other parties share; a party that was dropped before the end; a call while another one is pending.
  *
+ * It needs a processor of x86-64-v2 or later, and nothing of the system but malloc, realloc, free, memcpy and memset.
+ *
  * No call waits. One that meets another thread's call half done, or that others overtake again and again, answers QUEUE_C_PENDING: its handle keeps it, and
  * queue_c_resume takes it up again. Until it has its reply, each other call of that handle but queue_c_capacity and queue_c_drop answers QUEUE_C_BUSY.
  */
@@ -24,6 +26,9 @@
 #include <sched.h>
 #include <stddef.h>
 #include <stdint.h>
+
+/* The version of the repository that these declarations are from. */
+#define QUEUE_C_VERSION "1.1.0"
 
 #ifdef __cplusplus
 extern "C" {

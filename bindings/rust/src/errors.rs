@@ -5,16 +5,19 @@ use std::fmt;
 /// Why nothing was popped.
 #[derive(Clone, Copy, Debug, Eq, PartialEq)]
 pub enum PopError {
+    /// The queue is empty and open.
     Empty,
-    /// Empty and closed.
+    /// The queue is empty and closed.
     Closed,
 }
 
 impl PopError {
+    /// Whether the queue was open.
     pub fn is_empty(&self) -> bool {
         *self == PopError::Empty
     }
 
+    /// Whether the queue was closed.
     pub fn is_closed(&self) -> bool {
         *self == PopError::Closed
     }
@@ -31,21 +34,26 @@ impl Error for PopError {}
 /// Why an item was not pushed, and the item.
 #[derive(Clone, Copy, Debug, Eq, PartialEq)]
 pub enum PushError<T> {
+    /// The queue has no room.
     Full(T),
+    /// The queue is closed.
     Closed(T),
 }
 
 impl<T> PushError<T> {
+    /// The item that was not pushed.
     pub fn into_inner(self) -> T {
         match self {
             PushError::Full(item) | PushError::Closed(item) => item,
         }
     }
 
+    /// Whether the queue had no room.
     pub fn is_full(&self) -> bool {
         matches!(self, PushError::Full(_))
     }
 
+    /// Whether the queue was closed.
     pub fn is_closed(&self) -> bool {
         matches!(self, PushError::Closed(_))
     }
@@ -64,6 +72,7 @@ impl<T: fmt::Debug> Error for PushError<T> {}
 pub struct ForcePushError<T>(pub T);
 
 impl<T> ForcePushError<T> {
+    /// The item that was not pushed.
     pub fn into_inner(self) -> T {
         self.0
     }

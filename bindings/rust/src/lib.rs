@@ -1,118 +1,90 @@
-//! Queues of any items, first in first out, that can be closed, over the static library `queue_c`.
+//! Queues of any items, first in first out, that can be closed, over the proved static library `queue_c`.
 //!
-//! `ConcurrentQueue` has the names of the crate `concurrent-queue`, and any thread may use one behind a `&`. The library has a party for each of its users, so
-//! the queue keeps a pool of them: a thread takes the one at its own place for a call, and puts it back. `Handle` is one party, without a pool.
+//! [`ConcurrentQueue`] has the names of the crate `concurrent-queue` 2.5.0, and any thread may use one behind a `&`. The library has a party for each of its
+//! users, so the queue keeps one for each thread that calls it. [`Handle`] is one party, and needs no look for it.
 //!
 //! An item that fits a word is a word of the queue. A larger one is boxed.
-#![deny(unsafe_code)]
+//!
+//! It needs the standard library, and a processor of x86-64-v2 or later, whichever features are asked for.
+#![deny(unsafe_code, missing_docs)]
+
+#[cfg(feature = "loom")]
+compile_error!("the feature `loom` is of the reference's own steps: here the steps are the library's, which loom cannot see");
 
 mod errors;
 mod handle;
 #[allow(unsafe_code)]
+mod places;
+mod pool;
+#[allow(unsafe_code)]
 mod raw;
+#[cfg(doctest)]
+mod refused;
+mod threads;
 
 pub use errors::{ForcePushError, PopError, PushError};
 pub use handle::Handle;
 
-use handle::Last;
-use raw::{Party, Place};
-use std::cell::Cell;
+use pool::Pool;
+use raw::Party;
 use std::fmt;
 use std::panic::{RefUnwindSafe, UnwindSafe};
-use std::sync::atomic::{AtomicUsize, Ordering};
-use std::sync::{Mutex, MutexGuard, PoisonError};
-
-/// How many threads have a place of their own in a pool.
-const PLACES: usize = 64;
-
-/// The parties that are at no place, and one that makes more of them.
-struct Reserve<T> {
-    spare: Vec<Party<T>>,
-    // Dropped after the others.
-    last: Last<T>,
-}
+use std::sync::OnceLock;
 
 /// A queue that any thread may use.
 pub struct ConcurrentQueue<T> {
-    places: Box<[Place<T>]>,
     capacity: Option<usize>,
-    // Dropped after the places.
-    reserve: Mutex<Reserve<T>>,
+    pool: OnceLock<Pool<T>>,
 }
 
 impl<T> UnwindSafe for ConcurrentQueue<T> {}
 impl<T> RefUnwindSafe for ConcurrentQueue<T> {}
 
-/// Which place of a pool is this thread's.
-fn my_place() -> usize {
-    static NEXT: AtomicUsize = AtomicUsize::new(0);
-    thread_local! { static MINE: Cell<Option<usize>> = const { Cell::new(None) }; }
-    MINE.with(|mine| {
-        mine.get().unwrap_or_else(|| {
-            let place = NEXT.fetch_add(1, Ordering::Relaxed) % PLACES;
-            mine.set(Some(place));
-            place
-        })
-    })
-}
-
 impl<T> ConcurrentQueue<T> {
-    fn new(capacity: Option<usize>) -> Self {
-        let places = (0..PLACES).map(|_| Place::new()).collect();
-        let last = Last(Party::new(capacity));
-        let reserve = Mutex::new(Reserve { spare: Vec::new(), last });
-        ConcurrentQueue { places, capacity, reserve }
-    }
-
     /// A queue that has room for so many items.
+    ///
+    /// # Panics
+    ///
+    /// Where the capacity is 0, or so large that no memory has room for it.
     pub fn bounded(cap: usize) -> Self {
         assert!(cap > 0, "capacity must be positive");
-        Self::new(Some(cap))
+        ConcurrentQueue { capacity: Some(cap), pool: OnceLock::from(Pool::new(Some(cap))) }
     }
 
-    /// A queue without a limit. It asks for memory, so it is no `const fn`.
-    pub fn unbounded() -> Self {
-        Self::new(None)
-    }
-
-    fn reserve(&self) -> MutexGuard<'_, Reserve<T>> {
-        self.reserve.lock().unwrap_or_else(PoisonError::into_inner)
-    }
-
-    #[cold]
-    fn another(&self) -> Party<T> {
-        let mut reserve = self.reserve();
-        reserve.spare.pop().unwrap_or_else(|| reserve.last.0.split())
-    }
-
-    #[cold]
-    fn give_back(&self, party: Party<T>) {
-        self.reserve().spare.push(party);
+    /// A queue without a limit. It asks for memory at its first call.
+    pub const fn unbounded() -> Self {
+        ConcurrentQueue { capacity: None, pool: OnceLock::new() }
     }
 
     /// Runs a call with a party that no other thread has.
     #[inline]
     fn with<R>(&self, call: impl FnOnce(&mut Party<T>) -> R) -> R {
-        let place = &self.places[my_place()];
-        let mut party = place.take().unwrap_or_else(|| self.another());
-        let result = call(&mut party);
-        if let Some(other) = place.put(party) {
-            self.give_back(other);
-        }
-        result
+        self.pool.get_or_init(|| Pool::new(self.capacity)).with(call)
     }
 
     /// Appends an item.
+    ///
+    /// # Errors
+    ///
+    /// Where the queue is full or closed, the item comes back.
     pub fn push(&self, value: T) -> Result<(), PushError<T>> {
         self.with(|party| party.push(value))
     }
 
     /// Appends an item, and hands the front out where the queue was full.
+    ///
+    /// # Errors
+    ///
+    /// Where the queue is closed, the item comes back.
     pub fn force_push(&self, value: T) -> Result<Option<T>, ForcePushError<T>> {
         self.with(|party| party.force_push(value))
     }
 
     /// Takes the front off.
+    ///
+    /// # Errors
+    ///
+    /// Where the queue is empty, which says whether it is closed too.
     pub fn pop(&self) -> Result<T, PopError> {
         self.with(Party::pop)
     }
@@ -122,10 +94,12 @@ impl<T> ConcurrentQueue<T> {
         TryIter { queue: self }
     }
 
+    /// Whether the queue has no item at a moment of the call.
     pub fn is_empty(&self) -> bool {
         self.with(Party::is_empty)
     }
 
+    /// Whether the queue has as many items as its capacity at a moment of the call.
     pub fn is_full(&self) -> bool {
         self.with(Party::is_full)
     }
@@ -135,15 +109,17 @@ impl<T> ConcurrentQueue<T> {
         self.with(Party::len)
     }
 
+    /// The capacity, if there is one.
     pub fn capacity(&self) -> Option<usize> {
         self.capacity
     }
 
-    /// Closes the queue, and tells whether this call did it.
+    /// Closes the queue, and tells whether this call did it. The items stay.
     pub fn close(&self) -> bool {
         self.with(Party::close)
     }
 
+    /// Whether the queue is closed.
     pub fn is_closed(&self) -> bool {
         self.with(Party::is_closed)
     }
@@ -160,7 +136,7 @@ impl<T> fmt::Debug for ConcurrentQueue<T> {
 }
 
 /// Takes items off a queue until nothing is there.
-#[must_use]
+#[must_use = "an iterator takes nothing until it is asked"]
 pub struct TryIter<'a, T> {
     queue: &'a ConcurrentQueue<T>,
 }
@@ -173,7 +149,7 @@ impl<T> Clone for TryIter<'_, T> {
 
 impl<T> fmt::Debug for TryIter<'_, T> {
     fn fmt(&self, f: &mut fmt::Formatter<'_>) -> fmt::Result {
-        f.debug_tuple("TryIter").field(&self.queue).finish()
+        f.debug_tuple("Iter").field(&self.queue).finish()
     }
 }
 

@@ -1,13 +1,12 @@
-//! All of this crate that is `unsafe`: the library's functions, items as words, and the places of a pool.
+//! The library's functions, and items as words.
 //!
 //! Nothing but the tests compares the declarations with `bindings/c/queue_c.h`.
 use crate::errors::{ForcePushError, PopError, PushError};
 use std::alloc::{Layout, handle_alloc_error};
 use std::ffi::c_void;
 use std::marker::PhantomData;
-use std::mem::{self, MaybeUninit};
+use std::mem::MaybeUninit;
 use std::ptr::null_mut;
-use std::sync::atomic::{AtomicPtr, Ordering};
 use std::thread::yield_now;
 
 const DONE: u32 = 0;
@@ -73,8 +72,19 @@ unsafe fn unpack<T>(word: Word) -> T {
     }
 }
 
-fn no_memory<T>() -> ! {
-    handle_alloc_error(Layout::new::<T>())
+/// There is no memory for a word more.
+#[cold]
+fn no_memory() -> ! {
+    handle_alloc_error(Layout::new::<Word>())
+}
+
+/// There is no memory for a queue of this capacity, whose slots have an item and a word each.
+#[cold]
+fn no_memory_for<T>(cap: usize) -> ! {
+    match Layout::array::<(usize, MaybeUninit<T>)>(cap) {
+        Ok(slots) => handle_alloc_error(slots),
+        Err(_) => panic!("capacity overflow"),
+    }
 }
 
 /// A party of a queue of such items. All parties of its queue have that type, since each is made by `new` or `split`. It has no pending call between its methods,
@@ -88,10 +98,6 @@ pub struct Party<T> {
 unsafe impl<T: Send> Send for Party<T> {}
 
 impl<T> Party<T> {
-    fn of(handle: Handle) -> Self {
-        Party { handle, items: PhantomData }
-    }
-
     /// The first party of a new queue of this capacity, or of one without a limit.
     pub fn new(cap: Option<usize>) -> Self {
         let mut handle = NO_PARTY;
@@ -101,9 +107,9 @@ impl<T> Party<T> {
             None => unsafe { queue_c_unbounded(&mut handle) },
         };
         if answer != DONE {
-            no_memory::<T>();
+            no_memory_for::<T>(cap.unwrap_or(1));
         }
-        Party::of(handle)
+        Party { handle, items: PhantomData }
     }
 
     /// Another party of the same queue.
@@ -111,9 +117,9 @@ impl<T> Party<T> {
         let mut other = NO_PARTY;
         // SAFETY: two handles, and only this call has them.
         if unsafe { queue_c_split(&mut self.handle, &mut other) } != DONE {
-            no_memory::<T>();
+            no_memory();
         }
-        Party::of(other)
+        Party { handle: other, items: PhantomData }
     }
 
     #[cold]
@@ -144,7 +150,7 @@ impl<T> Party<T> {
         match answer {
             FULL => Err(PushError::Full(item)),
             CLOSED => Err(PushError::Closed(item)),
-            _ => no_memory::<T>(),
+            _ => no_memory(),
         }
     }
 
@@ -162,7 +168,7 @@ impl<T> Party<T> {
             YES => Ok(Some(unsafe { unpack(old) })),
             // SAFETY: the word was not pushed.
             CLOSED => Err(ForcePushError(unsafe { unpack(word) })),
-            _ => no_memory::<T>(),
+            _ => no_memory(),
         }
     }
 
@@ -214,47 +220,7 @@ impl<T> Party<T> {
 
 impl<T> Drop for Party<T> {
     fn drop(&mut self) {
-        // SAFETY: only this call has the handle. One that went to a place is null.
+        // SAFETY: only this call has the handle.
         unsafe { queue_c_drop(&mut self.handle) };
-    }
-}
-
-/// A place for a party, on cache lines of its own. The party that is there is nowhere else.
-#[repr(align(128))]
-pub struct Place<T> {
-    at: AtomicPtr<c_void>,
-    items: PhantomData<Party<T>>,
-}
-
-// SAFETY: threads only move whole parties in and out, by one atomic operation.
-unsafe impl<T: Send> Send for Place<T> {}
-unsafe impl<T: Send> Sync for Place<T> {}
-
-impl<T> Place<T> {
-    pub fn new() -> Self {
-        Place { at: AtomicPtr::new(null_mut()), items: PhantomData }
-    }
-
-    fn swap(&self, at: *mut c_void) -> Option<Party<T>> {
-        let at = self.at.swap(at, Ordering::SeqCst);
-        // The pointer of a party was there alone, and is now here alone.
-        (!at.is_null()).then(|| Party::of(Handle { at }))
-    }
-
-    #[inline]
-    pub fn take(&self) -> Option<Party<T>> {
-        self.swap(null_mut())
-    }
-
-    /// Puts a party in, and hands out the one that was there.
-    #[inline]
-    pub fn put(&self, mut party: Party<T>) -> Option<Party<T>> {
-        self.swap(mem::replace(&mut party.handle.at, null_mut()))
-    }
-}
-
-impl<T> Drop for Place<T> {
-    fn drop(&mut self) {
-        drop(self.take());
     }
 }

@@ -18,11 +18,11 @@ no_mode words h asked = h asked.0 asked.1.0 asked.1.1
 pub mode_ended : (words : List (List ℕ)) (shared : Sharing) (known old new : Option (List ℕ)) (f : Mode) (r : Result Verdict Fault) → AskFor words f
     → MatchResult r (Does f shared known old new) (Fails f shared known old new) → MatchResult r (IsDone words shared known old new) (IsFaultOf words shared known old new)
 mode_ended words shared known old new f (Ok v) asked h = (f, asked, h)
-mode_ended words shared known old new (mode.Script k) (Err (fault.Usage why)) asked h = absurd h
-mode_ended words shared known old new (mode.Replay k p) (Err (fault.Usage why)) asked h = absurd h
-mode_ended words shared known old new (mode.Threads l) (Err (fault.Usage why)) asked h = absurd h
-mode_ended words shared known old new mode.Handshake (Err (fault.Usage why)) asked h = absurd h
-mode_ended words shared known old new (mode.Channel l) (Err (fault.Usage why)) asked h = absurd h
+mode_ended words shared known old new (mode.Script k) (Err fault.Usage) asked h = absurd h
+mode_ended words shared known old new (mode.Replay k p) (Err fault.Usage) asked h = absurd h
+mode_ended words shared known old new (mode.Threads l) (Err fault.Usage) asked h = absurd h
+mode_ended words shared known old new mode.Handshake (Err fault.Usage) asked h = absurd h
+mode_ended words shared known old new (mode.Channel l) (Err fault.Usage) asked h = absurd h
 mode_ended words shared known old new f (Err (fault.Unreadable n)) asked h = (f, asked, h)
 mode_ended words shared known old new f (Err fault.NoMemory) asked h = (f, asked, h)
 mode_ended words shared known old new f (Err fault.InputFailed) asked h = (f, asked, h)

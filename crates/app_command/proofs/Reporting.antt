@@ -8,7 +8,8 @@ use Rattle.queue_steps.specs.declared.steps.types.Kind.TheVariants as kind
 use Rattle.machine_replay.specs.Book.{Run, opening}
 use Rattle.machine_replay.specs.Conforms.{IsPeak, capacity_of as capacity_of_kind}
 use Rattle.machine_replay.specs.MachineRuns.{EndsAs, IsMachineRun}
-use Rattle.machine_replay.specs.Played.{IsMade}
+use Rattle.machine_replay.specs.Peaks.{peak_of}
+use Rattle.machine_replay.specs.Played.{IsMade, as_told}
 use Rattle.machine_replay.specs.Replays.{is_too_large}
 use Rattle.machine_replay.specs.declared.machine_run.MachineRun.{MachineRun}
 use Rattle.machine_replay.specs.declared.machine_run.RunEnd.{RunEnd}
@@ -52,5 +53,6 @@ reported {A} {B} name parties lines k c d r start middle peaked text named has w
       run = subst {A = Option ℕ} (λ o. Run o parties (opening o) (events_of lines) taken.more end.last) has end.run;
       peak = r.peak;
       is_peak = subst {A = Option ℕ} (λ o. IsPeak o parties (events_of lines) taken.more r.peak) has end.peak;
+      peak_is = subst {A = Kind} (λ x. r.peak ≡ peak_of x parties (as_told (events_of lines) taken.more)) named end.peak_is;
       written = rw (left, peak, printed, end.left) refl;
     }

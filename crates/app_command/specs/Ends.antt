@@ -5,7 +5,6 @@ use Rattle.app_text.specs.Actions.{replay_line_text, IsReplayLine}
 use Rattle.app_text.specs.Calls.{call_text, IsCallOfWord}
 use Rattle.app_text.specs.KindNames.{mode_words, IsMode}
 use Rattle.app_text.specs.Faults.{fault_status}
-use Rattle.app_text.specs.Usage.{IsModeFault}
 use Rattle.app_text.specs.declared.args.Mode.{Mode}
 use Rattle.app_text.specs.declared.args.Mode.TheVariants as mode
 use Rattle.app_text.specs.declared.faults.Fault.{Fault}
@@ -44,9 +43,9 @@ Fails (mode.Threads l) shared known old new why = IsOutputFault (IsCountsLine l 
 Fails mode.Handshake shared known old new why = IsOutputFault (IsHandshakeText shared) old new why
 Fails (mode.Channel l) shared known old new why = IsOutputFault (IsReceivedText l shared) old new why
 
--- why the work was not done: the arguments ask for no form, of which the reason is right, or what they ask for met a fault
+-- why the work was not done: the arguments ask for no form, or what they ask for met a fault
 abbrev pub IsFaultOf : List (List ℕ) → Sharing → Option (List ℕ) → Option (List ℕ) → Option (List ℕ) → Fault → Type 0
-IsFaultOf words shared known old new (fault.Usage why) = (AskForMode words → ⊥) × IsModeFault words why × Keeps old new
+IsFaultOf words shared known old new fault.Usage = (AskForMode words → ⊥) × Keeps old new
 IsFaultOf words shared known old new why = (f : Mode) × AskFor words f × Fails f shared known old new why
 
 -- the work that the arguments ask for was done, and has shown this

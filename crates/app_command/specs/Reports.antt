@@ -5,7 +5,8 @@ use Rattle.std.specs.Fmt.{decimal}
 use Rattle.queue_steps.specs.declared.sizes.TheConstants.{MAX_CAPACITY}
 use Rattle.machine_replay.specs.Book.{Book, Run, opening}
 use Rattle.machine_replay.specs.Conforms.{IsPeak}
-use Rattle.machine_replay.specs.Played.{IsMade}
+use Rattle.machine_replay.specs.Peaks.{peak_of}
+use Rattle.machine_replay.specs.Played.{IsMade, as_told}
 use Rattle.machine_memory.specs.declared.types.Peak.{Peak}
 use Rattle.machine_memory.specs.declared.types.Told.{Told}
 use Rattle.app_text.specs.KindNames.{capacity_of, queue_named}
@@ -21,7 +22,7 @@ peak_text kind.Unbounded p = codes "blocks " ++ decimal p.blocks ++ codes " of "
 peak_text _ p = []
 
 -- What is told of each event that the lines make happen is what the machine makes of it, from the empty open queue of this kind that so many parties share. It conforms, and
--- so does the peak; and the text is what is told, the line of the peak, and the line of what is left.
+-- so does the peak, which is the machine's; and the text is what is told, the line of the peak, and the line of what is left.
 pub record IsReport (k : KindName) (parties : ℕ) (lines : List ReplayLine) (text : List ℕ) : Type 0 where
   pub within : IfSome (capacity_of k) (λ size. size ≤ MAX_CAPACITY)
   pub told : List (Told ℕ)
@@ -30,4 +31,5 @@ pub record IsReport (k : KindName) (parties : ℕ) (lines : List ReplayLine) (te
   pub run : Run (capacity_of k) parties (opening (capacity_of k)) (events_of lines) told last
   pub peak : Peak
   pub is_peak : IsPeak (capacity_of k) parties (events_of lines) told peak
+  pub peak_is : peak ≡ peak_of (queue_named k) parties (as_told (events_of lines) told)
   pub written : text ≡ (turns_text (turns_from 1 lines) told ++ peak_text k peak) ++ left_text last.queue.items

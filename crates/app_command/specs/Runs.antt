@@ -28,7 +28,7 @@ pub record IsBegunRun {V : Type 0} (IsValue : V → Type 0) (text_of : V → Lis
 
 -- why the lines were not run to their end. But for a failed write, nothing is written then
 abbrev pub IsRunFault : {V : Type 0} → (V → Type 0) → (V → List ℕ) → (List V → List ℕ → Type 0) → Option (List ℕ) → Option (List ℕ) → Option (List ℕ) → Fault → Type 0
-IsRunFault IsValue text_of IsTold known old new (fault.Usage why) = ⊥
+IsRunFault IsValue text_of IsTold known old new fault.Usage = ⊥
 IsRunFault IsValue text_of IsTold known old new (fault.Unreadable n) = (bytes : List ℕ) × IsInput known bytes × IsFirstUnread IsValue text_of (lines_of bytes) n × Keeps old new
 IsRunFault IsValue text_of IsTold known old new fault.NoMemory = Keeps old new
 IsRunFault IsValue text_of IsTold known old new fault.InputFailed = Keeps old new

@@ -82,8 +82,8 @@ fn run<R: Threads + Wait + Sync + AllocGlobal, A: Allocator, I: Read, O: Write>(
         (I.remaining input.old) (O.contents output.old) (O.contents output.new)) }
 {
     let mode = match parse_mode(args) {
-        Ok(mode) => mode,
-        Err(why) => return alone(Err(Fault::Usage(why))),
+        Some(mode) => mode,
+        None => return alone(Err(Fault::Usage)),
     };
     match mode {
         Mode::Script(kind) => alone(shown(script(alloc, kind, input, output))),

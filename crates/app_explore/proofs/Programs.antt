@@ -7,7 +7,7 @@ use Rattle.std.specs.List.{AllByRecursion}
 use Rattle.queue_steps.specs.declared.model.Call.{Call}
 use Rattle.queue_steps.specs.declared.model.Call.TheVariants as call
 use Rattle.app_text.specs.Lines.{lines_of}
-use Rattle.app_text.specs.Reading.{IsParsing}
+use Rattle.app_explore.specs.Parsing.{IsParsing}
 use Rattle.app_explore.specs.declared.limits.TheConstants.{MOST_PARTIES, MOST_CALLS, MOST_CALLS_BEFORE}
 use Rattle.app_explore.specs.Programs.{calls_text, before_line, before_lines, party_line, party_lines, program_lines, IsCalls, IsPartyCalls, IsBefore, IsProgram}
 use Rattle.app_explore.specs.Faults.{IsCallsFault, IsPartyFault}

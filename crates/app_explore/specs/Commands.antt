@@ -55,7 +55,8 @@ pub record IsRefusedAsk (words : List (List ℕ)) (known : Option (List ℕ)) (w
 
 -- why it was not told. But for a failed write, nothing is written then
 abbrev pub IsStopOf : List (List ℕ) → Option (List ℕ) → Option (List ℕ) → Option (List ℕ) → Stop → Type 0
-IsStopOf words known old new (stop.Fault (fault.Usage why)) = Keeps old new × AsksForNothing words × IsRequestFault words why
+IsStopOf words known old new (stop.Usage why) = Keeps old new × AsksForNothing words × IsRequestFault words why
+IsStopOf words known old new (stop.Fault fault.Usage) = ⊥
 IsStopOf words known old new (stop.Fault fault.InputFailed) = Keeps old new × AsksForSome words
 IsStopOf words known old new (stop.Fault fault.NoMemory) = Keeps old new × AsksForSome words
 IsStopOf words known old new (stop.Fault fault.OutputFailed) = IsBegunExplored words known old new

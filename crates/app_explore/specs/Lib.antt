@@ -1,4 +1,6 @@
 pub mod Lists
+pub mod Parsing
+pub mod Usage
 pub mod Requests
 pub mod Programs
 pub mod Faults

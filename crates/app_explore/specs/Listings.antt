@@ -103,6 +103,7 @@ pub record IsTold (r : Request) (input text : List ℕ) : Type 0 where
 
 -- why nothing of this is told of the program
 abbrev pub MayTellNothing : Kind → Bool → List (Call ℕ) → List (List (Call ℕ)) → Wanted → Stop → Type 0
+MayTellNothing k refuses before calls w (stop.Usage why) = ⊥
 MayTellNothing k refuses before calls w (stop.Fault why) = why ≡ fault.NoMemory
 MayTellNothing k refuses before calls w (stop.Line n why) = ⊥
 MayTellNothing k refuses before calls w (stop.NoOutcome number) = (number_in w ≡ Some number) × HasFewer k refuses before calls number
@@ -119,6 +120,7 @@ pub record HasFewerOutcomes (r : Request) (input : List ℕ) (number : ℕ) : Ty
 
 -- why nothing is told of the program that the input names
 abbrev pub MayStop : Request → List ℕ → Stop → Type 0
+MayStop r input (stop.Usage why) = ⊥
 MayStop r input (stop.Fault why) = why ≡ fault.NoMemory
 MayStop r input (stop.Line n why) = IsFirstWrong (lines_of input) n
 MayStop r input (stop.NoOutcome number) = HasFewerOutcomes r input number

@@ -3,14 +3,14 @@ use Rattle.std.specs.Prelude.{◌≡◌, ◌⊎◌, ℕ, ◌<◌, List, [], ◌�
 use Rattle.std.specs.Fmt.{decimal}
 use Rattle.app_text.specs.KindNames.{kind_text, IsKindName}
 use Rattle.app_text.specs.Reading.{IsWord}
-use Rattle.app_text.specs.Usage.{IsKindFault, IsNoNumber}
-use Rattle.app_text.specs.declared.usage.UsageFault.{UsageFault}
-use Rattle.app_text.specs.declared.usage.UsageFault.TheVariants as usage
 use Rattle.app_text.specs.declared.args.KindName.{KindName}
 use Rattle.app_text.specs.declared.args.KindName.TheVariants as kind
+use Rattle.app_explore.specs.Usage.{IsKindFault, IsNoNumber}
 use Rattle.app_explore.specs.declared.args.Request.{Request}
 use Rattle.app_explore.specs.declared.args.Wanted.{Wanted}
 use Rattle.app_explore.specs.declared.args.Wanted.TheVariants as wanted
+use Rattle.app_explore.specs.declared.usage.UsageFault.{UsageFault}
+use Rattle.app_explore.specs.declared.usage.UsageFault.TheVariants as usage
 
 -- the word behind the kind that lets blocks be refused
 abbrev pub refuse_words : Bool → List (List ℕ)
@@ -59,11 +59,11 @@ IsWantedNameFault word _ = ⊥
 
 -- why the word is the number of no outcome and of no wait
 abbrev pub IsOutcomeFault : List ℕ → UsageFault → Type 0
-IsOutcomeFault word why = (why ≡ usage.Outcome) × IsNoNumber IsOutcomeNumber word
+IsOutcomeFault word why = (why ≡ usage.Number) × IsNoNumber IsOutcomeNumber word
 
 -- why the words ask for nothing
 abbrev pub IsWantedFault : List (List ℕ) → UsageFault → Type 0
-IsWantedFault words usage.Outcome = IsNoNumber IsOutcomeNumber (get_or words 1 [])
+IsWantedFault words usage.Number = IsNoNumber IsOutcomeNumber (get_or words 1 [])
 IsWantedFault words why = IsWantedNameFault (get_or words 0 []) why
 
 -- the word names a kind of queue that asks for no block

@@ -2,16 +2,16 @@
 use Rattle.std.specs.Prelude.{ℕ, List, ◌∷◌, ◌++◌, codes}
 use Rattle.std.specs.Fmt.{decimal}
 use Rattle.app_text.specs.Faults.{fault_text, fault_status}
-use Rattle.app_text.specs.Usage.{usage_text}
 use Rattle.app_text.specs.declared.faults.Fault.TheVariants as fault
 use Rattle.app_explore.specs.Faults.{line_fault_text}
+use Rattle.app_explore.specs.Usage.{usage_text}
 use Rattle.machine_explore.specs.declared.search.faults.SearchFault.{SearchFault}
 use Rattle.machine_explore.specs.declared.search.faults.SearchFault.TheVariants as sought
 use Rattle.app_explore.specs.declared.faults.Stop.{Stop}
 use Rattle.app_explore.specs.declared.faults.Stop.TheVariants as stop
 
 abbrev pub stop_text : Stop → List ℕ
-stop_text (stop.Fault (fault.Usage why)) = codes "usage: queue_explore KIND [refuse] [schedule N | lanes N | waits [N]]" ++ 10 ∷ usage_text why
+stop_text (stop.Usage why) = codes "usage: queue_explore KIND [refuse] [schedule N | lanes N | waits [N]]" ++ 10 ∷ usage_text why
 stop_text (stop.Fault f) = fault_text f
 stop_text (stop.Line n why) = fault_text (fault.Unreadable n) ++ 10 ∷ line_fault_text why
 stop_text stop.TooManyStates = codes "too many states"
@@ -20,6 +20,7 @@ stop_text (stop.NoWait n) = codes "no wait " ++ decimal n
 stop_text stop.NotShown = codes "not shown"
 
 abbrev pub stop_status : Stop → ℕ
+stop_status (stop.Usage why) = 2
 stop_status (stop.Fault f) = fault_status f
 stop_status (stop.Line n why) = 2
 stop_status (stop.NoOutcome n) = 2

@@ -1,12 +1,15 @@
 //! The arguments: what is asked for.
 ghost use Rattle.std.specs.Prelude.{◌≡◌, ◌≢◌, ℕ, List, [], ◌∷◌, ◌++◌, false, codes, map, string_bytes};
 ghost use Rattle.std.specs.Fmt.{decimal};
-ghost use Rattle.app_text.specs.Reading.{IsParsing, IsReading};
+ghost use Rattle.app_text.specs.Reading.{IsReading};
+ghost use Rattle.app_explore.specs.Parsing.{IsParsing};
+ghost use Rattle.app_text.specs.KindNames.{kind_text, IsKindName};
+ghost use Rattle.app_explore.specs.Usage.{IsKindFault};
 ghost use Rattle.app_explore.specs.Requests.{IsOutcomeFault, IsRequestFault, IsWantedFault, IsWantedNameFault, request_words, refuse_words, wanted_words, IsRequest, IsWanted, IsOutcomeNumber, asks_for_blocks};
 
+use crate::usage::UsageFault;
 use app_text::args::{KindName, parse_kind};
 use app_text::numbers::parse_number;
-use app_text::usage::UsageFault;
 
 /// What is to be told of a program.
 #[derive(Clone, Copy, PartialEq)]
@@ -41,7 +44,7 @@ pub fn parse_request(args: &[String]) -> Result<Request, UsageFault>
     let [kind, rest @ ..] = args else {
         return Err(UsageFault::WordCount);
     };
-    let kind = parse_kind(kind.as_str())?;
+    let kind = kind_of(kind.as_str())?;
     let (refuses, rest) = parse_refuses(rest);
     if refuses && !may_ask(kind) {
         return Err(UsageFault::Refusal);
@@ -52,6 +55,17 @@ pub fn parse_request(args: &[String]) -> Result<Request, UsageFault>
         refuses,
         wanted,
     })
+}
+
+// The kind that this text names, or else why it names none.
+fn kind_of(text: &str) -> Result<KindName, UsageFault>
+    ensures { IsParsing IsKindName kind_text IsKindFault text.now result }
+{
+    match parse_kind(text) {
+        Some(kind) => Ok(kind),
+        None if text.starts_with("bounded:") => Err(UsageFault::Capacity),
+        None => Err(UsageFault::Kind),
+    }
 }
 
 // Whether a queue of this kind may ask for blocks.
@@ -115,7 +129,7 @@ fn outcome_number(text: &str) -> Result<u64, UsageFault>
 {
     match parse_outcome_number(text) {
         Some(number) => Ok(number),
-        None => Err(UsageFault::Outcome),
+        None => Err(UsageFault::Number),
     }
 }
 

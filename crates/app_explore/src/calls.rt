@@ -1,7 +1,8 @@
 //! The calls of a line, which are read one by one.
 ghost use Rattle.std.specs.Prelude.{◌≡◌, ◌==◌, [], ◌∷◌, position, IfOk, MatchOption};
 ghost use Rattle.app_text.specs.Calls.{IsCallOfWord};
-ghost use Rattle.app_text.specs.Reading.{IsParsing, IsReading};
+ghost use Rattle.app_text.specs.Reading.{IsReading};
+ghost use Rattle.app_explore.specs.Parsing.{IsParsing};
 ghost use Rattle.app_explore.specs.Faults.{IsCallsFault};
 ghost use Rattle.app_explore.specs.Programs.{IsCalls, calls_text, parts_of, spaced_call};
 

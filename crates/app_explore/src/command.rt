@@ -61,7 +61,7 @@ fn explore<A: Allocator, I: Read, O: Write>(
 {
     let request = match parse_request(args) {
         Ok(request) => request,
-        Err(why) => return Err(Stop::Fault(Fault::Usage(why))),
+        Err(why) => return Err(Stop::Usage(why)),
     };
     let bytes = match read_input(alloc, input) {
         Ok(bytes) => bytes,

@@ -3,12 +3,15 @@ ghost use Rattle.std.specs.Prelude.{◌≡◌, Some};
 ghost use Rattle.app_explore.specs.Stops.{stop_text, stop_status};
 
 use crate::read_faults::LineFault;
+use crate::usage::UsageFault;
 use app_text::faults::Fault;
 use std::fmt;
 
 /// Why the explorer ended before its work was done.
 #[derive(Clone, Copy)]
 pub enum Stop {
+    /// The arguments ask for nothing that exists.
+    Usage(UsageFault),
     /// As any program of queues may end.
     Fault(Fault),
     /// The line of this number, counted from 1, is the first that is wrong, or the one that is missing.
@@ -30,7 +33,7 @@ impl Stop {
     {
         match self {
             Stop::Fault(fault) => fault.status(),
-            Stop::Line(_, _) | Stop::NoOutcome(_) | Stop::NoWait(_) => 2,
+            Stop::Usage(_) | Stop::Line(_, _) | Stop::NoOutcome(_) | Stop::NoWait(_) => 2,
             Stop::TooManyStates | Stop::NotShown => 3,
         }
     }
@@ -41,7 +44,7 @@ impl fmt::Display for Stop {
 
     fn fmt<W: fmt::Write>(&self, f: &mut fmt::Formatter<W>) -> fmt::Result {
         match self {
-            Stop::Fault(Fault::Usage(why)) => write!(
+            Stop::Usage(why) => write!(
                 f,
                 "usage: queue_explore KIND [refuse] [schedule N | lanes N | waits [N]]\n{why}"
             ),

@@ -14,5 +14,6 @@ pub mod read_faults;
 pub mod reading;
 pub mod schedules;
 mod tails;
+pub mod usage;
 pub mod wait_lines;
 pub mod waits;

@@ -1,7 +1,7 @@
 //! The program that the input names.
 ghost use Rattle.std.specs.Prelude.{◌≡◌, ◌++◌, [], ◌∷◌, codes, length, IfOk, MatchOption, MatchResult};
 ghost use Rattle.app_text.specs.Lines.{lines_of};
-ghost use Rattle.app_text.specs.Reading.{IsParsing};
+ghost use Rattle.app_explore.specs.Parsing.{IsParsing};
 ghost use Rattle.app_explore.specs.Faults.{IsPartyFault};
 ghost use Rattle.app_explore.specs.Programs.{before_lines, party_line, IsBefore, IsPartyCalls};
 ghost use Rattle.app_explore.specs.Reads.{IsReadAs, IsProgramFault, HasNoBefore};

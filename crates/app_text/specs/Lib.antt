@@ -3,7 +3,6 @@ pub mod Faults
 pub mod Lines
 pub mod Calls
 pub mod KindNames
-pub mod Usage
 pub mod Replies
 pub mod Spaces
 pub mod Actions

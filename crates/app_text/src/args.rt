@@ -1,15 +1,13 @@
 //! The arguments of the program.
 ghost use Rattle.std.specs.Prelude.{◌≡◌, [], ◌∷◌, map, string_bytes};
 ghost use Rattle.std.specs.Fmt.{decimal};
-ghost use Rattle.app_text.specs.Reading.{IsParsing, IsReading};
+ghost use Rattle.app_text.specs.Reading.{IsReading};
 ghost use Rattle.machine_replay.specs.Conforms.{capacity_of as capacity_of_kind};
 ghost use Rattle.machine_replay.specs.Replays.{CanReplay};
-ghost use Rattle.app_text.specs.Usage.{IsModeFault, IsKindFault, IsNameFault};
 ghost use Rattle.app_text.specs.KindNames.{capacity_of, kind_text, queue_named, IsCapacity, IsKindName, mode_words, IsMode, IsPartyCount};
 
 use crate::load::{Load, parse_even_load, parse_load};
 use crate::numbers::parse_number;
-use crate::usage::UsageFault;
 use queue_steps::steps::Kind;
 
 /// The most parties that a replay may have.
@@ -57,12 +55,11 @@ pub enum Mode {
     Channel(Load),
 }
 
-/// The form that the arguments name.
-pub fn parse_mode(args: &[String]) -> Result<Mode, UsageFault>
-    ensures { IsParsing IsMode mode_words IsModeFault (map string_bytes args.now) result }
+/// The form that the arguments name, if they name one.
+pub fn parse_mode(args: &[String]) -> Option<Mode>
+    ensures { IsReading IsMode mode_words (map string_bytes args.now) result }
 {
     match args {
-        [] => Err(UsageFault::Mode),
         [form] => handshake_mode(form.as_str()),
         [form, kind] => script_mode(form.as_str(), kind.as_str()),
         [form, kind, parties] => replay_mode(form.as_str(), kind.as_str(), parties.as_str()),
@@ -73,52 +70,38 @@ pub fn parse_mode(args: &[String]) -> Result<Mode, UsageFault>
             poppers.as_str(),
             items.as_str(),
         ),
-        [form, ..] => Err(name_fault(form.as_str())),
-    }
-}
-
-// Why no form has this name and other words behind it.
-fn name_fault(form: &str) -> UsageFault
-    ensures { IsNameFault form.now result }
-{
-    match form {
-        "script" | "replay" | "threads" | "handshake" | "channel" => UsageFault::WordCount,
-        _ => UsageFault::Mode,
+        _ => None,
     }
 }
 
 // The form that this word names.
-fn handshake_mode(form: &str) -> Result<Mode, UsageFault>
-    ensures { IsParsing IsMode mode_words IsModeFault (form.now ∷ []) result }
+fn handshake_mode(form: &str) -> Option<Mode>
+    ensures { IsReading IsMode mode_words (form.now ∷ []) result }
 {
-    if form != "handshake" {
-        return Err(name_fault(form));
+    match form {
+        "handshake" => Some(Mode::Handshake),
+        _ => None,
     }
-    Ok(Mode::Handshake)
 }
 
 // The form that these two words name.
-fn script_mode(form: &str, kind: &str) -> Result<Mode, UsageFault>
-    ensures { IsParsing IsMode mode_words IsModeFault (form.now ∷ kind.now ∷ []) result }
+fn script_mode(form: &str, kind: &str) -> Option<Mode>
+    ensures { IsReading IsMode mode_words (form.now ∷ kind.now ∷ []) result }
 {
-    if form != "script" {
-        return Err(name_fault(form));
+    match form {
+        "script" => Some(Mode::Script(parse_kind(kind)?)),
+        _ => None,
     }
-    Ok(Mode::Script(parse_kind(kind)?))
 }
 
 // The form that these three words name.
-fn replay_mode(form: &str, kind: &str, parties: &str) -> Result<Mode, UsageFault>
-    ensures { IsParsing IsMode mode_words IsModeFault (form.now ∷ kind.now ∷ parties.now ∷ []) result }
+fn replay_mode(form: &str, kind: &str, parties: &str) -> Option<Mode>
+    ensures { IsReading IsMode mode_words (form.now ∷ kind.now ∷ parties.now ∷ []) result }
 {
-    if form != "replay" {
-        return Err(name_fault(form));
+    match form {
+        "replay" => Some(Mode::Replay(parse_kind(kind)?, parse_parties(parties)?)),
+        _ => None,
     }
-    let kind = parse_kind(kind)?;
-    let Some(parties) = parse_parties(parties) else {
-        return Err(UsageFault::Parties);
-    };
-    Ok(Mode::Replay(kind, parties))
 }
 
 // The number of parties that this text names.
@@ -133,37 +116,26 @@ fn parse_parties(text: &str) -> Option<usize>
 }
 
 // The form that these five words name.
-fn load_mode(
-    form: &str,
-    kind: &str,
-    pushers: &str,
-    poppers: &str,
-    items: &str,
-) -> Result<Mode, UsageFault>
-    ensures { IsParsing IsMode mode_words IsModeFault (form.now ∷ kind.now ∷ pushers.now ∷ poppers.now ∷ items.now ∷ []) result }
+fn load_mode(form: &str, kind: &str, pushers: &str, poppers: &str, items: &str) -> Option<Mode>
+    ensures { IsReading IsMode mode_words (form.now ∷ kind.now ∷ pushers.now ∷ poppers.now ∷ items.now ∷ []) result }
 {
     match form {
-        "threads" => Ok(Mode::Threads(parse_even_load(kind, pushers, poppers, items)?)),
-        "channel" => Ok(Mode::Channel(parse_load(kind, pushers, poppers, items)?)),
-        _ => Err(name_fault(form)),
+        "threads" => Some(Mode::Threads(parse_even_load(kind, pushers, poppers, items)?)),
+        "channel" => Some(Mode::Channel(parse_load(kind, pushers, poppers, items)?)),
+        _ => None,
     }
 }
 
-/// The kind that this text names.
-pub fn parse_kind(text: &str) -> Result<KindName, UsageFault>
-    ensures { IsParsing IsKindName kind_text IsKindFault text.now result }
+/// The kind that this text names, if it names one.
+pub fn parse_kind(text: &str) -> Option<KindName>
+    ensures { IsReading IsKindName kind_text text.now result }
 {
     match text {
-        "single" => Ok(KindName::Single),
-        "unbounded" => Ok(KindName::Unbounded),
+        "single" => Some(KindName::Single),
+        "unbounded" => Some(KindName::Unbounded),
         _ => {
-            let Some(digits) = text.as_bytes().strip_prefix(b"bounded:".as_slice()) else {
-                return Err(UsageFault::Kind);
-            };
-            let Some(cap) = parse_capacity(digits) else {
-                return Err(UsageFault::Capacity);
-            };
-            Ok(KindName::Bounded(cap))
+            let digits = text.as_bytes().strip_prefix(b"bounded:".as_slice())?;
+            Some(KindName::Bounded(parse_capacity(digits)?))
         }
     }
 }

@@ -2,14 +2,13 @@
 ghost use Rattle.std.specs.Prelude.{◌≡◌, Some};
 ghost use Rattle.app_text.specs.Faults.{fault_text, fault_status};
 
-use crate::usage::UsageFault;
 use std::fmt;
 
 /// Why a run ended before its work was done.
 #[derive(Clone, Copy)]
 pub enum Fault {
-    /// The arguments ask for nothing that exists.
-    Usage(UsageFault),
+    /// The arguments ask for no form.
+    Usage,
     /// The line of this number, counted from 1, is the first that cannot be read.
     Unreadable(usize),
     /// Memory was wanted and refused.
@@ -26,7 +25,7 @@ impl Fault {
         ensures { result ≡ fault_status self }
     {
         match self {
-            Fault::Usage(_) | Fault::Unreadable(_) => 2,
+            Fault::Usage | Fault::Unreadable(_) => 2,
             Fault::NoMemory | Fault::InputFailed | Fault::OutputFailed => 3,
         }
     }
@@ -37,9 +36,8 @@ impl fmt::Display for Fault {
 
     fn fmt<W: fmt::Write>(&self, f: &mut fmt::Formatter<W>) -> fmt::Result {
         match self {
-            Fault::Usage(why) => write!(
-                f,
-                "usage: queue_run script KIND | replay KIND PARTIES | threads KIND PUSHERS POPPERS ITEMS | handshake | channel KIND SENDERS RECEIVERS ITEMS\n{why}"
+            Fault::Usage => f.write_str(
+                "usage: queue_run script KIND | replay KIND PARTIES | threads KIND PUSHERS POPPERS ITEMS | handshake | channel KIND SENDERS RECEIVERS ITEMS",
             ),
             Fault::Unreadable(number) => write!(f, "line {number}: unreadable"),
             Fault::NoMemory => f.write_str("no memory"),

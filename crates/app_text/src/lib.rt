@@ -12,5 +12,4 @@ pub mod load;
 pub mod numbers;
 pub mod replies;
 pub mod streams;
-pub mod usage;
 pub mod words;

@@ -1,13 +1,11 @@
 //! What the forms `threads` and `channel` are asked for.
 ghost use Rattle.std.specs.Prelude.{[], ◌∷◌};
 ghost use Rattle.std.specs.Fmt.{decimal};
-ghost use Rattle.app_text.specs.Reading.{IsParsing, IsReading};
+ghost use Rattle.app_text.specs.Reading.{IsReading};
 ghost use Rattle.app_text.specs.KindNames.{IsThreadCount, IsItemCount, IsLoad, IsEvenLoad, load_words};
-ghost use Rattle.app_text.specs.Usage.{IsLoadFault, IsEvenLoadFault};
 
 use crate::args::{KindName, parse_kind};
 use crate::numbers::parse_number;
-use crate::usage::UsageFault;
 
 /// The most threads that may push, and the most that may pop.
 pub const MOST_THREADS: u64 = 64;
@@ -26,41 +24,26 @@ pub struct Load {
     pub items: u64,
 }
 
-/// The load that these four words name, of which each popper has to get as many items as the others.
-pub fn parse_even_load(
-    kind: &str,
-    pushers: &str,
-    poppers: &str,
-    items: &str,
-) -> Result<Load, UsageFault>
-    ensures { IsParsing IsEvenLoad load_words IsEvenLoadFault (kind.now ∷ pushers.now ∷ poppers.now ∷ items.now ∷ []) result }
+/// The load that these four words name, if they name one of which each popper gets as many items as the others.
+pub fn parse_even_load(kind: &str, pushers: &str, poppers: &str, items: &str) -> Option<Load>
+    ensures { IsReading IsEvenLoad load_words (kind.now ∷ pushers.now ∷ poppers.now ∷ items.now ∷ []) result }
 {
     let load = parse_load(kind, pushers, poppers, items)?;
     if load.pushers * load.items % load.poppers != 0 {
-        return Err(UsageFault::Share);
+        return None;
     }
-    Ok(load)
+    Some(load)
 }
 
-/// The load that these four words name.
-pub fn parse_load(kind: &str, pushers: &str, poppers: &str, items: &str) -> Result<Load, UsageFault>
-    ensures { IsParsing IsLoad load_words IsLoadFault (kind.now ∷ pushers.now ∷ poppers.now ∷ items.now ∷ []) result }
+/// The load that these four words name, if they name one.
+pub fn parse_load(kind: &str, pushers: &str, poppers: &str, items: &str) -> Option<Load>
+    ensures { IsReading IsLoad load_words (kind.now ∷ pushers.now ∷ poppers.now ∷ items.now ∷ []) result }
 {
-    let kind = parse_kind(kind)?;
-    let Some(pushers) = parse_thread_count(pushers) else {
-        return Err(UsageFault::Pushers);
-    };
-    let Some(poppers) = parse_thread_count(poppers) else {
-        return Err(UsageFault::Poppers);
-    };
-    let Some(items) = parse_item_count(items) else {
-        return Err(UsageFault::Items);
-    };
-    Ok(Load {
-        kind,
-        pushers,
-        poppers,
-        items,
+    Some(Load {
+        kind: parse_kind(kind)?,
+        pushers: parse_thread_count(pushers)?,
+        poppers: parse_thread_count(poppers)?,
+        items: parse_item_count(items)?,
     })
 }
 

@@ -13,7 +13,7 @@ verdict_status verdict.Wrong = 1
 
 -- why a run that reads nothing, and writes such a text, did not come to its end: after a failed write a beginning of the text is written, and else nothing
 abbrev pub IsOutputFault : (List ℕ → Type 0) → Option (List ℕ) → Option (List ℕ) → Fault → Type 0
-IsOutputFault IsText old new (fault.Usage why) = ⊥
+IsOutputFault IsText old new fault.Usage = ⊥
 IsOutputFault IsText old new (fault.Unreadable n) = ⊥
 IsOutputFault IsText old new fault.NoMemory = Keeps old new
 IsOutputFault IsText old new fault.InputFailed = ⊥

@@ -77,7 +77,7 @@ pub fn parse_load(line: &str) -> Option<Load>
     ensures { IfSome result (λ load. IfSome load.capacity (λ cap. 0 < cap)) }
 {
     let words = words_in(line)?;
-    let capacity = capacity_of(parse_kind(words.kind).ok()?);
+    let capacity = capacity_of(parse_kind(words.kind)?);
     let workload = parse_task(words, words.count.parse().ok()?)?;
     Some(Load { capacity, workload })
 }

@@ -133,7 +133,7 @@ pub fn drive_in_loop<M: Site, G: Gate, E: End<M> + Drop>(
     end.finish(site, gate, kind, call, seat, progress, carried)
 }
 
-/// Runs a wait-free call to its end, which comes by its second step.
+/// Runs a wait-free call to its end. That this comes by its second step is the site's law (`wait_free` of `SharedSite`).
 #[inline(always)]
 pub fn drive_wait_free<M: SharedSite, G: Gate>(
     site: &M::Shared,

@@ -102,6 +102,28 @@ fn receive_all<R: Wait>(
     (channel.end_receiver(receiver).0, came)
 }
 
+/// Another thread sends 0, 1, .. up to `count`, which is left out, and this one receives until it has ended. Gives how many items came.
+///
+/// # Errors
+///
+/// There was no memory.
+pub fn send_across<R: Threads + Wait + Sync>(
+    rt: &R,
+    alloc: Global,
+    count: u64,
+) -> Result<u64, AllocError> {
+    let (queue, party) = ConcurrentQueue::bounded(alloc, 4)?;
+    let Ok((channel, sender, receiver)) = channel(alloc, queue, party) else {
+        return Err(AllocError);
+    };
+    let (_, (_, came)) = join(
+        rt,
+        || send_all(rt, &channel, sender, count),
+        || receive_all(rt, &channel, receiver),
+    );
+    Ok(came)
+}
+
 /// What a sender was answered, what a receiver was answered after the sender's end, and how many items were left.
 #[derive(Drop)]
 pub struct Handed {

@@ -61,10 +61,8 @@ where
     R: Threads + Wait + Copy + Send + 'static,
     ensures { IfOk result (λ r. IsEntire r.1.view.share) }
 {
-    let handle = Handle::bounded(alloc, 4)?;
-    let Ok((mut mine, theirs)) = handle.split() else {
-        return Err(AllocError);
-    };
+    let mut mine = Handle::bounded(alloc, 4)?;
+    let theirs = mine.split()?;
     let back = GivesBack(Snapshot::of(&theirs));
     let sender = spawn_with(&rt, back, move || send_all(&rt, theirs, count))?;
     let sum = receive_all(&rt, &mut mine);

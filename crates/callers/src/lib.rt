@@ -2,6 +2,7 @@
 #![tactic(auto)]
 
 pub mod channel;
+pub mod ends;
 pub mod handle;
 pub mod moments;
 pub mod owner;

@@ -1,18 +1,23 @@
--- A party that has called close has seen the queue closed.
-use Rattle.std.proofs.Common.{◌≡◌, ℕ, zero, suc, Bool, true, false, Option, List, [], ◌∷◌, ◌++◌, length, ap, sym, subst, ⊎_elim}
+-- A party whose call closed the queue, or found it closed, has seen it closed.
+use Rattle.std.proofs.Common.{◌≡◌, ◌⊎◌, inl, inr, ℕ, zero, suc, Bool, true, false, Option, Err, List, [], ◌∷◌, ◌++◌, length, refl, sym, subst, ⊎_elim}
 use mathlib.Core.Option.{some, some-injective, some-ne-none}
 use mathlib.Core.List.{IsPrefix}
 use lib.ListN.{get_elem?}
+use Rattle.queue_steps.specs.declared.model.Call.{Call}
 use Rattle.queue_steps.specs.declared.model.Call.TheVariants as call
+use Rattle.queue_steps.specs.declared.model.Reply.{Reply}
 use Rattle.queue_steps.specs.declared.model.Reply.TheVariants as reply
 use Rattle.queue_steps.specs.declared.model.Effect.{Effect}
 use Rattle.queue_steps.specs.declared.model.Effect.TheVariants as effect
+use Rattle.queue_steps.specs.declared.errors.PushError.TheVariants as push
+use Rattle.queue_steps.specs.declared.errors.ForcePushError.TheVariants as force
 use Rattle.queue_steps.specs.State.{State, start}
 use Rattle.queue_steps.specs.Effect.{Runs, IsHistory, made, after_from, after}
+use Rattle.queue_steps.specs.Replies.{Tells, Allows}
 use Rattle.queue_steps.specs.Parties.{View, StandAt, SharedCall}
 use Rattle.queue_steps.proofs.Keeping.{stays_closed}
 use Rattle.concurrent_queue.specs.Shared.{QueueId, PartyView, Calls}
-use Rattle.channel_calls.specs.Calls.{Ends}
+use Rattle.channel_calls.specs.Calls.{Ends, HasSeenClosed}
 
 module _ {T : Type 0} where
   -- a queue that was seen closed stays so
@@ -24,27 +29,56 @@ module _ {T : Type 0} where
   still_closed cap s t (d, is) legal closed =
       subst (λ (h : List (Effect T)). (after cap h).closed ≡ true) is (closed_on (start cap 0) s d (subst (IsHistory cap) (sym is) legal) closed)
 
-  -- where a close stands, the queue is closed then
-  close_stands : (Q : State T) (t : List (Effect T)) (p : ℕ) → Runs Q t → get_elem? t p ≡ some effect.Close → (after_from Q t).closed ≡ true
-  close_stands Q [] p runs at = absurd (some-ne-none effect.Close (sym at))
-  close_stands Q (e ∷ es) zero runs at = stays_closed (made e Q) es runs.1 (ap (λ (f : Effect T). (made f Q).closed) (some-injective e effect.Close at))
-  close_stands Q (e ∷ es) (suc p) runs at = close_stands (made e Q) es p runs.1 at
+  abbrev Closes : Effect T → Type 0
+  Closes f = (Q : State T) → (made f Q).closed ≡ true
 
-  close_at : (cap : Option ℕ) (n : ℕ) (t : List (Effect T)) (ps : List ℕ) (es : List (Effect T)) → es ≡ effect.Close ∷ [] → IsHistory cap t → StandAt t n ps es → (after cap t).closed ≡ true
-  close_at cap n t [] es is legal s = absurd (subst (StandAt t n []) is s)
-  close_at cap n t (p ∷ ps) es is legal s = let s' = subst (StandAt t n (p ∷ ps)) is s in close_stands (start cap 0) t p legal s'.1
+  -- where such an effect stands, the queue is closed then
+  closing_stands : (f : Effect T) → Closes f → (Q : State T) (t : List (Effect T)) (p : ℕ) → Runs Q t → get_elem? t p ≡ some f → (after_from Q t).closed ≡ true
+  closing_stands f closes Q [] p runs at = absurd (some-ne-none f (sym at))
+  closing_stands f closes Q (e ∷ es) zero runs at =
+      stays_closed (made e Q) es runs.1 (subst (λ (g : Effect T). (made g Q).closed ≡ true) (sym (some-injective e f at)) (closes Q))
+  closing_stands f closes Q (e ∷ es) (suc p) runs at = closing_stands f closes (made e Q) es p runs.1 at
 
-  sees_closed_at : (cap : Option ℕ) (v w : View T) (closed : Bool) → SharedCall cap v w call.Close (reply.Close closed) → (after cap w.seen).closed ≡ true
-  sees_closed_at cap v w true called = close_at cap (length v.seen) w.seen called.places called.effects called.tells called.legal called.stand
-  sees_closed_at cap v w false called =
-      let right = called.right called.tells in
-      still_closed cap right.0 w.seen right.2 called.legal (⊎_elim (λ closed. closed) (λ lacks. absurd lacks) right.3)
+  closing_at : (f : Effect T) → Closes f → (cap : Option ℕ) (n : ℕ) (t : List (Effect T)) (ps : List ℕ) (es : List (Effect T)) → es ≡ f ∷ [] → IsHistory cap t → StandAt t n ps es → (after cap t).closed ≡ true
+  closing_at f closes cap n t [] es is legal s = absurd (subst (StandAt t n []) is s)
+  closing_at f closes cap n t (p ∷ ps) es is legal s = let s' = subst (StandAt t n (p ∷ ps)) is s in closing_stands f closes (start cap 0) t p legal s'.1
 
-  -- a party that called close has seen the queue closed
-  pub sees_closed : (v w : PartyView T) (closed : Bool) → Calls v call.Close (reply.Close closed) w → (after w.queue.cap w.view.seen).closed ≡ true
-  sees_closed v w closed called = subst (λ (q : QueueId). (after q.cap w.view.seen).closed ≡ true) (sym called.0) (sees_closed_at v.queue.cap v.view w.view closed called.1)
+  -- the call closes the queue by this effect, or finds it closed
+  record FindsClosed (f : Effect T) (c : Call T) (r : Reply T) : Type 0 where
+    closes : Closes f
+    tells : (es : List (Effect T)) → Tells c r es → (es ≡ f ∷ []) ⊎ (es ≡ [])
+    allows : (Q : State T) → Allows c r Q → Q.closed ≡ true
+
+  finds_closed_at : (f : Effect T) (cap : Option ℕ) (v w : View T) (c : Call T) (r : Reply T) → FindsClosed f c r → SharedCall cap v w c r → (after cap w.seen).closed ≡ true
+  finds_closed_at f cap v w c r finds called =
+      ⊎_elim
+      (λ is. closing_at f finds.closes cap (length v.seen) w.seen called.places called.effects is called.legal called.stand)
+      (λ none. let right = called.right none in still_closed cap right.0 w.seen right.2 called.legal (finds.allows (after cap right.0) right.3))
+      (finds.tells called.effects called.tells)
+
+  finds_closed : (f : Effect T) (v w : PartyView T) (c : Call T) (r : Reply T) → FindsClosed f c r → Calls v c r w → HasSeenClosed w
+  finds_closed f v w c r finds called = subst (λ (q : QueueId). (after q.cap w.view.seen).closed ≡ true) (sym called.0) (finds_closed_at f v.queue.cap v.view w.view c r finds called.1)
+
+  close_finds : (closed : Bool) → FindsClosed effect.Close call.Close (reply.Close closed)
+  close_finds true = record { closes = λ Q. refl; tells = λ es is. inl is; allows = λ Q at. ⊎_elim (λ none. absurd none) (λ none. absurd none) at }
+  close_finds false = record { closes = λ Q. refl; tells = λ es none. inr none; allows = λ Q at. ⊎_elim (λ closed. closed) (λ none. absurd none) at }
+
+  pub close_sees : (v w : PartyView T) (closed : Bool) → Calls v call.Close (reply.Close closed) w → HasSeenClosed w
+  close_sees v w closed called = finds_closed effect.Close v w call.Close (reply.Close closed) (close_finds closed) called
+
+  pub push_sees : (v w : PartyView T) (x y : T) → Calls v (call.Push x) (reply.Push (Err (push.Closed y))) w → HasSeenClosed w
+  push_sees v w x y called =
+      finds_closed effect.SelfClose v w (call.Push x) (reply.Push (Err (push.Closed y)))
+      (record { closes = λ Q. refl; tells = λ es tells. tells.1; allows = λ Q at. ⊎_elim (λ right. right.1) (λ none. absurd none) at })
+      called
+
+  pub force_push_sees : (v w : PartyView T) (x y : T) → Calls v (call.ForcePush x) (reply.ForcePush (Err (force.Closed y))) w → HasSeenClosed w
+  force_push_sees v w x y called =
+      finds_closed effect.SelfClose v w (call.ForcePush x) (reply.ForcePush (Err (force.Closed y)))
+      (record { closes = λ Q. refl; tells = λ es tells. tells.1; allows = λ Q at. ⊎_elim (λ right. right.1) (λ none. absurd none) at })
+      called
 
   -- the last end of a side has closed the queue
   pub ended_last : (v w : PartyView T) (last : Bool) → last ≡ true → (closed : Bool) → Calls v call.Close (reply.Close closed) w → Ends v w last
-  ended_last v w true is closed called = ((closed, called), sees_closed v w closed called)
+  ended_last v w true is closed called = ((closed, called), close_sees v w closed called)
   ended_last v w false is closed called = cc

@@ -11,6 +11,12 @@ use Rattle.concurrent_queue.specs.Shared.{PartyView, Calls}
 use Rattle.channel_calls.specs.declared.errors.SendError.{SendError}
 use Rattle.channel_calls.specs.declared.errors.SendError.TheVariants as send
 use Rattle.channel_calls.specs.declared.errors.Disconnected.{Disconnected}
+use Rattle.channel_calls.specs.declared.waited.Pushed.{Pushed}
+use Rattle.channel_calls.specs.declared.waited.Pushed.TheVariants as put
+use Rattle.channel_calls.specs.declared.waited.ForcePushed.{ForcePushed}
+use Rattle.channel_calls.specs.declared.waited.ForcePushed.TheVariants as forced
+use Rattle.channel_calls.specs.declared.waited.Popped.{Popped}
+use Rattle.channel_calls.specs.declared.waited.Popped.TheVariants as taken
 
 -- the replies of the queue that the channel's answers stand for
 abbrev pub sent : {T : Type 0} → Result (Unit {0}) (SendError T) → Reply T
@@ -27,16 +33,28 @@ abbrev pub received : {T : Type 0} → Result T Disconnected → Reply T
 received (Ok x) = reply.Pop (Ok x)
 received (Err why) = reply.Pop (Err pop.Closed)
 
--- those of one try, which may find the queue full, or open and empty
-abbrev pub sent_or_full : {T : Type 0} → Result (Result (Unit {0}) (SendError T)) T → Reply T
-sent_or_full (Ok answer) = sent answer
-sent_or_full (Err v) = reply.Push (Err (push.Full v))
+-- those that the answers of one call stand for
+abbrev pub pushed : {T : Type 0} → Pushed T → Reply T
+pushed (put.Done owed) = reply.Push (Ok tt)
+pushed (put.Full v vain) = reply.Push (Err (push.Full v))
+pushed (put.Closed v owed) = reply.Push (Err (push.Closed v))
+pushed (put.NoMemory v) = reply.Push (Err (push.NoMemory v))
 
-abbrev pub received_or_empty : {T : Type 0} → Option (Result T Disconnected) → Reply T
-received_or_empty (Some answer) = received answer
-received_or_empty None = reply.Pop (Err pop.Empty)
+abbrev pub force_pushed : {T : Type 0} → ForcePushed T → Reply T
+force_pushed (forced.Done old owed) = reply.ForcePush (Ok old)
+force_pushed (forced.Closed v owed) = reply.ForcePush (Err (force.Closed v))
+force_pushed (forced.NoMemory v) = reply.ForcePush (Err (force.NoMemory v))
+
+abbrev pub popped : {T : Type 0} → Popped T → Reply T
+popped (taken.Item x owed) = reply.Pop (Ok x)
+popped (taken.Empty vain) = reply.Pop (Err pop.Empty)
+popped taken.Closed = reply.Pop (Err pop.Closed)
+
+-- the party has seen the queue closed
+abbrev pub HasSeenClosed : {T : Type 0} → PartyView T → Type 0
+HasSeenClosed p = (after p.queue.cap p.view.seen).closed ≡ true
 
 -- The end is no more, and its party v is given back as w. Where it was the last of its side, w has called close, and has seen the queue closed; else nothing was called
 abbrev pub Ends : {T : Type 0} → PartyView T → PartyView T → Bool → Type 0
-Ends v w true = ((closed : Bool) × Calls v call.Close (reply.Close closed) w) × ((after w.queue.cap w.view.seen).closed ≡ true)
+Ends v w true = ((closed : Bool) × Calls v call.Close (reply.Close closed) w) × HasSeenClosed w
 Ends v w false = w ≡ v

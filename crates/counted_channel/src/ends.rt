@@ -13,11 +13,8 @@ use crate::sides::{SideEnd, end_one, join_ends, split_end};
 use crate::tries::{pop_until, push_until};
 use crate::waiting::Awaited;
 use crate::waking::{force_push, pop, push};
-use channel_calls::ending::finish_queue;
-use channel_calls::{Disconnected, SendError};
-use concurrent_queue::{
-    ConcurrentQueue, Exclusive, ForcePushError, NullTestable, Party, PopError, PushError,
-};
+use channel_calls::{Disconnected, SendError, WaitedQueue};
+use concurrent_queue::{Exclusive, NullTestable, Party, PopError, PushError};
 use std::alloc::{Allocator, Global};
 use std::marker::Model;
 use std::sync::Wait;
@@ -27,7 +24,7 @@ use std::sync::Wait;
 /// A contract sees which queue it is, and which table counts its ends.
 #[derive(Drop)]
 pub struct Channel<T, A: Allocator = Global> {
-    pub(crate) queue: ConcurrentQueue<T, A>,
+    pub(crate) queue: WaitedQueue<T, A>,
     pub(crate) counts: Counts<A>,
     pub(crate) awaited: Awaited,
 }
@@ -219,11 +216,7 @@ impl<T, A: Allocator> Channel<T, A> {
         requires { IsEndOf sender.old self.now }
         ensures { ChannelCall sender.old (call.ForcePush value) (force_sent result) sender.new }
     {
-        match force_push(&self.queue, &self.awaited, rt, &mut sender.end.party, value) {
-            Ok(old) => Ok(old),
-            Err(ForcePushError::Closed(back)) => Err(SendError::Closed(back)),
-            Err(ForcePushError::NoMemory(back)) => Err(SendError::NoMemory(back)),
-        }
+        force_push(&self.queue, &self.awaited, rt, &mut sender.end.party, value)
     }
 
     /// Takes the front off. It waits while the queue is open and empty: it gives way a few times, and then sleeps.
@@ -273,6 +266,22 @@ impl<T, A: Allocator> Channel<T, A> {
         ensures { ChannelCall (E.end end.old) call.Len (reply.Len result) (E.end end.new) }
     {
         end.count_items(&self.queue, rt)
+    }
+
+    /// Whether no item was sent that was not received, at a moment of the call.
+    pub fn is_empty<E: ChannelEnd<T>>(&self, end: &mut E) -> bool
+        requires { IsEndOf (E.end end.old) self.now }
+        ensures { ChannelCall (E.end end.old) call.IsEmpty (reply.IsEmpty result) (E.end end.new) }
+    {
+        end.sees_empty(&self.queue)
+    }
+
+    /// Whether there is no room, at a moment of the call.
+    pub fn is_full<E: ChannelEnd<T>>(&self, end: &mut E) -> bool
+        requires { IsEndOf (E.end end.old) self.now }
+        ensures { ChannelCall (E.end end.old) call.IsFull (reply.IsFull result) (E.end end.new) }
+    {
+        end.sees_full(&self.queue)
     }
 
     /// How many items the channel has room for, in items; nothing where it has no limit.
@@ -350,7 +359,7 @@ impl<T, A: Allocator> Channel<T, A> {
             counts,
             awaited,
         } = self;
-        match finish_queue(queue, party) {
+        match queue.finish(party) {
             Ok(left) => Ok(left),
             Err((queue, party)) => Err((
                 Channel {

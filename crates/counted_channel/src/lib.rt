@@ -7,9 +7,9 @@ mod ends;
 mod items;
 mod opening;
 mod sides;
-pub mod tries;
-pub mod waiting;
-pub mod waking;
+mod tries;
+mod waiting;
+mod waking;
 
 pub use channel_calls::{Disconnected, SendError};
 pub use counting::MAX_ENDS;

@@ -7,6 +7,7 @@ use crate::counting::open;
 use crate::ends::{Channel, Receiver, Sender};
 use crate::sides::SideEnd;
 use crate::waiting::Awaited;
+use channel_calls::WaitedQueue;
 use concurrent_queue::{ConcurrentQueue, Party};
 use std::alloc::Allocator;
 
@@ -41,7 +42,7 @@ pub fn channel<T, A: Allocator>(
                 },
             };
             let channel = Channel {
-                queue,
+                queue: WaitedQueue::new(queue),
                 counts,
                 awaited: Awaited::new(),
             };

@@ -7,8 +7,8 @@ ghost use Rattle.counted_channel.specs.Counting.{IsEndSeat, stake_at};
 
 use crate::counting::{EndSeat, SharedCounts, leave, part, unite};
 use crate::waiting::Awaited;
-use channel_calls::ending::close_after;
-use concurrent_queue::{ConcurrentQueue, Party};
+use channel_calls::WaitedQueue;
+use concurrent_queue::Party;
 use std::alloc::Allocator;
 
 /// An end of either side: its party of the queue, and its seat at the counts.
@@ -20,7 +20,7 @@ pub(crate) struct SideEnd<T> {
 
 /// Parts an end in two, or gives it back where the queue has as many parties as it may, or the channel as many ends of this side.
 pub(crate) fn split_end<T, A: Allocator>(
-    queue: &ConcurrentQueue<T, A>,
+    queue: &WaitedQueue<T, A>,
     words: &SharedCounts,
     end: SideEnd<T>,
     word: usize,
@@ -57,7 +57,7 @@ pub(crate) fn split_end<T, A: Allocator>(
 
 /// Makes one end of two of a side.
 pub(crate) fn join_ends<T, A: Allocator>(
-    queue: &ConcurrentQueue<T, A>,
+    queue: &WaitedQueue<T, A>,
     words: &SharedCounts,
     first: SideEnd<T>,
     second: SideEnd<T>,
@@ -79,7 +79,7 @@ pub(crate) fn join_ends<T, A: Allocator>(
 
 /// Ends an end, and gives its party and whether it was the last of its side. The last closes the queue.
 pub(crate) fn end_one<T, A: Allocator>(
-    queue: &ConcurrentQueue<T, A>,
+    queue: &WaitedQueue<T, A>,
     awaited: &Awaited,
     words: &SharedCounts,
     end: SideEnd<T>,
@@ -92,9 +92,8 @@ pub(crate) fn end_one<T, A: Allocator>(
 {
     let SideEnd { mut party, place } = end;
     let last = leave(words, place, word);
-    close_after(queue, &mut party, last);
-    if last {
-        awaited.wake_all();
+    if let Some(owed) = queue.close_after(&mut party, last) {
+        awaited.notify_all(owed);
     }
     (party, last)
 }

@@ -3,11 +3,10 @@ ghost use Rattle.queue_steps.specs.declared.model.Call.TheVariants as call;
 ghost use Rattle.concurrent_queue.specs.Shared.{IsPartyOf, Calls};
 ghost use Rattle.counted_channel.specs.Channel.{sent, received};
 
-use crate::waiting::{Awaited, Patience, end};
-use crate::waking::{pop, push};
-use channel_calls::answers::{unless_empty, unless_full};
-use channel_calls::{Disconnected, SendError};
-use concurrent_queue::{ConcurrentQueue, NullTestable, Party};
+use crate::waiting::Awaited;
+use channel_calls::{Disconnected, Popped, Pushed, SendError, WaitedQueue};
+use concurrent_queue::{NullTestable, Party};
+use event_count::Patience;
 use std::alloc::Allocator;
 use std::sync::Wait;
 
@@ -16,8 +15,8 @@ use std::sync::Wait;
 /// # Errors
 ///
 /// `Closed` with the value on a closed queue, `NoMemory` with the value where a block was asked for and refused.
-pub fn push_until<T, A: NullTestable, R: Wait>(
-    queue: &ConcurrentQueue<T, A>,
+pub(crate) fn push_until<T, A: NullTestable, R: Wait>(
+    queue: &WaitedQueue<T, A>,
     awaited: &Awaited,
     rt: &R,
     party: &mut Party<T>,
@@ -29,15 +28,21 @@ pub fn push_until<T, A: NullTestable, R: Wait>(
     let mut patience = Patience::new(&awaited.room);
     let mut value = value;
     for _ in rt.forever() {
-        let ticket = patience.begin();
-        match unless_full(push(queue, awaited, rt, party, value)) {
-            Ok(answer) => {
-                end(ticket);
-                return answer;
+        match queue.push(rt, party, value, patience.look()) {
+            Pushed::Done(owed) => {
+                awaited.items.notify_one(owed);
+                return Ok(());
             }
-            Err(back) => value = back,
+            Pushed::Full(back, vain) => {
+                value = back;
+                patience.wait(rt, vain);
+            }
+            Pushed::Closed(back, owed) => {
+                awaited.notify_all(owed);
+                return Err(SendError::Closed(back));
+            }
+            Pushed::NoMemory(back) => return Err(SendError::NoMemory(back)),
         }
-        patience.wait(rt, ticket);
     }
     unreachable!()
 }
@@ -47,8 +52,8 @@ pub fn push_until<T, A: NullTestable, R: Wait>(
 /// # Errors
 ///
 /// On a closed and empty queue.
-pub fn pop_until<T, A: Allocator, R: Wait>(
-    queue: &ConcurrentQueue<T, A>,
+pub(crate) fn pop_until<T, A: Allocator, R: Wait>(
+    queue: &WaitedQueue<T, A>,
     awaited: &Awaited,
     rt: &R,
     party: &mut Party<T>,
@@ -58,13 +63,13 @@ pub fn pop_until<T, A: Allocator, R: Wait>(
 {
     let mut patience = Patience::new(&awaited.items);
     for _ in rt.forever() {
-        let ticket = patience.begin();
-        match unless_empty(pop(queue, awaited, rt, party)) {
-            Some(answer) => {
-                end(ticket);
-                return answer;
+        match queue.pop(rt, party, patience.look()) {
+            Popped::Item(item, owed) => {
+                awaited.room.notify_one(owed);
+                return Ok(item);
             }
-            None => patience.wait(rt, ticket),
+            Popped::Empty(vain) => patience.wait(rt, vain),
+            Popped::Closed => return Err(Disconnected),
         }
     }
     unreachable!()

@@ -1,16 +1,19 @@
-//! Calls of the queue, each of which wakes who waits for what it did.
+//! Calls of the queue that do not wait for room or items. Each notifies who waits for what it did.
 ghost use Rattle.queue_steps.specs.declared.model.Call.TheVariants as call;
 ghost use Rattle.queue_steps.specs.declared.model.Reply.TheVariants as reply;
 ghost use Rattle.concurrent_queue.specs.Shared.{IsPartyOf, Calls};
+ghost use Rattle.counted_channel.specs.Channel.{force_sent};
 
 use crate::waiting::Awaited;
-use concurrent_queue::{ConcurrentQueue, ForcePushError, NullTestable, Party, PopError, PushError};
+use channel_calls::{ForcePushed, Popped, Pushed, SendError, WaitedQueue};
+use concurrent_queue::{NullTestable, Party, PopError, PushError};
+use event_count::Look;
 use std::alloc::Allocator;
 use std::sync::Wait;
 
 /// Pushes. One that is answered `Closed` may have closed the queue.
-pub fn push<T, A: NullTestable, R: Wait>(
-    queue: &ConcurrentQueue<T, A>,
+pub(crate) fn push<T, A: NullTestable, R: Wait>(
+    queue: &WaitedQueue<T, A>,
     awaited: &Awaited,
     rt: &R,
     party: &mut Party<T>,
@@ -19,38 +22,50 @@ pub fn push<T, A: NullTestable, R: Wait>(
     requires { IsPartyOf party.old queue.now }
     ensures { Calls party.old (call.Push value) (reply.Push result) party.new }
 {
-    let answer = queue.push(rt, party, value);
-    match &answer {
-        Ok(()) => awaited.items.notify_one(),
-        Err(PushError::Closed(_)) => awaited.wake_all(),
-        Err(PushError::Full(_) | PushError::NoMemory(_)) => {}
+    match queue.push(rt, party, value, Look::Awake) {
+        Pushed::Done(owed) => {
+            awaited.items.notify_one(owed);
+            Ok(())
+        }
+        Pushed::Full(back, vain) => {
+            vain.end();
+            Err(PushError::Full(back))
+        }
+        Pushed::Closed(back, owed) => {
+            awaited.notify_all(owed);
+            Err(PushError::Closed(back))
+        }
+        Pushed::NoMemory(back) => Err(PushError::NoMemory(back)),
     }
-    answer
 }
 
-/// Pushes, by force. One that is answered `Closed` may have closed the queue.
-pub fn force_push<T, A: NullTestable, R: Wait>(
-    queue: &ConcurrentQueue<T, A>,
+/// Pushes by force. One that is answered `Closed` may have closed the queue.
+pub(crate) fn force_push<T, A: NullTestable, R: Wait>(
+    queue: &WaitedQueue<T, A>,
     awaited: &Awaited,
     rt: &R,
     party: &mut Party<T>,
     value: T,
-) -> Result<Option<T>, ForcePushError<T>>
+) -> Result<Option<T>, SendError<T>>
     requires { IsPartyOf party.old queue.now }
-    ensures { Calls party.old (call.ForcePush value) (reply.ForcePush result) party.new }
+    ensures { Calls party.old (call.ForcePush value) (force_sent result) party.new }
 {
-    let answer = queue.force_push(rt, party, value);
-    match &answer {
-        Ok(_) => awaited.items.notify_one(),
-        Err(ForcePushError::Closed(_)) => awaited.wake_all(),
-        Err(ForcePushError::NoMemory(_)) => {}
+    match queue.force_push(rt, party, value) {
+        ForcePushed::Done(displaced, owed) => {
+            awaited.items.notify_one(owed);
+            Ok(displaced)
+        }
+        ForcePushed::Closed(back, owed) => {
+            awaited.notify_all(owed);
+            Err(SendError::Closed(back))
+        }
+        ForcePushed::NoMemory(back) => Err(SendError::NoMemory(back)),
     }
-    answer
 }
 
 /// Pops. Nobody waits for room where the queue has no limit.
-pub fn pop<T, A: Allocator, R: Wait>(
-    queue: &ConcurrentQueue<T, A>,
+pub(crate) fn pop<T, A: Allocator, R: Wait>(
+    queue: &WaitedQueue<T, A>,
     awaited: &Awaited,
     rt: &R,
     party: &mut Party<T>,
@@ -58,23 +73,29 @@ pub fn pop<T, A: Allocator, R: Wait>(
     requires { IsPartyOf party.old queue.now }
     ensures { Calls party.old call.Pop (reply.Pop result) party.new }
 {
-    let answer = queue.pop(rt, party);
-    if answer.is_ok() {
-        awaited.room.notify_one();
+    match queue.pop(rt, party, Look::Awake) {
+        Popped::Item(item, owed) => {
+            awaited.room.notify_one(owed);
+            Ok(item)
+        }
+        Popped::Empty(vain) => {
+            vain.end();
+            Err(PopError::Empty)
+        }
+        Popped::Closed => Err(PopError::Closed),
     }
-    answer
 }
 
 /// Closes the queue, and returns whether it was open.
-pub fn close<T, A: Allocator>(
-    queue: &ConcurrentQueue<T, A>,
+pub(crate) fn close<T, A: Allocator>(
+    queue: &WaitedQueue<T, A>,
     awaited: &Awaited,
     party: &mut Party<T>,
 ) -> bool
     requires { IsPartyOf party.old queue.now }
     ensures { Calls party.old call.Close (reply.Close result) party.new }
 {
-    let closed = queue.close(party);
-    awaited.wake_all();
+    let (closed, owed) = queue.close(party);
+    awaited.notify_all(owed);
     closed
 }

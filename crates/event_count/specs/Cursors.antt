@@ -1,7 +1,7 @@
 -- Where a call on the two words may begin, stop and end.
 use Rattle.std.specs.Prelude.{◌≡◌, ℕ, Bool, true, false}
 use Rattle.law_wakes.specs.declared.steps.Phase.{Phase}
-use Rattle.law_wakes.specs.declared.steps.Phase.TheVariants.{Idle, Starting, Prepared, Returned, Given, Taking, Moving}
+use Rattle.law_wakes.specs.declared.steps.Phase.TheVariants.{Idle, Starting, Prepared, Missed, Returned, Given, Taking, Clearing}
 use Rattle.law_wakes.specs.declared.steps.Step.{Step}
 use Rattle.law_wakes.specs.declared.steps.Step.TheVariants.{Rest, Park}
 
@@ -9,13 +9,18 @@ use Rattle.law_wakes.specs.declared.steps.Step.TheVariants.{Rest, Park}
 abbrev pub Begins : Phase → Type 0
 Begins Starting = Unit {0}
 Begins Given = Unit {0}
-Begins (Moving whom) = Unit {0}
+Begins Clearing = Unit {0}
 Begins other = ⊥
 
 -- its caller has looked, and waits for it or gives it up
 abbrev pub is_prepared : Phase → Bool
 is_prepared (Prepared events) = true
 is_prepared other = false
+
+-- its caller has looked in vain, and sleeps next
+abbrev pub is_missed : Phase → Bool
+is_missed (Missed events) = true
+is_missed other = false
 
 -- a notify of one has found that so many may sleep
 abbrev pub IsTaking : Phase → Type 0

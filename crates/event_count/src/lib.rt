@@ -1,32 +1,60 @@
 //! An eventcount: who waits for a condition sleeps, and who makes it true wakes it. It knows nothing of the condition.
 //!
-//! Who waits takes a ticket, looks at the condition once more, and waits on the ticket or gives it up. Who makes the condition true does so first, and notifies then. A notify of one
-//! is one load where no wait has begun, or a notify has gone to wake for each that has, also for those that were given up.
+//! The order of a wait, and of a notify, is in the types. Who waits takes a [`Ticket`], looks at the condition with it in hand, and is given a [`Missed`] if it looked in vain: nothing else
+//! is waited on. Who makes the condition true is given an [`OwesOne`] or an [`OwesAll`]: a notify takes it and nothing else does.
+//!
+//! `C` is the condition, a type of which only the code that looks at the condition, or makes it true, can make a value. That code hands one in for each ticket that it looked with in
+//! vain, and for each notify that it owes.
+//!
+//! A notify of one is one load where no wait has begun, or a notify has gone to wake for each that has, also for those that were given up.
 #![tactic(auto)]
 
 ghost use Rattle.std.specs.Prelude.{◌≡◌, ℕ, IsTrue};
 ghost use Rattle.law_wakes.specs.Steps.{step_of, after_of};
-ghost use Rattle.event_count.specs.Cursors.{IsTaking, IsOnWords, IsPark, is_prepared};
+ghost use Rattle.event_count.specs.Cursors.{IsTaking, IsOnWords, IsPark, is_prepared, is_missed};
 
 mod cursor;
+mod patience;
 mod words;
 
 use crate::cursor::Cursor;
 use crate::words::Words;
-use law_wakes::{Phase, Step, Whom};
+use law_wakes::{Phase, Step};
+pub use patience::{Look, Patience, Vain};
+use std::marker::PhantomData;
 use std::sync::Wait;
 
 /// Two words that threads share: how often somebody went to wake, and how many may sleep that nobody has gone to wake.
 #[derive(Drop)]
-pub struct EventCount {
+pub struct EventCount<C> {
     words: Words,
+    condition: PhantomData<C>,
 }
 
-/// What `prepare` gives. It has to be waited on or given up.
-pub struct Ticket<'a> {
+/// A wait that has begun. Its holder looks at the condition, and says what it found.
+pub struct Ticket<'a, C> {
     words: &'a Words,
     cursor: Cursor,
+    condition: PhantomData<C>,
     ghost prepared: { IsTrue (is_prepared cursor.phase) },
+}
+
+/// A look in vain that was made with a ticket in hand. Its holder waits on it.
+pub struct Missed<'a, C> {
+    words: &'a Words,
+    cursor: Cursor,
+    condition: PhantomData<C>,
+    ghost missed: { IsTrue (is_missed cursor.phase) },
+}
+
+/// The condition was made true for one that waits, and nobody was notified yet. Only [`EventCount::notify_one`] takes it.
+pub struct OwesOne<C> {
+    condition: PhantomData<C>,
+}
+
+/// The condition was made true for all that wait, and nobody was notified yet. Only [`EventCount::notify_all`] takes it.
+pub struct OwesAll<C> {
+    condition: PhantomData<C>,
 }
 
 /// Takes the next step of a call, which does not sleep.
@@ -51,61 +79,127 @@ fn park<R: Wait>(rt: &R, words: &Words, cursor: Cursor) -> Cursor
     cursor.after(done)
 }
 
-impl EventCount {
-    pub fn new() -> EventCount {
+/// The steps of a notify of one that goes to wake.
+#[cold]
+#[inline(never)]
+fn wake_one(words: &Words, cursor: Cursor)
+    requires { IsTaking cursor.phase }
+{
+    let taken = take_step(words, cursor);
+    let moved = take_step(words, taken);
+    take_step(words, moved).end();
+}
+
+impl<C> OwesOne<C> {
+    /// The condition was made true for one, as its own code says.
+    #[inline(always)]
+    pub fn by(condition: C) -> OwesOne<C>
+    where
+        C: Drop,
+    {
+        let _ = condition;
+        OwesOne {
+            condition: PhantomData,
+        }
+    }
+}
+
+impl<C> OwesAll<C> {
+    /// The condition was made true for all, as its own code says.
+    #[inline(always)]
+    pub fn by(condition: C) -> OwesAll<C>
+    where
+        C: Drop,
+    {
+        let _ = condition;
+        OwesAll {
+            condition: PhantomData,
+        }
+    }
+}
+
+impl<C> EventCount<C> {
+    pub fn new() -> EventCount<C> {
         EventCount {
             words: Words::new(),
+            condition: PhantomData,
         }
     }
 
-    /// Begins to wait. The caller looks at the condition after this.
-    pub fn prepare(&self) -> Ticket<'_> {
+    /// Begins to wait.
+    pub fn prepare(&self) -> Ticket<'_, C> {
         let words = &self.words;
         let loaded = take_step(words, Cursor::begin(Phase::Starting));
         let cursor = take_step(words, loaded);
-        Ticket { words, cursor }
+        Ticket {
+            words,
+            cursor,
+            condition: PhantomData,
+        }
     }
 
-    /// Wakes one of those that wait, where there are some. The condition is true before this.
+    /// Wakes one of those that wait, where there are some.
     #[inline(always)]
-    pub fn notify_one(&self) {
+    pub fn notify_one(&self, owed: OwesOne<C>) {
+        let OwesOne { condition: _ } = owed;
         let cursor = take_step(&self.words, Cursor::begin(Phase::Given));
         if cursor.is_over() {
             cursor.end();
         } else {
-            self.wake_one(cursor);
+            wake_one(&self.words, cursor);
         }
     }
 
-    /// Wakes all that wait. The condition is true before this.
+    /// Wakes all that wait.
     #[inline]
-    pub fn notify_all(&self) {
-        let moved = take_step(&self.words, Cursor::begin(Phase::Moving(Whom::All)));
-        take_step(&self.words, moved).end();
-    }
-
-    /// The steps of a notify of one that goes to wake.
-    #[cold]
-    #[inline(never)]
-    fn wake_one(&self, cursor: Cursor)
-        requires { IsTaking cursor.phase }
-    {
-        let taken = take_step(&self.words, cursor);
-        let moved = take_step(&self.words, taken);
+    pub fn notify_all(&self, owed: OwesAll<C>) {
+        let OwesAll { condition: _ } = owed;
+        let cleared = take_step(&self.words, Cursor::begin(Phase::Clearing));
+        let moved = take_step(&self.words, cleared);
         take_step(&self.words, moved).end();
     }
 }
 
-impl Ticket<'_> {
-    /// Gives the ticket up: the condition is true, or nobody waits for it any more.
-    pub fn cancel(self) {
-        let Ticket { words: _, cursor } = self;
+impl<'a, C> Ticket<'a, C> {
+    /// The condition is true, or its holder does not wait for it any more.
+    #[inline(always)]
+    pub fn found(self) {
+        let Ticket {
+            words: _,
+            cursor,
+            condition: _,
+        } = self;
         cursor.look(true).end();
     }
 
-    /// Sleeps until a notify, if there was none since `prepare`. It may return for no reason, so the caller looks at the condition again.
+    /// The condition was looked at with this ticket in hand, and is not true, as its own code says.
+    #[inline(always)]
+    pub fn missed(self, condition: C) -> Missed<'a, C>
+    where
+        C: Drop,
+    {
+        let _ = condition;
+        let Ticket {
+            words,
+            cursor,
+            condition: _,
+        } = self;
+        Missed {
+            words,
+            cursor: cursor.look(false),
+            condition: PhantomData,
+        }
+    }
+}
+
+impl<C> Missed<'_, C> {
+    /// Sleeps until a notify, if there was none since the ticket was taken. It may return for no reason, so the caller looks at the condition again.
     pub fn wait<R: Wait>(self, rt: &R) {
-        let Ticket { words, cursor } = self;
-        park(rt, words, cursor.look(false)).end();
+        let Missed {
+            words,
+            cursor,
+            condition: _,
+        } = self;
+        park(rt, words, cursor).end();
     }
 }

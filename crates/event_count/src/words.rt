@@ -3,6 +3,9 @@ ghost use Rattle.std.specs.Prelude.{◌≡◌};
 ghost use Rattle.law_wakes.specs.declared.steps.Step.TheVariants as step;
 ghost use Rattle.event_count.specs.Cursors.{IsOnWords};
 
+#[cfg(test)]
+mod tests;
+
 use crossbeam_utils::CachePadded;
 use law_wakes::{Step, Whom, Word};
 use std::sync::Wait;
@@ -64,6 +67,7 @@ impl Words {
                     .compare_exchange(sleepers, less, SeqCst, SeqCst);
                 found
             }
+            Step::Clear => self.sleepers.swap(0, SeqCst),
             Step::Wake(whom) => {
                 match whom {
                     Whom::One => self.events.wake_one(),

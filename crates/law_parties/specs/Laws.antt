@@ -39,13 +39,13 @@ MeetsKeepDoings T = (cap : Option ℕ) (a b c d : View T) → IsView cap a → I
 abbrev pub WholeDidAll : Type 0 → Type 0
 WholeDidAll T = (cap : Option ℕ) (v : View T) → IsView cap v → IsWhole v → (test : Effect T → Bool) → done_by test v ≡ count_by test v.seen
 
--- as many such items as it handed in, it handed out, or they are left
+-- where nothing is on its way in, as many such items as it handed in, it handed out, or they are left
 abbrev pub ItemsAreKept : Type 0 → Type 0
 ItemsAreKept T =
     (cap : Option ℕ) (v : View T) (such : T → Bool) → IsView cap v → IsWhole v → (after cap v.seen).coming ≡ None
     → done_by (hands_in_such such) v ≡ done_by (hands_out_such such) v + count_by such (after cap v.seen).items
 
--- as often as it handed a number in, it handed it out, or the number is left
+-- where nothing is on its way in, as often as it handed a number in, it handed it out, or the number is left
 abbrev pub NumbersAreKept : Type 0
 NumbersAreKept =
     (cap : Option ℕ) (v : View ℕ) (x : ℕ) → IsView cap v → IsWhole v → (after cap v.seen).coming ≡ None

@@ -33,7 +33,7 @@ pub fn whole_did_all<T>()
     ensures { WholeDidAll T }
 {}
 
-/// As many items of a kind as such a party handed in, it handed out, or they are left.
+/// Where nothing is on its way in, as many items of a kind as such a party handed in, it handed out, or they are left.
 pub fn items_are_kept<T>()
     ensures { ItemsAreKept T }
 {}

@@ -2,5 +2,8 @@ pub mod Counts
 pub mod Told
 pub mod Telling
 pub mod Heed
+pub mod HeedSteps
 pub mod Heeding
 pub mod Runs
+pub mod Listing
+pub mod Viewing

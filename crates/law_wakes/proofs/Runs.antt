@@ -1,32 +1,33 @@
 -- The laws of every run.
-use Rattle.std.proofs.Common.{◌≡◌, ◌⊎◌, inl, inr, ℕ, ◌+◌, ◌≤◌, ◌∙◌, Bool, List, [], ◌∷◌, replicate, count_by, refl, sym, ap, subst, arith, le_refl}
+use Rattle.std.proofs.Common.{◌≡◌, ◌⊎◌, inl, inr, ℕ, ◌+◌, ◌≤◌, ◌∙◌, Bool, List, [], ◌∷◌, count_by, refl, sym, ap, subst, arith, le_refl}
 use Rattle.law_wakes.specs.declared.steps.Phase.TheVariants.{Idle, Given, Taking, Moving, Waking}
 use Rattle.law_wakes.specs.declared.steps.Whom.TheVariants.{One, All}
 use Rattle.law_wakes.specs.World.{Party, Awake, Asleep, World, Event, is_asleep, start, happens, run}
-use Rattle.law_wakes.specs.Laws.{is_woken, is_giving, is_telling, Sleeps, HasMissedNothing, NobodySleepsThrough, IsHeeded, NoItemIsLeft}
+use Rattle.law_wakes.specs.Laws.{is_giving, is_telling, HasMissedNothing, NobodySleepsThrough, AreHeeded, AreRoused, NoItemIsLeft}
 use Rattle.law_wakes.specs.Examples.{Examples}
 use Rattle.law_wakes.proofs.Counts.{one, count_at, count_le, count_none, some_counted, replicate_get, count_cons}
 use Rattle.law_wakes.proofs.Told.{MaySleep, Fits, Told}
-use Rattle.law_wakes.proofs.Heed.{is_near, is_unmoved, is_moving, is_waking, tally_of, Heeds}
-use Rattle.law_wakes.proofs.Heeding.{Heeded}
+use Rattle.law_wakes.proofs.Heed.{is_near, is_parking, is_unmoved, is_moving, is_waking, tally_of, Heeds}
+use Rattle.law_wakes.proofs.HeedSteps.{Heeded}
 use Rattle.law_wakes.proofs.Telling as telling
 use Rattle.law_wakes.proofs.Heeding as heeding
 
-told_start : (n : ℕ) → Told (start n)
-told_start n = λ k p at. subst (Fits (start n)) (sym (replicate_get n k (Awake Idle 0) p at)) tt
+told_start : (n items : ℕ) → Told (start n items)
+told_start n items = λ k p at. subst (Fits (start n items)) (sym (replicate_get n k (Awake Idle 0) p at)) tt
 
-no_such : (n : ℕ) (f : Party → Bool) → one f (Awake Idle 0) ≡ 0 → count_by f (start n).parties ≡ 0
-no_such n f none = count_none f (start n).parties (λ k p at. ap (one f) (replicate_get n k (Awake Idle 0) p at) ∙ none)
+no_such : (n items : ℕ) (f : Party → Bool) → one f (Awake Idle 0) ≡ 0 → count_by f (start n items).parties ≡ 0
+no_such n items f none = count_none f (start n items).parties (λ k p at. ap (one f) (replicate_get n k (Awake Idle 0) p at) ∙ none)
 
-heeded_start : (n : ℕ) → Heeded (start n)
-heeded_start n = λ early.
-    let asleep = no_such n is_asleep refl in
-    let near = no_such n (is_near 0) refl in
+heeded_start : (n items : ℕ) → Heeded (start n items)
+heeded_start n items = λ early.
+    let asleep = no_such n items is_asleep refl in
+    let near = no_such n items (is_near 0) refl in
+    let parking = no_such n items (is_parking 0) refl in
     record {
-      reached = omega (arith, asleep, near);
-      reached_near = omega (arith, near);
-      for_parking = λ some. inl (omega arith);
-      for_asleep = λ some. inl (omega arith);
+      reached = inr (omega (arith, asleep, near));
+      reached_near = inr (omega (arith, near));
+      for_parking = λ some. absurd (omega (arith, parking, some));
+      for_asleep = λ some. absurd (omega (arith, asleep, some));
     }
 
 told_run : (w : World) (es : List Event) → Told w → Told (run es w)
@@ -38,11 +39,11 @@ heeded_run w [] told h = h
 heeded_run w (e ∷ es) told h = heeded_run (happens w e) es (telling.happens_keeps w e told) (heeding.happens_keeps w e told h)
 
 missed_nothing : (w : World) (mark : ℕ) → MaySleep w mark → HasMissedNothing w mark
-missed_nothing w mark may = elim may [ inl same ↦ inl same | inr some ↦ inr (some_counted (is_telling w.times) w.parties some) ]
+missed_nothing w mark may = (may.0, λ n since come. some_counted (is_telling n) w.parties (may.1 n since come))
 
 pub nobody_sleeps_through : NobodySleepsThrough
-nobody_sleeps_through n es k mark s =
-    let w = run es (start n) in missed_nothing w mark (told_run (start n) es (told_start n) k (Asleep s.ticket s.parked mark) s.at s.near)
+nobody_sleeps_through n items es k mark s =
+    let w = run es (start n items) in missed_nothing w mark (told_run (start n items) es (told_start n items) k (Asleep s.ticket s.parked mark) s.at s.near)
 
 giving : (p : Party) → one is_giving p ≡ one is_unmoved p + one is_waking p
 giving (Awake Given m) = refl
@@ -64,16 +65,16 @@ gives (p ∷ ps) =
     let rest = gives ps in let here = giving p in
     let a = count_cons is_giving p ps in let b = count_cons is_unmoved p ps in let c = count_cons is_waking p ps in omega (arith, rest, here, a, b, c)
 
-heeds : (w : World) → Heeds w.sleepers w.items (tally_of w.events w.parties) → 1 ≤ count_by is_asleep w.parties → IsHeeded w
+heeds : (w : World) → Heeds w.sleepers w.items (tally_of w.events w.parties) → 1 ≤ count_by is_asleep w.parties → AreHeeded w.items w ⊎ AreRoused w
 heeds w h some =
     let all = gives w.parties in
     let fewer = count_le is_moving is_unmoved moving w.parties in
-    elim (h.for_asleep some) [ inl left ↦ inl (omega (arith, all, left)) | inr c ↦ inr (let few = c.all in omega (arith, all, fewer, few)) ]
+    elim (h.for_asleep some) [ inl left ↦ inl (inl (omega (arith, all, left))) | inr c ↦ elim c.all [ inl rouse ↦ inr rouse | inr few ↦ inl (inr (omega (arith, all, fewer, few))) ] ]
 
 pub no_item_is_left : NoItemIsLeft
-no_item_is_left n es early k mark s =
-    let w = run es (start n) in
-    let some : 1 ≤ count_by is_asleep w.parties = count_at is_asleep w.parties k (Asleep s.ticket s.parked mark) s.at in heeds w (heeded_run (start n) es (told_start n) (heeded_start n) early) some
+no_item_is_left n items es early k mark s =
+    let w = run es (start n items) in
+    let some : 1 ≤ count_by is_asleep w.parties = count_at is_asleep w.parties k (Asleep s.ticket s.parked mark) s.at in heeds w (heeded_run (start n items) es (told_start n items) (heeded_start n items) early) some
 
 pub examples : Examples
-examples = record { sleeps = refl; still_asleep = refl; all_still_asleep = refl; taken = refl; one_woken = refl; all_woken = refl; does_not_sleep = refl }
+examples = record { sleeps = refl; still_asleep = refl; all_still_asleep = refl; taken = refl; one_woken = refl; all_woken = refl; none_counted = refl; ends_at_its_load = refl; counted_still = refl; counted_awake = refl; does_not_sleep = refl }

@@ -1,23 +1,24 @@
 -- What each event keeps for those that wait for what all wait for.
 use Rattle.std.proofs.Common.{◌≡◌, ◌⊎◌, inl, inr, ℕ, ◌+◌, ◌^◌, ◌<◌, ◌≤◌, ◌==◌, Bool, true, false, Some, count_by, slice_get, slice_set, refl, sym, subst, arith}
-use Rattle.law_wakes.specs.declared.steps.Phase.TheVariants.{Loaded, Prepared, Missed, Moving, Waking}
-use Rattle.law_wakes.specs.declared.steps.Whom.TheVariants.{One, All}
+use Rattle.law_wakes.specs.declared.steps.Phase.TheVariants.{Loaded, Prepared, Missed, Clearing, Moving, Waking}
+use Rattle.law_wakes.specs.declared.steps.Whom.TheVariants.{All}
 use Rattle.law_wakes.specs.World.{Party, Awake, Asleep, World, is_asleep}
 use Rattle.law_wakes.specs.Laws.{is_telling}
 use Rattle.law_wakes.proofs.Counts.{one, count_at, count_set, set_get}
 
 -- it made what all wait for come for the n-th time, and has not moved `EVENTS`
 abbrev pub is_untold : ℕ → Party → Bool
+is_untold n (Awake Clearing m) = m == n
 is_untold n (Awake (Moving All) m) = m == n
 is_untold n other = false
 
 -- for a party that is about to park: who told since it looked has not moved `EVENTS`
 abbrev pub MayPark : World → ℕ → Type 0
-MayPark w m = (w.times ≡ m) ⊎ (1 ≤ count_by (is_untold w.times) w.parties)
+MayPark w m = (m ≤ w.times) × ((n : ℕ) → m < n → n ≤ w.times → 1 ≤ count_by (is_untold n) w.parties)
 
 -- for a party that sleeps
 abbrev pub MaySleep : World → ℕ → Type 0
-MaySleep w m = (w.times ≡ m) ⊎ (1 ≤ count_by (is_telling w.times) w.parties)
+MaySleep w m = (m ≤ w.times) × ((n : ℕ) → m < n → n ≤ w.times → 1 ≤ count_by (is_telling n) w.parties)
 
 -- what a party may rely on
 abbrev pub Fits : World → Party → Type 0
@@ -60,34 +61,41 @@ abbrev pub turned : World → ℕ → Party → ℕ → ℕ → ℕ → ℕ → 
 turned w k q events sleepers items late = record { events = events; sleepers = sleepers; items = items; times = w.times; late = late; parties = slice_set w.parties k q }
 
 -- somebody is still such
-still : (times mark a b p q : ℕ) → b + p ≡ a + q → p ≤ q → (times ≡ mark) ⊎ (1 ≤ a) → (times ≡ mark) ⊎ (1 ≤ b)
-still times mark a b p q e le h = elim h [ inl same ↦ inl same | inr some ↦ inr (omega (arith, e, le, some)) ]
+still : (a b p q : ℕ) → b + p ≡ a + q → p ≤ q → 1 ≤ a → 1 ≤ b
+still a b p q e le some = omega (arith, e, le, some)
 
 -- the party goes from p to q
 pub turned_keeps : (w : World) (k : ℕ) (p q : Party) (events sleepers items late : ℕ) → slice_get w.parties k ≡ Some p → w.events ≤ events → Fits (turned w k q events sleepers items late) q
-    → (events ≡ w.events → one (is_untold w.times) p ≤ one (is_untold w.times) q)
-    → (1 ≤ count_by is_asleep (slice_set w.parties k q) → one (is_telling w.times) p ≤ one (is_telling w.times) q)
+    → (events ≡ w.events → (n : ℕ) → one (is_untold n) p ≤ one (is_untold n) q)
+    → (1 ≤ count_by is_asleep (slice_set w.parties k q) → (n : ℕ) → one (is_telling n) p ≤ one (is_telling n) q)
     → Told w → Told (turned w k q events sleepers items late)
 turned_keeps w k p q events sleepers items late at grows fits untold telling told = keeps w (turned w k q events sleepers items late) (record {
   events = grows;
   parties = λ i r is. elim (set_get w.parties k i q r is) [ inl same ↦ inl (subst (Fits (turned w k q events sleepers items late)) (sym same) fits) | inr old ↦ inr old ];
-  park = λ stays m h.
-      still w.times m (count_by (is_untold w.times) w.parties) (count_by (is_untold w.times) (slice_set w.parties k q)) _ _ (count_set (is_untold w.times) w.parties k p q at) (untold stays) h;
-  sleep = λ asleep m h.
-      still w.times m (count_by (is_telling w.times) w.parties) (count_by (is_telling w.times) (slice_set w.parties k q)) _ _ (count_set (is_telling w.times) w.parties k p q at) (telling asleep) h;
+  park = λ stays m h. (
+    h.0,
+    λ n since come. still (count_by (is_untold n) w.parties) (count_by (is_untold n) (slice_set w.parties k q)) _ _ (count_set (is_untold n) w.parties k p q at) (untold stays n) (h.1 n since come),
+  );
+  sleep = λ asleep m h. (
+    h.0,
+    λ n since come. still (count_by (is_telling n) w.parties) (count_by (is_telling n) (slice_set w.parties k q)) _ _ (count_set (is_telling n) w.parties k p q at) (telling asleep n) (h.1 n since come),
+  );
 }) told
 
 -- it does not tell
 abbrev pub is_plain : Party → Bool
+is_plain (Awake Clearing m) = false
 is_plain (Awake (Moving All) m) = false
 is_plain (Awake (Waking All) m) = false
 is_plain other = true
 
 plain_untold : (n : ℕ) (p : Party) → is_plain p ≡ true → one (is_untold n) p ≡ 0
+plain_untold n (Awake Clearing m) is = absurd (cc)
 plain_untold n (Awake (Moving All) m) is = absurd (cc)
 plain_untold n other is = refl
 
 plain_telling : (n : ℕ) (p : Party) → is_plain p ≡ true → one (is_telling n) p ≡ 0
+plain_telling n (Awake Clearing m) is = absurd (cc)
 plain_telling n (Awake (Moving All) m) is = absurd (cc)
 plain_telling n (Awake (Waking All) m) is = absurd (cc)
 plain_telling n other is = refl
@@ -95,6 +103,6 @@ plain_telling n other is = refl
 pub plain_keeps : (w : World) (k : ℕ) (p q : Party) (events sleepers items late : ℕ) → slice_get w.parties k ≡ Some p → is_plain p ≡ true → w.events ≤ events
     → Fits (turned w k q events sleepers items late) q → Told w → Told (turned w k q events sleepers items late)
 plain_keeps w k p q events sleepers items late at plain grows fits told = turned_keeps w k p q events sleepers items late at grows fits
-    (λ stays. (let a = plain_untold w.times p plain in omega (arith, a)))
-    (λ asleep. (let a = plain_telling w.times p plain in omega (arith, a)))
+    (λ stays n. (let a = plain_untold n p plain in omega (arith, a)))
+    (λ asleep n. (let a = plain_telling n p plain in omega (arith, a)))
     told

@@ -1,10 +1,10 @@
 -- What a party does next, and where it is then.
 use Rattle.std.specs.Prelude.{ℕ, ◌%◌, ◌^◌, ◌==◌, Bool, if◌then◌else◌}
 use Rattle.law_wakes.specs.declared.steps.Phase.{Phase}
-use Rattle.law_wakes.specs.declared.steps.Phase.TheVariants.{Idle, Starting, Loaded, Prepared, Missed, Returned, Given, Taking, Moving, Waking}
+use Rattle.law_wakes.specs.declared.steps.Phase.TheVariants.{Idle, Starting, Loaded, Prepared, Missed, Returned, Given, Taking, Clearing, Moving, Waking}
 use Rattle.law_wakes.specs.declared.steps.Step.{Step}
-use Rattle.law_wakes.specs.declared.steps.Step.TheVariants.{Rest, Load, Add, Take, Park, Wake}
-use Rattle.law_wakes.specs.declared.steps.Whom.TheVariants.{One}
+use Rattle.law_wakes.specs.declared.steps.Step.TheVariants.{Rest, Load, Add, Take, Clear, Park, Wake}
+use Rattle.law_wakes.specs.declared.steps.Whom.TheVariants.{One, All}
 use Rattle.law_wakes.specs.declared.steps.Word.TheVariants as word
 
 -- what a park compares
@@ -20,6 +20,7 @@ step_of (Missed events) = Park (low events)
 step_of Returned = Rest
 step_of Given = Load word.Sleepers
 step_of (Taking sleepers) = Take sleepers
+step_of Clearing = Clear
 step_of (Moving whom) = Add word.Events
 step_of (Waking whom) = Wake whom
 
@@ -33,6 +34,7 @@ after_of (Missed events) found = Returned
 after_of Returned found = Returned
 after_of Given found = if found == 0 then Idle else Taking found
 after_of (Taking sleepers) found = Moving One
+after_of Clearing found = Moving All
 after_of (Moving whom) found = Waking whom
 after_of (Waking whom) found = Idle
 
@@ -46,5 +48,6 @@ looked_of (Missed events) found = Missed events
 looked_of Returned found = Idle
 looked_of Given found = Given
 looked_of (Taking sleepers) found = Taking sleepers
+looked_of Clearing found = Clearing
 looked_of (Moving whom) found = Moving whom
 looked_of (Waking whom) found = Waking whom

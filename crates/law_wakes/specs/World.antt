@@ -1,9 +1,9 @@
 -- Any number of parties over the two words, and what one event makes of them.
 use Rattle.std.specs.Prelude.{ℕ, ◌+◌, ◌-◌, ◌==◌, Bool, true, false, if◌then◌else◌, Option, Some, List, [], ◌∷◌, map, replicate, count_by, slice_get, slice_set}
 use Rattle.law_wakes.specs.declared.steps.Phase.{Phase}
-use Rattle.law_wakes.specs.declared.steps.Phase.TheVariants.{Idle, Starting, Prepared, Missed, Given, Moving}
+use Rattle.law_wakes.specs.declared.steps.Phase.TheVariants.{Idle, Starting, Prepared, Missed, Given, Clearing}
 use Rattle.law_wakes.specs.declared.steps.Step.{Step}
-use Rattle.law_wakes.specs.declared.steps.Step.TheVariants.{Rest, Load, Add, Take, Park, Wake}
+use Rattle.law_wakes.specs.declared.steps.Step.TheVariants.{Rest, Load, Add, Take, Clear, Park, Wake}
 use Rattle.law_wakes.specs.declared.steps.Word.{Word}
 use Rattle.law_wakes.specs.declared.steps.Word.TheVariants as word
 use Rattle.law_wakes.specs.declared.steps.Whom.TheVariants.{One, All}
@@ -24,9 +24,9 @@ pub record World : Type 0 where
   pub late : ℕ
   pub parties : List Party
 
--- before the first event each party is between two calls
-abbrev pub start : ℕ → World
-start n = record { events = 0; sleepers = 0; items = 0; times = 0; late = 0; parties = replicate n (Awake Idle 0) }
+-- before the first event each of n parties is between two calls, and there are so many items
+abbrev pub start : ℕ → ℕ → World
+start n items = record { events = 0; sleepers = 0; items = items; times = 0; late = 0; parties = replicate n (Awake Idle 0) }
 
 -- what may happen next
 pub data Event : Type 0 where
@@ -89,6 +89,7 @@ takes w k p m j Rest = w
 takes w k p m j (Load x) = goes_on w k p m (word_of x w)
 takes w k p m j (Add x) = goes_on (with_word x (word_of x w + 1) w) k p m (word_of x w)
 takes w k p m j (Take n) = goes_on (record w { sleepers = if w.sleepers == n then n - 1 else w.sleepers }) k p m 0
+takes w k p m j Clear = goes_on (record w { sleepers = 0 }) k p m w.sleepers
 takes w k p m j (Park n) = if low w.events == n then put (counts_late w (ticket_of p)) k (Asleep (ticket_of p) w.events m) else goes_on w k p m 0
 takes w k p m j (Wake One) = wakes_one w k p m j (slice_get w.parties j)
 takes w k p m j (Wake All) = goes_on (record w { parties = map risen w.parties }) k p m 0
@@ -112,7 +113,7 @@ gives w k m Idle = put (record w { items = w.items + 1 }) k (Awake Given m)
 gives w k m other = w
 
 abbrev pub tells : World → ℕ → ℕ → Phase → World
-tells w k m Idle = put (record w { times = w.times + 1 }) k (Awake (Moving All) (w.times + 1))
+tells w k m Idle = put (record w { times = w.times + 1 }) k (Awake Clearing (w.times + 1))
 tells w k m other = w
 
 -- what a party that is awake makes of the world

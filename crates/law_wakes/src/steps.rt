@@ -31,6 +31,8 @@ pub enum Step {
     Add(Word),
     /// Takes one off `SLEEPERS` if it is this number, which is above 0.
     Take(u64),
+    /// Takes all off `SLEEPERS`.
+    Clear,
     /// Sleeps if the low 32 bits of `EVENTS` are these, until it is woken or for no reason.
     Park(u32),
     /// Wakes sleepers.
@@ -56,6 +58,8 @@ pub enum Phase {
     Given,
     /// It goes to wake one. The number is what it found in `SLEEPERS`.
     Taking(u64),
+    /// Its caller has made what all wait for come.
+    Clearing,
     /// It goes to move `EVENTS`.
     Moving(Whom),
     /// It has moved `EVENTS`.
@@ -78,6 +82,7 @@ impl Phase {
             Phase::Missed(events) => Step::Park((events % LOW) as u32),
             Phase::Given => Step::Load(Word::Sleepers),
             Phase::Taking(sleepers) => Step::Take(sleepers),
+            Phase::Clearing => Step::Clear,
             Phase::Moving(_) => Step::Add(Word::Events),
             Phase::Waking(whom) => Step::Wake(whom),
         }
@@ -100,6 +105,7 @@ impl Phase {
                 }
             }
             Phase::Taking(_) => Phase::Moving(Whom::One),
+            Phase::Clearing => Phase::Moving(Whom::All),
             Phase::Moving(whom) => Phase::Waking(whom),
             Phase::Waking(_) => Phase::Idle,
             Phase::Idle | Phase::Prepared(_) | Phase::Returned => self,

@@ -41,7 +41,7 @@ pub record ComesBy {T : Type 0} (cap : Option ℕ) (parties : ℕ) (events : Lis
   pub told_are : told ≡ told_past ++ told_coming
   pub run : Run cap parties (opening cap) past told_past m
 
--- the greatest number of blocks is within its bound, which is that of a moment of the run, and is no less than what the items span at any moment
+-- the greatest number of blocks is within its bound, which is that of a moment of the run, and is no less, at any moment, than the blocks from the first item's to the one where the next item goes
 pub record IsPeak {T : Type 0} (cap : Option ℕ) (parties : ℕ) (events : List (Event T)) (told : List (Told T)) (peak : Peak) : Type 0 where
   pub within : peak.blocks ≤ peak.bound
   pub at : Book T

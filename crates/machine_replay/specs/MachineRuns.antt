@@ -10,8 +10,8 @@ use Rattle.machine_replay.specs.InCall.{IsInCall}
 use Rattle.machine_steps.specs.Left.{left_of, opening_world}
 use Rattle.machine_memory.specs.Room.{HasCount, HasRoom}
 use Rattle.machine_steps.specs.Machine.{event_of, world_of}
-use Rattle.machine_replay.specs.Peaks.{opening_peak, peaked}
-use Rattle.machine_replay.specs.Played.{IsMade}
+use Rattle.machine_replay.specs.Peaks.{opening_peak, peak_of, peaked}
+use Rattle.machine_replay.specs.Played.{IsMade, as_told}
 use Rattle.machine_replay.specs.Replays.{CanReplay, is_too_large}
 use Rattle.machine_steps.specs.World.{World}
 
@@ -58,6 +58,7 @@ pub record EndsAs {T A : Type 0} (k : Kind) (parties : ℕ) (events : List (Even
   pub run : Run (capacity_of k) parties (opening (capacity_of k)) events told last
   pub left : r.left.items ≡ last.queue.items
   pub peak : IsPeak (capacity_of k) parties events told r.peak
+  pub peak_is : r.peak ≡ peak_of k parties (as_told events told)
   pub no_blocks : HasNoBlocks (capacity_of k) r.peak
 
 -- whatever brought the run to c, it ends so

@@ -15,8 +15,8 @@ replies_before n replies = length (filter (λ y. nat_lt y.0 n) replies)
 abbrev pub in_progress : {T : Type 0} → List (Event T) → List ℕ → List (ℕ × ℕ × Reply T) → ℕ → ℕ
 in_progress events skipped replies n = length (calls_from 0 skipped (take n events)) - replies_before n replies
 
--- The greatest number of blocks is within its bound, which is what the items fill at a moment of the run, two, and one for each call in progress then; and it is no less than
--- what the items span at any moment
+-- The greatest number of blocks is within its bound, which is what the items fill at a moment of the run, two, and one for each call in progress then; and it is no less,
+-- at any moment, than the blocks from the first item's to the one where the next item goes
 pub record HasPeak {T A : Type 0} (cap : Option ℕ) (events : List (Event T)) (r : Replay T A) (H : List (Entry T)) : Type 0 where
   pub within : r.peak.blocks ≤ r.peak.bound
   pub at : ℕ

@@ -1,10 +1,12 @@
 -- How many blocks a machine has at most, told from the machine alone.
-use Rattle.std.specs.Prelude.{ℕ, ◌+◌, ◌-◌, ◌/◌, nat_lt, if◌then◌else◌}
-use Rattle.machine_replay.specs.Vocabulary.{BLOCK_SLOTS, Peak, Running}
+use Rattle.std.specs.Prelude.{ℕ, ◌+◌, ◌-◌, ◌/◌, nat_lt, if◌then◌else◌, true, List, [], ◌∷◌}
+use Rattle.machine_replay.specs.Vocabulary.{BLOCK_SLOTS, Kind, Event, Peak, Running}
 use Rattle.queue_steps.specs.Words.{position_of}
 use Rattle.queue_steps.specs.ChainWords.{items_before}
 use Rattle.machine_memory.specs.SharedMemory.{Shared}
 use Rattle.machine_memory.specs.Present.{present}
+use Rattle.machine_steps.specs.Left.{opening_world}
+use Rattle.machine_steps.specs.Machine.{event_of}
 use Rattle.machine_steps.specs.World.{World}
 
 -- how many items a chain holds, by its head and its tail
@@ -22,3 +24,12 @@ opening_peak = record { blocks = 0; bound = 2 }
 -- the greatest number of blocks so far, and the bound at the first moment that had so many
 abbrev pub peaked : {T : Type 0} → World (Shared T) (Running T) → Peak → Peak
 peaked w p = if nat_lt p.blocks (present w.shared.blocks) then record { blocks = present w.shared.blocks; bound = bound_of w } else p
+
+-- the same after these events, from w on and with the peak p before, where each request that no event refuses is granted
+abbrev pub peak_after : {T : Type 0} → Kind → World (Shared T) (Running T) → Peak → List (Event T) → Peak
+peak_after k w p [] = p
+peak_after k w p (e ∷ es) = peak_after k (event_of k true w e).0 (peaked (event_of k true w e).0 p) es
+
+-- the same of the empty open queue of this kind that so many parties share
+abbrev pub peak_of : {T : Type 0} → Kind → ℕ → List (Event T) → Peak
+peak_of k parties es = peak_after k (opening_world k parties) opening_peak es

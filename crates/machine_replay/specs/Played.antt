@@ -2,6 +2,7 @@
 use Rattle.std.specs.Prelude.{◌≡◌, ℕ, ◌&&◌, Bool, true, false, not, Option, Some, None, Err, List, [], ◌∷◌}
 use Rattle.machine_replay.specs.Vocabulary.{Call, Reply, PushError, ForcePushError, Kind, Op, Local, Event, Told, Replay, Begin, Step, Ran, Running}
 use Rattle.machine_replay.specs.Conforms.{entries_from, reply_entry, effect_entry, skipped_entry}
+use Rattle.machine_replay.specs.Peaks.{peak_of}
 use Rattle.machine_steps.specs.Left.{left_of, opening_world}
 use Rattle.machine_memory.specs.SharedMemory.{Shared}
 use Rattle.machine_steps.specs.Steps.{start_of, step_of}
@@ -46,7 +47,7 @@ as_told es _ = es
 abbrev pub IsMade : {T : Type 0} → Kind → ℕ → List (Event T) → List (Told T) → Type 0
 IsMade k parties events told = told ≡ told_of k (opening_world k parties) (as_told events told)
 
--- the lists, and what is left, are what the machine makes of the events as they took place
+-- the lists, what is left and the peak are what the machine makes of the events as they took place
 pub record IsPlayed {T A : Type 0} (k : Kind) (parties : ℕ) (events : List (Event T)) (r : Replay T A) : Type 0 where
   pub told : List (Told T)
   pub made : IsMade k parties events told
@@ -54,6 +55,7 @@ pub record IsPlayed {T A : Type 0} (k : Kind) (parties : ℕ) (events : List (Ev
   pub effects : r.effects.items ≡ entries_from effect_entry 0 events told
   pub skipped : r.skipped.items ≡ entries_from skipped_entry 0 events told
   pub left : r.left.items ≡ left_of k (world_after k (opening_world k parties) (as_told events told))
+  pub peak : r.peak ≡ peak_of k parties (as_told events told)
 
 -- where the party's call stands, if it is in one
 abbrev pub local_in : {T : Type 0} → Option (Running T) → Option (Local ℕ)

@@ -177,7 +177,7 @@ IsNotHeldUp p (e ∷ es) (t ∷ ts) = (party_of e ≡ p → reply_told t ≡ Non
 
 -- how many steps a call takes at most behind its take: of a chain it may walk over a block, with two steps at each slot
 abbrev pub steps_to_read : Kind → ℕ
-steps_to_read Kind.Unbounded = 2 * BLOCK_SLOTS + 4
+steps_to_read Kind.Unbounded = 2 * BLOCK_SLOTS + 3
 steps_to_read _ = 1
 
 -- behind the step by which its call takes, and before its reply, a party takes fewer steps than this, while no other party is between its append and its reply

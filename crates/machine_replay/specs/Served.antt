@@ -4,6 +4,7 @@ use Rattle.std.specs.List.{AllByRecursion}
 use Rattle.machine_replay.specs.Vocabulary.{Reply, Kind, Event, Replay, Step}
 use Rattle.machine_steps.specs.Left.{left_of, opening_world}
 use Rattle.machine_replay.specs.Conforms.{entries_from, reply_entry, effect_entry, skipped_entry}
+use Rattle.machine_replay.specs.Peaks.{peak_of}
 use Rattle.machine_replay.specs.Played.{IsPlayed, is_no_memory, told_of, world_after}
 
 -- if the reply is of want of memory, it is to a step that its event refuses
@@ -14,12 +15,13 @@ IsAsRefused events y = is_no_memory y.2 ≡ true → slice_get events y.0 ≡ So
 abbrev pub IsServed : {T A : Type 0} → List (Event T) → Replay T A → Type 0
 IsServed events r = AllByRecursion (IsAsRefused events) r.replies.items
 
--- the lists, and what is left, are what these events make, where each request is granted that none of them refuses
+-- the lists, what is left and the peak are what these events make, where each request is granted that none of them refuses
 pub record IsExactly {T A : Type 0} (k : Kind) (parties : ℕ) (events : List (Event T)) (r : Replay T A) : Type 0 where
   pub replies : r.replies.items ≡ entries_from reply_entry 0 events (told_of k (opening_world k parties) events)
   pub effects : r.effects.items ≡ entries_from effect_entry 0 events (told_of k (opening_world k parties) events)
   pub skipped : r.skipped.items ≡ entries_from skipped_entry 0 events (told_of k (opening_world k parties) events)
   pub left : r.left.items ≡ left_of k (world_after k (opening_world k parties) events)
+  pub peak : r.peak ≡ peak_of k parties events
 
 -- so it is of every such replay
 abbrev pub ServedIsExact : Type 0 → Type 0 → Type 0

@@ -1,4 +1,4 @@
--- Who waits for whom, step by step: a call that has read the words as they are, and goes back all the same, does so beside a call that is half done.
+-- Who waits for whom, step by step: a call that goes back at its next step, or by two in a row with no other's between, with the word as it read it, does so beside a call that is half done, or that is to show a chain's first block.
 use Rattle.std.specs.Prelude.{◌≡◌, ◌≢◌, ℕ, true, Option, Some, None, List, false, [], ◌∷◌, ◌<◌, count_by}
 use Rattle.queue_steps.specs.SingleNext.{unlocked}
 use Rattle.queue_steps.specs.Words.{IsRing}

@@ -56,15 +56,17 @@ pub fn appends_reply<T>()
     ensures { AppendsReply T }
 {}
 
-/// Behind the step by which a call takes it replies by its next step on a queue with a capacity. On a chain it replies within two steps for each slot of a block and four, while no
-/// other call is between its append and its reply: a pop that has taken waits for such a call alone.
+/// Behind the step by which a call takes it replies by its next step on a queue with a capacity. On a chain it replies within two steps for each slot of a block and three, while
+/// no other call is between its append and its reply: a pop that has taken waits for such a call alone.
 pub fn takes_reply<T>()
     ensures { TakesReply T }
 {}
 
-/// A call that has read the word as it is, and goes back all the same, does so beside a call at certain steps alone: a push on one slot beside a pop; a pop on one slot beside a push; a
-/// push on a ring beside a push that has not stored its stamp, or a call that has taken the last lap's item and not given its slot back; and a pop on a ring beside the call that has its
-/// slot.
+/// A call whose word is as it read it, and that goes back all the same at its next step, or by its next two with no other party's step between, does so beside a call at certain steps
+/// alone: a push on one slot beside a pop; a pop on one slot beside a push; a push on a ring beside a push that has not stored its stamp, or a call that has taken the last lap's item and
+/// not given its slot back; and a pop on a ring beside the call that has its slot.
+///
+/// Where another party takes a step between these two, a call on a ring may go back once more, with the word as it is and nobody in a call: it was full or empty, and is not any more.
 ///
 /// On a chain a push goes back beside a push that moves the tail over a block's end, and a pop beside a pop that moves the head over one, or beside the push that has installed the first
 /// block and not shown it. A pop that has taken goes back beside a push alone that has appended and not linked the next block, or not written.
@@ -107,7 +109,7 @@ pub fn one_party_is_one_owner<T, A: Allocator>()
 {}
 
 /// The greatest number of blocks of a conforming replay is within its bound, which is what the items fill at a moment of the run, two, and one for each call in progress then. It is
-/// no less than what the items span at any moment.
+/// no less, at any moment, than the blocks from the first item's to the one where the next item goes.
 pub fn peak_is_of_the_run<T, A: Allocator>()
     ensures { PeakIsOfTheRun T A }
 {}

@@ -8,7 +8,7 @@ use Rattle.queue_steps.specs.declared.model.Reply.{Reply}
 use Rattle.queue_steps.specs.declared.model.Reply.TheVariants as reply
 use Rattle.queue_c.specs.declared.answers.Answer.{Answer}
 use Rattle.queue_c.specs.declared.answers.Answer.TheVariants as answer
-use Rattle.queue_c.specs.declared.answers.TheConstants.{DONE, YES, FULL, EMPTY, CLOSED, NO_MEMORY, NO_PARTY, PENDING, BUSY, IDLE}
+use Rattle.queue_c.specs.Numbers.{DONE, YES, FULL, EMPTY, CLOSED, NO_MEMORY, NO_PARTY, PENDING, BUSY, IDLE}
 
 abbrev pub yes_or_no : Bool → ℕ
 yes_or_no b = if b then YES else DONE

@@ -22,8 +22,8 @@ IsRoom None = Unit {0}
 
 -- the party has seen nothing, and has all of the share
 abbrev pub IsFirst : Turn → Type 0
-IsFirst (turn.Resting v) = v.view ≡ record { seen = []; mine = []; share = entire }
-IsFirst (turn.Calling p) = ⊥
+IsFirst (turn.Resting (Some v)) = v.view ≡ record { seen = []; mine = []; share = entire }
+IsFirst _ = ⊥
 
 -- the first party of a new queue of this capacity
 abbrev pub IsNew : Option ℕ → End → Type 0
@@ -35,26 +35,26 @@ IsSame e f = (arc_value f.queue ≡ arc_value e.queue) × (f.turn ≡ e.turn)
 
 -- the call c, made in the one turn, is answered and leaves the other: as a call of the queue; or it is pending, which a wait-free one never is; or another one was pending
 abbrev pub Takes : Call ℕ → Turn → Answer → Turn → Type 0
-Takes c (turn.Resting v) (answer.Reply r) (turn.Resting w) = Calls v c r w
-Takes c (turn.Resting v) answer.Pending (turn.Calling p) = (p ≡ record { party = v; call = c }) × (is_wait_free c ≡ false)
+Takes c (turn.Resting (Some v)) (answer.Reply r) (turn.Resting (Some w)) = Calls v c r w
+Takes c (turn.Resting (Some v)) answer.Pending (turn.Calling p) = (p ≡ record { party = v; call = c }) × (is_wait_free c ≡ false)
 Takes c (turn.Calling p) answer.Busy (turn.Calling q) = q ≡ p
 Takes c _ _ _ = ⊥
 
 -- the pending call is answered, as if it were made now by its party as that was when the call began; or none was pending
 abbrev pub Resumes : Turn → Answer → Turn → Type 0
-Resumes (turn.Calling p) r t = Takes p.call (turn.Resting p.party) r t
-Resumes (turn.Resting v) answer.Idle (turn.Resting w) = w ≡ v
-Resumes (turn.Resting v) _ _ = ⊥
+Resumes (turn.Calling p) r t = Takes p.call (turn.Resting (Some p.party)) r t
+Resumes (turn.Resting (Some v)) answer.Idle (turn.Resting (Some w)) = w ≡ v
+Resumes (turn.Resting x) _ _ = ⊥
 
 abbrev pub PartsTurn : Turn → Turn → Turn → Type 0
-PartsTurn (turn.Resting v) (turn.Resting a) (turn.Resting b) = Parts v a b
+PartsTurn (turn.Resting (Some v)) (turn.Resting (Some a)) (turn.Resting (Some b)) = Parts v a b
 PartsTurn _ _ _ = ⊥
 
 -- why a party in this turn may be refused
 abbrev pub IsRefusal : Refusal → Turn → Type 0
 IsRefusal refusal.NoMemory t = Unit {0}
 IsRefusal refusal.Pending (turn.Calling p) = Unit {0}
-IsRefusal refusal.TooMany (turn.Resting v) = ¬ IsEntire v.view.share
+IsRefusal refusal.TooMany (turn.Resting (Some v)) = ¬ IsEntire v.view.share
 IsRefusal _ _ = ⊥
 
 -- the party e is split in two, f and another; or it is refused, and f is e
@@ -64,16 +64,16 @@ SplitsEnd e (Err why) f = IsSame e f × IsRefusal why e.turn
 
 -- it was the only party, and so many items were left
 abbrev pub LeavesItems : Turn → ℕ → Type 0
-LeavesItems (turn.Resting v) n = IsEntire v.view.share × (n ≡ length ((after v.queue.cap v.view.seen).items))
-LeavesItems (turn.Calling p) n = ⊥
+LeavesItems (turn.Resting (Some v)) n = IsEntire v.view.share × (n ≡ length ((after v.queue.cap v.view.seen).items))
+LeavesItems _ n = ⊥
 
 -- some party was split off and not joined back
 abbrev pub IsShort : Turn → Type 0
-IsShort (turn.Resting v) = ¬ IsEntire v.view.share
-IsShort (turn.Calling p) = ⊥
+IsShort (turn.Resting (Some v)) = ¬ IsEntire v.view.share
+IsShort _ = ⊥
 
 abbrev pub IsCalling : Turn → Type 0
-IsCalling (turn.Resting v) = ⊥
+IsCalling (turn.Resting x) = ⊥
 IsCalling (turn.Calling p) = Unit {0}
 
 -- the queue is ended, or the party is back

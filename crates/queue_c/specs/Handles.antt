@@ -5,7 +5,7 @@ use Rattle.std.specs.Arc.{arc_value}
 use Rattle.queue_steps.specs.declared.model.Call.{Call}
 use Rattle.queue_c.specs.declared.answers.Answer.{Answer}
 use Rattle.queue_c.specs.declared.answers.Answer.TheVariants as answer
-use Rattle.queue_c.specs.declared.answers.TheConstants.{DONE, YES, NO_MEMORY, NO_PARTY, TAKEN, TOO_MANY, SHARED, LOST, BUSY}
+use Rattle.queue_c.specs.Numbers.{DONE, YES, NO_MEMORY, NO_PARTY, TAKEN, TOO_MANY, SHARED, LOST, BUSY}
 use Rattle.queue_c.specs.declared.end.End.{End}
 use Rattle.queue_c.specs.declared.end.Refusal.{Refusal}
 use Rattle.queue_c.specs.declared.end.Refusal.TheVariants as refusal
@@ -58,6 +58,11 @@ Splits party (Some e) n party_after out_after = (n ≡ TAKEN) × (party_after �
 Splits None None n party_after out_after = (n ≡ NO_PARTY) × (party_after ≡ None) × (out_after ≡ None)
 Splits (Some e) None n (Some f) out_after = (r : Result End Refusal) × SplitsEnd e r f × (n ≡ split_number r) × (out_after ≡ result_ok r)
 Splits (Some e) None n None out_after = ⊥
+
+-- the handle's party is dropped, if there is one
+abbrev pub Drops : Option End → ℕ → Option End → Type 0
+Drops None n after = (n ≡ NO_PARTY) × (after ≡ None)
+Drops (Some e) n after = (n ≡ DONE) × (after ≡ None)
 
 abbrev pub ShowsCap : Option ℕ → ℕ → ℕ → ℕ → Type 0
 ShowsCap None n was is = (n ≡ DONE) × (is ≡ was)

@@ -2,6 +2,7 @@
 ghost use Rattle.std.specs.Prelude.{◌≡◌, ◌<◌, None, Some, IfOk};
 ghost use Rattle.std.specs.Arc.{arc_value};
 ghost use Rattle.concurrent_queue.specs.Shared.{IsPartyOf};
+ghost use Rattle.queue_c.specs.Begins.{Begins};
 ghost use Rattle.queue_c.specs.Fits.{Fits};
 
 use crate::answers::Answer;
@@ -14,8 +15,8 @@ use std::sync::Arc;
 /// What a party is doing.
 #[derive(Drop)]
 pub(crate) enum Turn {
-    /// It is between its calls.
-    Resting(Party<u64>),
+    /// It is between its calls. The party is away only within a call.
+    Resting(Option<Party<u64>>),
     /// A call of it is pending.
     Calling(Pending<u64>),
 }
@@ -52,18 +53,35 @@ pub(crate) enum Finished {
     Busy(End),
 }
 
+/// Begins a call of this party. `W` tells the calls apart.
+#[inline(always)]
+fn begin<W>(shared: &ConcurrentQueue<u64>, party: Party<u64>, call: Call<u64>) -> Outcome<u64>
+    requires { IsPartyOf party shared.now }
+    ensures { Begins party call result }
+{
+    if call.is_wait_free() {
+        let mut party = party;
+        let reply = shared.answer_wait_free(&Open, &mut party, call);
+        return Outcome::Done(party, reply);
+    }
+    match shared.begin_as::<W>(party, call) {
+        Outcome::Done(party, reply) => Outcome::Done(party, reply),
+        Outcome::Pending(pending) => Outcome::Pending(pending),
+    }
+}
+
 impl End {
     ghost use Rattle.queue_c.specs.declared.end.Turn.TheVariants as turn;
     ghost use Rattle.queue_c.specs.Ends.{IsRoom, IsNew, Takes, Resumes, SplitsEnd, FinishesEnd};
 
     fn of(alloc: Global, queue: ConcurrentQueue<u64>, party: Party<u64>) -> Result<End, AllocError>
         requires { IsPartyOf party queue }
-        ensures { IfOk result (λ e. (arc_value e.queue ≡ queue) × (e.turn ≡ turn.Resting party)) }
+        ensures { IfOk result (λ e. (arc_value e.queue ≡ queue) × (e.turn ≡ turn.Resting (Some party))) }
     {
         match Arc::new(alloc, queue) {
             Ok(queue) => Ok(End {
                 queue,
-                turn: Turn::Resting(party),
+                turn: Turn::Resting(Some(party)),
             }),
             Err(_) => Err(AllocError),
         }
@@ -86,33 +104,28 @@ impl End {
         }
     }
 
-    /// Makes a call, if none is pending. It never waits.
-    pub(crate) fn call(self, call: Call<u64>) -> (End, Answer)
-        ensures queue { arc_value result.0.queue ≡ arc_value self.queue }
-        ensures turn { Takes call self.turn result.1 result.0.turn }
+    /// Makes a call where the party is, if none is pending. It never waits, and moves no more than a call that stays pending. `W` tells the calls apart, so that
+    /// each has fast steps of its own.
+    #[inline(always)]
+    pub(crate) fn call<W>(&mut self, call: Call<u64>) -> Answer
+        ensures queue { arc_value self.new.queue ≡ arc_value self.old.queue }
+        ensures turn { Takes call self.old.turn result self.new.turn }
     {
-        let End { queue, turn } = self;
-        let mut party = match turn {
-            Turn::Resting(party) => party,
-            Turn::Calling(pending) => {
-                let turn = Turn::Calling(pending);
-                return (End { queue, turn }, Answer::Busy);
-            }
+        let Turn::Resting(place) = &mut self.turn else {
+            return Answer::Busy;
         };
-        let shared: &ConcurrentQueue<u64> = &queue;
-        if call.is_wait_free() {
-            let reply = shared.answer_wait_free(&Open, &mut party, call);
-            let turn = Turn::Resting(party);
-            return (End { queue, turn }, Answer::Reply(reply));
-        }
-        match shared.begin(party, call) {
+        let Some(party) = place.take() else {
+            unreachable!()
+        };
+        let shared: &ConcurrentQueue<u64> = &self.queue;
+        match begin::<W>(shared, party, call) {
             Outcome::Done(party, reply) => {
-                let turn = Turn::Resting(party);
-                (End { queue, turn }, Answer::Reply(reply))
+                self.turn = Turn::Resting(Some(party));
+                Answer::Reply(reply)
             }
             Outcome::Pending(pending) => {
-                let turn = Turn::Calling(pending);
-                (End { queue, turn }, Answer::Pending)
+                self.turn = Turn::Calling(pending);
+                Answer::Pending
             }
         }
     }
@@ -133,7 +146,7 @@ impl End {
         let shared: &ConcurrentQueue<u64> = &queue;
         match shared.resume(pending) {
             Outcome::Done(party, reply) => {
-                let turn = Turn::Resting(party);
+                let turn = Turn::Resting(Some(party));
                 (End { queue, turn }, Answer::Reply(reply))
             }
             Outcome::Pending(pending) => {
@@ -149,27 +162,28 @@ impl End {
     {
         let End { queue, turn } = self;
         let party = match turn {
-            Turn::Resting(party) => party,
+            Turn::Resting(Some(party)) => party,
+            Turn::Resting(None) => unreachable!(),
             Turn::Calling(pending) => {
                 let turn = Turn::Calling(pending);
                 return (End { queue, turn }, Err(Refusal::Pending));
             }
         };
         let Ok(other) = Arc::try_clone(&queue) else {
-            let turn = Turn::Resting(party);
+            let turn = Turn::Resting(Some(party));
             return (End { queue, turn }, Err(Refusal::NoMemory));
         };
         let shared: &ConcurrentQueue<u64> = &queue;
         match shared.split(party) {
             Ok((first, second)) => {
-                let turn = Turn::Resting(first);
+                let turn = Turn::Resting(Some(first));
                 let end = End { queue, turn };
                 let queue = other;
-                let turn = Turn::Resting(second);
+                let turn = Turn::Resting(Some(second));
                 (end, Ok(End { queue, turn }))
             }
             Err(party) => {
-                let turn = Turn::Resting(party);
+                let turn = Turn::Resting(Some(party));
                 (End { queue, turn }, Err(Refusal::TooMany))
             }
         }
@@ -188,7 +202,8 @@ impl End {
     {
         let End { queue, turn } = self;
         let party = match turn {
-            Turn::Resting(party) => party,
+            Turn::Resting(Some(party)) => party,
+            Turn::Resting(None) => unreachable!(),
             Turn::Calling(pending) => {
                 let turn = Turn::Calling(pending);
                 return Finished::Busy(End { queue, turn });
@@ -200,7 +215,7 @@ impl End {
                 Err(_) => Finished::Lost,
             },
             Err(queue) => {
-                let turn = Turn::Resting(party);
+                let turn = Turn::Resting(Some(party));
                 Finished::Shared(End { queue, turn })
             }
         }

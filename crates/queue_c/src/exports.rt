@@ -1,9 +1,9 @@
 //! What C calls. Each answer is one of the numbers of `answers`.
 ghost use Rattle.std.specs.Prelude.{◌≡◌, ◌<◌, Some, None, Ok, Err, MatchResult};
 ghost use Rattle.queue_steps.specs.declared.model.Call.TheVariants as call;
-ghost use Rattle.queue_c.specs.declared.answers.TheConstants.{NO_ROOM};
+ghost use Rattle.queue_c.specs.Numbers.{NO_ROOM};
 ghost use Rattle.queue_c.specs.Ends.{IsRoom, SplitsEnd};
-ghost use Rattle.queue_c.specs.Handles.{Opens, Makes, TakesUp, Asks, Gets, GetsLate, refusal_number, Splits, Shows, FinishesQueue};
+ghost use Rattle.queue_c.specs.Handles.{Opens, Makes, TakesUp, Asks, Gets, GetsLate, refusal_number, Splits, Drops, Shows, FinishesQueue};
 
 use crate::answers::{
     Answer, BUSY, DONE, LOST, NO_MEMORY, NO_PARTY, NO_ROOM, SHARED, TAKEN, TOO_MANY, YES,
@@ -99,7 +99,7 @@ pub extern "C" fn queue_c_split(alloc: Global, party: &mut Handle, out: &mut Han
 /// Drops a party, and its pending call. The queue goes with the last.
 #[unsafe(no_mangle)]
 pub extern "C" fn queue_c_drop(alloc: Global, party: &mut Handle) -> u32
-    ensures { party.new.end ≡ None }
+    ensures { Drops party.old.end result party.new.end }
 {
     match party.take(alloc) {
         Some(_) => DONE,
@@ -107,30 +107,31 @@ pub extern "C" fn queue_c_drop(alloc: Global, party: &mut Handle) -> u32
     }
 }
 
-/// Makes a call of the handle's party.
-fn make(alloc: Global, party: &mut Handle, call: Call<u64>) -> Answer
-    ensures { Makes call party.old.end result party.new.end }
-{
-    let Some((room, end)) = party.take(alloc) else {
-        return Answer::NoParty;
-    };
-    let (end, answer) = end.call(call);
-    party.put(room, end);
-    answer
-}
+/// The calls, told apart.
+struct Pushes;
+
+struct ForcePushes;
+
+struct Pops;
+
+struct Looks;
+
+struct Closes;
 
 /// A call whose reply has no value.
-fn ask(alloc: Global, party: &mut Handle, call: Call<u64>) -> u32
+#[inline(always)]
+fn ask<W>(alloc: Global, party: &mut Handle, call: Call<u64>) -> u32
     ensures { Asks call party.old.end result party.new.end }
 {
-    make(alloc, party, call).number()
+    party.call::<W>(alloc, call).number()
 }
 
 /// A call whose reply may have a value, which is written to `value`.
-fn get(alloc: Global, party: &mut Handle, call: Call<u64>, value: &mut u64) -> u32
+#[inline(always)]
+fn get<W>(alloc: Global, party: &mut Handle, call: Call<u64>, value: &mut u64) -> u32
     ensures { Gets call party.old.end result value.old value.new party.new.end }
 {
-    let answer = make(alloc, party, call);
+    let answer = party.call::<W>(alloc, call);
     answer.write(value);
     answer.number()
 }
@@ -139,7 +140,7 @@ fn get(alloc: Global, party: &mut Handle, call: Call<u64>, value: &mut u64) -> u
 pub extern "C" fn queue_c_push(alloc: Global, party: &mut Handle, value: u64) -> u32
     ensures { Asks (call.Push value) party.old.end result party.new.end }
 {
-    ask(alloc, party, Call::Push(value))
+    ask::<Pushes>(alloc, party, Call::Push(value))
 }
 
 /// A push that displaces the front of a full queue, which it writes to `old`: then the answer is `YES`.
@@ -152,21 +153,21 @@ pub extern "C" fn queue_c_force_push(
 ) -> u32
     ensures { Gets (call.ForcePush value) party.old.end result old.old old.new party.new.end }
 {
-    get(alloc, party, Call::ForcePush(value), old)
+    get::<ForcePushes>(alloc, party, Call::ForcePush(value), old)
 }
 
 #[unsafe(no_mangle)]
 pub extern "C" fn queue_c_pop(alloc: Global, party: &mut Handle, value: &mut u64) -> u32
     ensures { Gets call.Pop party.old.end result value.old value.new party.new.end }
 {
-    get(alloc, party, Call::Pop, value)
+    get::<Pops>(alloc, party, Call::Pop, value)
 }
 
 #[unsafe(no_mangle)]
 pub extern "C" fn queue_c_len(alloc: Global, party: &mut Handle, len: &mut u64) -> u32
     ensures { Gets call.Len party.old.end result len.old len.new party.new.end }
 {
-    get(alloc, party, Call::Len, len)
+    get::<Looks>(alloc, party, Call::Len, len)
 }
 
 /// Takes a pending call up again. Its reply and its value are those of the call.
@@ -195,28 +196,28 @@ fn take_up(alloc: Global, party: &mut Handle) -> Answer
 pub extern "C" fn queue_c_close(alloc: Global, party: &mut Handle) -> u32
     ensures { Asks call.Close party.old.end result party.new.end }
 {
-    ask(alloc, party, Call::Close)
+    ask::<Closes>(alloc, party, Call::Close)
 }
 
 #[unsafe(no_mangle)]
 pub extern "C" fn queue_c_is_closed(alloc: Global, party: &mut Handle) -> u32
     ensures { Asks call.IsClosed party.old.end result party.new.end }
 {
-    ask(alloc, party, Call::IsClosed)
+    ask::<Looks>(alloc, party, Call::IsClosed)
 }
 
 #[unsafe(no_mangle)]
 pub extern "C" fn queue_c_is_empty(alloc: Global, party: &mut Handle) -> u32
     ensures { Asks call.IsEmpty party.old.end result party.new.end }
 {
-    ask(alloc, party, Call::IsEmpty)
+    ask::<Looks>(alloc, party, Call::IsEmpty)
 }
 
 #[unsafe(no_mangle)]
 pub extern "C" fn queue_c_is_full(alloc: Global, party: &mut Handle) -> u32
     ensures { Asks call.IsFull party.old.end result party.new.end }
 {
-    ask(alloc, party, Call::IsFull)
+    ask::<Looks>(alloc, party, Call::IsFull)
 }
 
 /// `YES` and the capacity, or `DONE` where there is none.

@@ -1,10 +1,13 @@
 //! What C keeps of a party.
 ghost use Rattle.std.specs.Prelude.{◌≡◌, Option, Some, None};
 ghost use Rattle.std.specs.Option.{MatchOption, is_none};
+ghost use Rattle.queue_c.specs.Handles.{Makes};
 ghost use Rattle.queue_c.specs.declared.end.End.{End as SpecEnd};
 
+use crate::answers::Answer;
 use crate::end::End;
 use crate::loose::Loose;
+use queue_steps::model::Call;
 use std::alloc::Global;
 use std::marker::Model;
 
@@ -29,7 +32,7 @@ impl Model for Handle {
 
 impl Handle {
     /// No party.
-    fn none(alloc: Global) -> Handle
+    pub(crate) fn none(alloc: Global) -> Handle
         ensures { result.end ≡ None }
     {
         Handle {
@@ -82,6 +85,23 @@ impl Handle {
         let mut room = room;
         *room = Some(end);
         *self = Handle::of(Loose::of(room));
+    }
+
+    /// Makes a call where the party is. `W` tells the calls apart.
+    #[inline(always)]
+    pub(crate) fn call<W>(&mut self, alloc: Global, call: Call<u64>) -> Answer
+        ensures { Makes call self.old.end result self.new.end }
+    {
+        let Some(loose) = std::mem::replace(self, Handle::none(alloc)).into_loose() else {
+            return Answer::NoParty;
+        };
+        let mut room = loose.into_box();
+        let answer = match &mut *room {
+            Some(end) => end.call::<W>(call),
+            None => Answer::NoParty,
+        };
+        *self = Handle::of(Loose::of(room));
+        answer
     }
 
     /// Whether it has no party.

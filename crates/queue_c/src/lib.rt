@@ -6,3 +6,5 @@ mod end;
 mod exports;
 mod handle;
 mod loose;
+#[cfg(test)]
+mod tests;

@@ -1,7 +1,7 @@
 //! A shared queue and a party of it in one value, so that no call takes both.
 #![tactic(auto)]
 
-ghost use Rattle.std.specs.Prelude.{◌≡◌, ◌≢◌, ◌<◌, Some, None, [], IfOk, IsErr, MatchResult};
+ghost use Rattle.std.specs.Prelude.{◌≡◌, ◌≢◌, ◌<◌, Some, None, [], IfOk, IsErr, MatchOption, MatchResult};
 ghost use Rattle.queue_steps.specs.declared.model.Call.TheVariants as call;
 ghost use Rattle.queue_steps.specs.declared.model.Reply.TheVariants as reply;
 ghost use Rattle.queue_steps.specs.declared.sizes.TheConstants.{MAX_CAPACITY};
@@ -15,6 +15,7 @@ use concurrent_queue::{
     ConcurrentQueue, Exclusive, ForcePushError, NullTestable, Party, PopError, PushError,
     TryForcePushError, TryPopError, TryPushError,
 };
+use core::mem::replace_with;
 use std::alloc::{AllocError, Allocator, Global};
 use std::marker::Model;
 use std::sync::{Arc, Wait};
@@ -231,27 +232,31 @@ impl<T, A: Allocator> Handle<T, A> {
 }
 
 impl<T: Drop, A: Allocator> Handle<T, A> {
-    /// Makes two handles of one. The first keeps what the party has done, both have seen what it has, and each has half of its share.
+    /// Makes one more handle of this one. This one keeps what its party has done, both have seen what it has, and each has half of its share.
     ///
     /// # Errors
     ///
-    /// The handle itself, unchanged, where the queue has as many parties, or handles, as it may.
-    pub fn split(self) -> Result<(Self, Self), Self>
-        ensures { MatchResult result (λ r. Parts self r.0 r.1) (λ h. h ≡ self) }
+    /// Where the queue has as many parties, or handles, as it may: the handle is then as it was.
+    pub fn split(&mut self) -> Result<Self, AllocError>
+        ensures { MatchResult result (λ two. Parts self.old self.new two) (λ _. self.new ≡ self.old) }
     {
-        let Handle { queue, party } = self;
-        let Ok(other) = Arc::try_clone(&queue) else {
-            return Err(Handle { queue, party });
-        };
-        match queue.split(party) {
-            Ok((party, second)) => Ok((
-                Handle { queue, party },
-                Handle {
-                    queue: other,
-                    party: second,
-                },
-            )),
-            Err(party) => Err(Handle { queue, party }),
+        let queue = Arc::try_clone(&self.queue)?;
+        let other = replace_with(
+            &mut self.party,
+            &queue,
+            |party, queue: &Arc<ConcurrentQueue<T, A>, A>| -> (Party<T>, Option<Party<T>>)
+                requires { IsPartyOf party (arc_value queue.now) }
+                ensures { MatchOption result.1 (result.0 ≡ party) (λ two. Parts party result.0 two) }
+            {
+                match queue.split(party) {
+                    Ok((one, two)) => (one, Some(two)),
+                    Err(party) => (party, None),
+                }
+            },
+        );
+        match other {
+            Some(party) => Ok(Handle { queue, party }),
+            None => Err(AllocError),
         }
     }
 

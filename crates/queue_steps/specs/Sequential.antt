@@ -72,7 +72,7 @@ pub record Owned (T : Type 0) : Type 0 where
 abbrev pub fresh : {T : Type 0} → Option ℕ → Owned T
 fresh cap = record { queue = start cap 0; blocks = 0 }
 
--- the blocks from the first item's to the last one's: none for a queue with a capacity
+-- the blocks from the first item's to the one where the next item goes: none for a queue with a capacity
 abbrev pub spanned : Option ℕ → ℕ → ℕ → ℕ
 spanned None accepted len = accepted / BLOCK_SLOTS - (accepted - len) / BLOCK_SLOTS + 1
 spanned (Some c) accepted len = 0

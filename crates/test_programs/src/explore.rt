@@ -3,6 +3,7 @@ pub mod commands;
 pub mod limits;
 pub mod not_shown;
 pub mod printing;
+pub mod program;
 pub mod reading;
 pub mod refusals;
 pub mod sizes;

@@ -10,6 +10,8 @@ mod command;
 #[cfg(test)]
 mod explore;
 #[cfg(test)]
+mod given;
+#[cfg(test)]
 mod parts;
 #[cfg(test)]
 mod refusals;

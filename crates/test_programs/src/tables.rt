@@ -1,10 +1,12 @@
 //! Tables of runs that are alike, and how each of them is to end.
 use crate::parts::{Part, text_of};
 use crate::runs::{Program, Suite, UNREAD, ends};
+use std::io::ErrorKind;
 use std::process::Abort;
 use std::sync::Wait;
 use std::thread::Threads;
 use test_support::runs::{End, SOUND, Streams};
+use test_support::streams::{Failing, Flow};
 
 /// A run: its arguments, its input, and what it writes: its output where it ends well, else what is told of the fault.
 pub struct Row {
@@ -35,7 +37,9 @@ pub enum Rows {
     Ends(u8, &'static [Row]),
     /// Each has this line of arguments, and ends with this status: inputs, and what is written for them.
     Inputs(&'static str, u8, &'static [(&'static [u8], &'static str)]),
-    /// Each has a line of arguments that is wrong, for this reason, and does not read its input.
+    /// Each has a line of arguments that asks `queue_run` for no form, and does not read its input.
+    NoForm(&'static [&'static str]),
+    /// Each has a line of arguments that asks `queue_explore` for nothing, for this reason, and does not read its input.
     Wrong(&'static str, &'static [&'static str]),
     /// Each has longer texts.
     Long(&'static [LongRow]),
@@ -58,21 +62,22 @@ fn end_of(status: u8, told: &str) -> End<'_> {
     }
 }
 
-/// The first line of what each program tells of arguments that ask for nothing that there is.
-const RUN_USAGE: &str =
+/// All that `queue_run` tells of arguments that ask for no form.
+pub const RUN_USAGE: &str =
     "usage: queue_run script KIND | replay KIND PARTIES | threads KIND PUSHERS POPPERS ITEMS | handshake | channel KIND SENDERS RECEIVERS ITEMS\n";
 
+/// The first line of what `queue_explore` tells of arguments that ask for nothing. The reason is the second.
 const EXPLORE_USAGE: &str =
     "usage: queue_explore KIND [refuse] [schedule N | lanes N | waits [N]]\n";
 
-/// What a program tells of arguments that are wrong for this reason.
-fn usage<R: Abort + AllocGlobal>(rt: &R, program: Program, reason: &str) -> String {
-    let first = match program {
-        Program::QueueRun => RUN_USAGE,
-        Program::QueueExplore => EXPLORE_USAGE,
-    };
-    format!(in rt.alloc(); "{first}{reason}\n").expect(rt, "memory for the usage")
-}
+/// Streams of a run that is not to read its input: a read would fail.
+const UNREADABLE: Streams = Streams {
+    input: Flow {
+        most: 1,
+        failing: Failing::At(0, ErrorKind::BrokenPipe),
+    },
+    ..SOUND
+};
 
 /// Asserts that each of these runs ends with this status.
 fn all_end<R: Abort + Threads + Wait + Sync + AllocGlobal>(
@@ -100,18 +105,31 @@ fn all_inputs_end<R: Abort + Threads + Wait + Sync + AllocGlobal>(
     }
 }
 
-/// Asserts that each of these lines of arguments is wrong for this reason.
+/// Asserts that this is all that is told of each of these lines of arguments, and that the input is not read.
 fn all_are_wrong<R: Abort + Threads + Wait + Sync + AllocGlobal>(
+    rt: &R,
+    suite: Suite,
+    told: &str,
+    lines: &[&str],
+) {
+    for line in lines {
+        let end = End::fault(2, told);
+        ends(rt, suite, line, UNREAD.as_bytes(), UNREADABLE, end);
+    }
+}
+
+/// Asserts that each of these lines of arguments is wrong for this reason.
+fn all_are_wrong_for<R: Abort + Threads + Wait + Sync + AllocGlobal>(
     rt: &R,
     suite: Suite,
     reason: &str,
     lines: &[&str],
 ) {
-    let told = usage(rt, suite.program, reason);
-    for line in lines {
-        let end = End::fault(2, told.as_str());
-        ends(rt, suite, line, UNREAD.as_bytes(), SOUND, end);
-    }
+    let told = format!(in rt.alloc(); "{EXPLORE_USAGE}{reason}\n").expect(
+        rt,
+        "memory for the usage",
+    );
+    all_are_wrong(rt, suite, told.as_str(), lines);
 }
 
 /// Asserts that a run with longer texts ends so.
@@ -158,7 +176,8 @@ fn table_ends<R: Abort + Threads + Wait + Sync + AllocGlobal>(
     match &table.rows {
         Rows::Ends(status, rows) => all_end(rt, suite, *status, rows),
         Rows::Inputs(line, status, rows) => all_inputs_end(rt, suite, line, *status, rows),
-        Rows::Wrong(reason, lines) => all_are_wrong(rt, suite, reason, lines),
+        Rows::NoForm(lines) => all_are_wrong(rt, suite, RUN_USAGE, lines),
+        Rows::Wrong(reason, lines) => all_are_wrong_for(rt, suite, reason, lines),
         Rows::Long(rows) => all_long_end(rt, suite, rows),
         Rows::Streams(rows) => all_streams_end(rt, suite, rows),
     }

@@ -3,6 +3,7 @@ pub mod blocks;
 pub mod chains;
 pub mod dropped;
 pub mod drops;
+pub mod handle_stories;
 pub mod handles;
 pub mod iterators;
 pub mod left;

@@ -8,6 +8,8 @@ mod blocks;
 #[cfg(test)]
 mod channel;
 #[cfg(test)]
+mod handles;
+#[cfg(test)]
 mod opening;
 #[cfg(test)]
 mod sleep;

@@ -1,7 +1,9 @@
 //! Threads that sleep: on an eventcount, and on ends of channels.
 pub mod asleep;
+pub mod falling;
 pub mod idle;
-pub mod limit;
+pub mod tickets;
 pub mod turns;
+pub mod wakers;
 pub mod waking;
 pub mod watched;

@@ -2,3 +2,4 @@ pub mod WorkShifts
 pub mod Moving
 pub mod Shifts
 pub mod Places
+pub mod Receiving

@@ -1,5 +1,5 @@
 -- What the calls of a worker move.
-use Rattle.std.proofs.Common.{◌≡◌, ℕ, ◌+◌, ◌==◌, Bool, true, false, cond, List, [], ◌∷◌, Ok, Err, refl, ap, sym, subst, ◌∙◌, ⊎_elim, add-one, arith}
+use Rattle.std.proofs.Common.{◌≡◌, ℕ, ◌+◌, ◌==◌, Bool, false, cond, List, [], ◌∷◌, Ok, Err, refl, ap, sym, subst, ◌∙◌, ⊎_elim, add-one, arith}
 use Rattle.std.specs.List.{count_by}
 use Rattle.queue_steps.specs.declared.model.Call.{Call}
 use Rattle.queue_steps.specs.declared.model.Reply.{Reply}
@@ -11,13 +11,15 @@ use Rattle.queue_steps.specs.declared.errors.PopError.{PopError}
 use Rattle.queue_steps.specs.declared.errors.PushError.{PushError}
 use Rattle.queue_steps.specs.declared.errors.PushError.TheVariants as push
 use Rattle.queue_steps.specs.Errors.{push_error_value}
-use Rattle.queue_steps.specs.Shares.{Share, SamePart}
+use Rattle.queue_steps.specs.Effect.{after, rest}
+use Rattle.queue_steps.specs.Sequential.{pop_result}
+use Rattle.queue_steps.specs.Shares.{Share, SamePart, IsEntire}
 use Rattle.queue_steps.specs.Parties.{IsView}
 use Rattle.queue_steps.proofs.ShareLaws.{same_refl, same_trans}
-use Rattle.concurrent_queue.specs.Shared.{PartyView, Calls}
+use Rattle.concurrent_queue.specs.Shared.{QueueId, PartyView, Calls}
 use Rattle.law_parties.specs.Doings.{hands_in_such, hands_out_such, Acts}
 use Rattle.law_parties.proofs.Doings.{single, acts}
-use Rattle.use_shared.specs.Sharing.{none, one, below, came, went, Moves, IsShift}
+use Rattle.use_shared.specs.Sharing.{none, one, below, came, went, Moves, SeesNone}
 use Rattle.use_shared.specs.declared.tasks.executor.Worker.{Worker}
 
 -- a call of the party v, which is then p: so many of each number were handed in, and out
@@ -26,6 +28,19 @@ pub record Turns {T : Type 0} (key : T → ℕ) (v p : PartyView T) (more less :
   pub share : p.view.share ≡ v.view.share
   pub ins : (i : ℕ) → came key i p ≡ came key i v + more i
   pub outs : (i : ℕ) → went key i p ≡ went key i v + less i
+
+-- the one owner's pop is refused where there is no item
+no_items : {T : Type 0} (closed : Bool) (items : List T) (why : PopError) → reply.Pop (Err why) ≡ reply.Pop (pop_result closed items) → rest items ≡ []
+no_items closed [] why is = refl
+no_items closed (x ∷ xs) why is = cc
+
+-- a pop of a party that has all of the share found none: nothing is left
+pub found_none : {T : Type 0} (v p : PartyView T) (why : PopError) → Calls v call.Pop (reply.Pop (Err why)) p → SeesNone p
+found_none {T} v p why made entire =
+    let alone = made.2 (subst {A = Share} IsEntire made.1.share entire) in
+    let left : (after v.queue.cap p.view.seen).items ≡ [] =
+    ⊎_elim (λ table. sym table.1.items ∙ no_items (after v.queue.cap v.view.seen).closed (after v.queue.cap v.view.seen).items why table.0) (λ lacks. absurd lacks.1) alone.table in
+    subst {A = QueueId} (λ q. (after q.cap p.view.seen).items ≡ []) (sym made.0) left
 
 module _ {T : Type 0} (key : T → ℕ) where
   turned : (v p : PartyView T) (es : List (Effect T)) (more less : ℕ → ℕ) → Acts v p es → ((i : ℕ) → count_by (hands_in_such (λ x. key x == i)) es ≡ more i) → ((i : ℕ) → count_by (hands_out_such (λ x. key x == i)) es ≡ less i)
@@ -66,15 +81,8 @@ module _ {T : Type 0} (key : T → ℕ) where
   pub not_popped : (v p : PartyView T) (why : PopError) → IsView v.queue.cap v.view → Calls v call.Pop (reply.Pop (Err why)) p → Turns key v p none none
   not_popped v p why is made = looked v p call.Pop (reply.Pop (Err why)) is made made.1.tells
 
-  pub closed : (v p : PartyView T) (b : Bool) → IsView v.queue.cap v.view → Calls v call.Close (reply.Close b) p → Turns key v p none none
-  closed v p true is made = shut v p call.Close (reply.Close true) effect.Close is made made.1.tells (λ such. (refl, refl))
-  closed v p false is made = looked v p call.Close (reply.Close false) is made made.1.tells
-
   pub saw_empty : (v p : PartyView T) (b : Bool) → IsView v.queue.cap v.view → Calls v call.IsEmpty (reply.IsEmpty b) p → Turns key v p none none
   saw_empty v p b is made = looked v p call.IsEmpty (reply.IsEmpty b) is made made.1.tells
-
-  pub saw_closed : (v p : PartyView T) (b : Bool) → IsView v.queue.cap v.view → Calls v call.IsClosed (reply.IsClosed b) p → Turns key v p none none
-  saw_closed v p b is made = looked v p call.IsClosed (reply.IsClosed b) is made made.1.tells
 
 -- the same part, where the shares are one
 pub part : {T : Type 0} (v p : PartyView T) → p.view.share ≡ v.view.share → SamePart p.view.share v.view.share
@@ -120,16 +128,6 @@ module _ {A B : Type 0} (a : A → ℕ) (b : B → ℕ) where
   stepped u v w x n k before taken same put =
       then u v x none none before (moves v w x none (one n) (one k) none none none taken put (λ i. let here = ap (λ m. one m i) same in omega (arith, here)))
 
-  -- a shift after a move that comes to nothing
-  pub then_shift : (u v w : Worker A B) → Moves a b u v none none → IsShift a b v w → IsShift a b u w
-  then_shift u v w first (second, drained) = (then u v w none none first second, drained)
-
-  -- the worker has looked at the queue of tasks twice
-  pub looked_twice : (v : Worker A B) (p q : PartyView A) (empty shut : Bool) → IsView v.tasks.queue.cap v.tasks.view → Calls v.tasks call.IsEmpty (reply.IsEmpty empty) p → IsView p.queue.cap p.view → Calls p call.IsClosed (reply.IsClosed shut) q
-      → Moves a b v (record v { tasks = q }) none none
-  looked_twice v p q empty shut is first is_then second =
-      then v (record v { tasks = p }) (record v { tasks = q }) none none (at_tasks v p none none (saw_empty a v.tasks p empty is first)) (at_tasks (record v { tasks = p }) q none none (saw_closed a p q shut is_then second))
-
   -- a task is put in, or refused
   pub put_in : (u v : Worker A B) (p : PartyView A) (n : ℕ) (x : A) (done : Unit {0}) → Moves a b u v none none × (a x ≡ n) → IsView v.tasks.queue.cap v.tasks.view → Calls v.tasks (call.Push x) (reply.Push (Ok done)) p → Moves a b u (record v { tasks = p }) (one n) none
   put_in u v p n x done (before, same) is made =
@@ -140,13 +138,10 @@ module _ {A B : Type 0} (a : A → ℕ) (b : B → ℕ) where
   not_put_in u v p n x y why (before, same) is made back =
       let turn = refused a v.tasks p x why is made in (then u v (record v { tasks = p }) none none before (at_tasks v p none none turn.0), ap a back ∙ (ap a turn.1 ∙ same))
 
-  -- an output is handed in, and something comes to nothing after it, or it is refused
-  pub handed_in : (u v w : Worker A B) (p : PartyView B) (n : ℕ) (x : B) (done : Unit {0}) → Moves a b u v none none × (b x ≡ n) → IsView v.outputs.queue.cap v.outputs.view → Calls v.outputs (call.Push x) (reply.Push (Ok done)) p → Moves a b (record v { outputs = p }) w none none
-      → Moves a b u w (one n) none
-  handed_in u v w p n x done (before, same) is made last =
-      let so_far : Moves a b u (record v { outputs = p }) (one (b x)) none = then u v (record v { outputs = p }) (one (b x)) none before (at_outputs v p (one (b x)) none (pushed b v.outputs p x done is made)) in
-      subst {A = ℕ} (λ k. Moves a b u w (one k) none) same
-      (moves u (record v { outputs = p }) w (one (b x)) none none none (one (b x)) none so_far last (λ i. let k = one (b x) i in omega arith))
+  -- an output is handed in, or refused
+  pub handed_in : (u v : Worker A B) (p : PartyView B) (n : ℕ) (x : B) (done : Unit {0}) → Moves a b u v none none × (b x ≡ n) → IsView v.outputs.queue.cap v.outputs.view → Calls v.outputs (call.Push x) (reply.Push (Ok done)) p → Moves a b u (record v { outputs = p }) (one n) none
+  handed_in u v p n x done (before, same) is made =
+      subst {A = ℕ} (λ k. Moves a b u (record v { outputs = p }) (one k) none) same (then u v (record v { outputs = p }) (one (b x)) none before (at_outputs v p (one (b x)) none (pushed b v.outputs p x done is made)))
 
   pub not_handed_in : (u v : Worker A B) (p : PartyView B) (n : ℕ) (x y : B) (why : PushError B) → Moves a b u v none none × (b x ≡ n) → IsView v.outputs.queue.cap v.outputs.view → Calls v.outputs (call.Push x) (reply.Push (Err why)) p → y ≡ push_error_value why
       → Moves a b u (record v { outputs = p }) none none × (b y ≡ n)

@@ -6,16 +6,15 @@ use lib.ListN.{get_elem?}
 use Rattle.queue_steps.specs.declared.model.Effect.{Effect}
 use Rattle.queue_steps.specs.Effect.{after}
 use Rattle.queue_steps.specs.Legal.{IsSoundOwned}
-use Rattle.queue_steps.specs.Shares.{Share, SamePart}
+use Rattle.queue_steps.specs.Shares.{Share, SamePart, IsEntire}
 use Rattle.queue_steps.specs.Sequential.{Owned}
 use Rattle.queue_steps.specs.Parties.{IsView}
 use Rattle.queue_steps.proofs.ShareLaws.{same_sym, same_trans, same_refl, halves_joined, entire_same}
 use Rattle.concurrent_queue.specs.Shared.{QueueId, PartyView, Parts, Joins, Finishes}
 use Rattle.law_parties.specs.Doings.{passes, done_by, hands_in_such, hands_out_such}
 use Rattle.law_parties.proofs.Doings.{unchanged, did_both}
-use Rattle.law_parties.proofs.Drained.{still_drained, is_drained}
 use Rattle.law_parties.proofs.Whole.{all_kept}
-use Rattle.use_shared.specs.Sharing.{none, one, below, Moves, IsShift, IsFresh, AreParts, AreJoined, IsDone}
+use Rattle.use_shared.specs.Sharing.{none, one, below, Moves, IsFresh, AreParts, AreJoined, SeesNone, IsDone}
 use Rattle.use_shared.specs.declared.tasks.executor.Worker.{Worker}
 
 -- one of each number below n, and none of the others
@@ -63,22 +62,19 @@ module _ {T : Type 0} where
 
 module _ {A B : Type 0} (a : A → ℕ) (b : B → ℕ) where
   -- the shifts of both parts of a worker, joined
-  pub joined_shift : (v x y ours theirs w : Worker A B) → AreParts v x y → IsShift a b x ours → IsShift a b y theirs → AreJoined ours theirs w → IsShift a b v w
-  joined_shift v x y ours theirs w parts (our, drained) (their, _) joins = (
-    record {
-      queues = (joins.tasks.0 ∙ our.queues.0 ∙ parts.tasks.0, joins.outputs.0 ∙ our.queues.1 ∙ parts.outputs.0);
-      shares = (
-        whole_share v.tasks x.tasks y.tasks ours.tasks theirs.tasks w.tasks parts.tasks our.shares.0 their.shares.0 joins.tasks,
-        whole_share v.outputs x.outputs y.outputs ours.outputs theirs.outputs w.outputs parts.outputs our.shares.1 their.shares.1 joins.outputs,
-      );
-      moved = λ i.
-          let one = our.moved i in let two = their.moved i in
-          let t_in = at_tasks (hands_in_such (λ t. a t == i)) in let t_out = at_tasks (hands_out_such (λ t. a t == i)) in
-          let o_in = at_outputs (hands_in_such (λ d. b d == i)) in let o_out = at_outputs (hands_out_such (λ d. b d == i)) in
-          omega (arith, one, two, t_in.0, t_in.1, t_in.2, t_out.0, t_out.1, t_out.2, o_in.0, o_in.1, o_in.2, o_out.0, o_out.1, o_out.2);
-    },
-    still_drained ours.tasks w.tasks joins.tasks.0 joins.tasks.1.begins.0 drained,
-  )
+  pub joined_shift : (v x y ours theirs w : Worker A B) → AreParts v x y → Moves a b x ours none none → Moves a b y theirs none none → AreJoined ours theirs w → Moves a b v w none none
+  joined_shift v x y ours theirs w parts our their joins = record {
+    queues = (joins.tasks.0 ∙ our.queues.0 ∙ parts.tasks.0, joins.outputs.0 ∙ our.queues.1 ∙ parts.outputs.0);
+    shares = (
+      whole_share v.tasks x.tasks y.tasks ours.tasks theirs.tasks w.tasks parts.tasks our.shares.0 their.shares.0 joins.tasks,
+      whole_share v.outputs x.outputs y.outputs ours.outputs theirs.outputs w.outputs parts.outputs our.shares.1 their.shares.1 joins.outputs,
+    );
+    moved = λ i.
+        let one = our.moved i in let two = their.moved i in
+        let t_in = at_tasks (hands_in_such (λ t. a t == i)) in let t_out = at_tasks (hands_out_such (λ t. a t == i)) in
+        let o_in = at_outputs (hands_in_such (λ d. b d == i)) in let o_out = at_outputs (hands_out_such (λ d. b d == i)) in
+        omega (arith, one, two, t_in.0, t_in.1, t_in.2, t_out.0, t_out.1, t_out.2, o_in.0, o_in.1, o_in.2, o_out.0, o_out.1, o_out.2);
+  }
     where
       same_tasks : theirs.tasks.queue ≡ ours.tasks.queue
       same_tasks = their.queues.0 ∙ (parts.tasks.1 ∙ (sym parts.tasks.0 ∙ sym our.queues.0))
@@ -106,30 +102,34 @@ module _ {A B : Type 0} (a : A → ℕ) (b : B → ℕ) where
       both : (test : Effect B → Bool) → (done_by test w.view ≡ done_by test x.view + done_by test y.view) × (done_by test x.view ≡ done_by test v.outputs.view) × (done_by test y.view ≡ 0)
       both test = (joined x y w test (parts.1 ∙ sym parts.0) is_x is_y joins, kept v.outputs x y test is_v parts, fresh v.outputs x y test parts)
 
-  -- a worker that had done nothing has put n tasks into the queue, and all shifts are over
-  pub all_done : (n : ℕ) (first begun last : Worker A B) → IsFresh first → Moves a b first begun (below n) none → IsShift a b begun last → IsDone a b n last
-  all_done n first begun last (tasks, outputs, all_tasks, all_outputs) begin (shift, drained) = record {
-    whole = (
-      entire_same first.tasks.view.share last.tasks.view.share
-          (same_sym last.tasks.view.share first.tasks.view.share (same_trans last.tasks.view.share begun.tasks.view.share first.tasks.view.share shift.shares.0 begin.shares.0)) all_tasks,
-      entire_same first.outputs.view.share last.outputs.view.share
-          (same_sym last.outputs.view.share first.outputs.view.share (same_trans last.outputs.view.share begun.outputs.view.share first.outputs.view.share shift.shares.1 begin.shares.1)) all_outputs,
-    );
-    drained = drained;
+  -- a worker that had done nothing has put n tasks into the queue, and all shifts are over. The last pop finds no task, and the worker has all of the share then
+  pub all_done : (n : ℕ) (first begun last : Worker A B) → IsFresh first → Moves a b first begun (below n) none → Moves a b begun last none none → SeesNone last.tasks → IsDone a b n last
+  all_done n first begun last (tasks, outputs, all_tasks, all_outputs) begin shift none_left = record {
+    whole = (whole_tasks, whole_outputs);
+    empty = none_left whole_tasks;
     each = λ i lt.
         let one = begin.moved i in let two = shift.moved i in let here = one_below n i lt in
         let t_in = idle first.tasks (hands_in_such (λ t. a t == i)) tasks in let t_out = idle first.tasks (hands_out_such (λ t. a t == i)) tasks in
         let o_in = idle first.outputs (hands_in_such (λ d. b d == i)) outputs in let o_out = idle first.outputs (hands_out_such (λ d. b d == i)) outputs in
         omega (arith, one, two, here, t_in, t_out, o_in, o_out);
   }
+    where
+      whole_tasks : IsEntire last.tasks.view.share
+      whole_tasks =
+          entire_same first.tasks.view.share last.tasks.view.share
+          (same_sym last.tasks.view.share first.tasks.view.share (same_trans last.tasks.view.share begun.tasks.view.share first.tasks.view.share shift.shares.0 begin.shares.0)) all_tasks
+
+      whole_outputs : IsEntire last.outputs.view.share
+      whole_outputs =
+          entire_same first.outputs.view.share last.outputs.view.share
+          (same_sym last.outputs.view.share first.outputs.view.share (same_trans last.outputs.view.share begun.outputs.view.share first.outputs.view.share shift.shares.1 begin.shares.1)) all_outputs
 
   -- then each number below n is that of one output
-  pub outputs_once : (n : ℕ) (w : Worker A B) (left : Owned B) → IsDone a b n w → IsView w.tasks.queue.cap w.tasks.view → IsView w.outputs.queue.cap w.outputs.view → Finishes w.outputs left → IsSoundOwned left
-      → (i : ℕ) → i < n → count_by (λ d. b d == i) left.queue.items ≡ 1
-  outputs_once n w left done is_tasks is_outputs ended sound i lt =
-      let drained = is_drained w.tasks is_tasks.legal done.drained in
-      let t = all_kept w.tasks.queue.cap w.tasks.view (λ t. a t == i) is_tasks (is_tasks.whole done.whole.0) drained.1 in
-      let empty : count_by (λ t. a t == i) (after w.tasks.queue.cap w.tasks.view.seen).items ≡ 0 = ap (count_by (λ t. a t == i)) drained.0 in
-      let o = all_kept w.outputs.queue.cap w.outputs.view (λ d. b d == i) is_outputs ended.1 (sym ended.2.coming ∙ sound.0.none_coming) in
-      let items : count_by (λ d. b d == i) left.queue.items ≡ count_by (λ d. b d == i) (after w.outputs.queue.cap w.outputs.view.seen).items = ap (count_by (λ d. b d == i)) ended.2.items in
+  pub outputs_once : (n : ℕ) (w : Worker A B) (tasks : Owned A) (outputs : Owned B) → IsDone a b n w → IsView w.tasks.queue.cap w.tasks.view → IsView w.outputs.queue.cap w.outputs.view → Finishes w.tasks tasks → IsSoundOwned tasks → Finishes w.outputs outputs → IsSoundOwned outputs
+      → (i : ℕ) → i < n → count_by (λ d. b d == i) outputs.queue.items ≡ 1
+  outputs_once n w tasks outputs done is_tasks is_outputs tasks_ended tasks_sound outputs_ended outputs_sound i lt =
+      let t = all_kept w.tasks.queue.cap w.tasks.view (λ t. a t == i) is_tasks tasks_ended.1 (sym tasks_ended.2.coming ∙ tasks_sound.0.none_coming) in
+      let empty : count_by (λ t. a t == i) (after w.tasks.queue.cap w.tasks.view.seen).items ≡ 0 = ap (count_by (λ t. a t == i)) done.empty in
+      let o = all_kept w.outputs.queue.cap w.outputs.view (λ d. b d == i) is_outputs outputs_ended.1 (sym outputs_ended.2.coming ∙ outputs_sound.0.none_coming) in
+      let items : count_by (λ d. b d == i) outputs.queue.items ≡ count_by (λ d. b d == i) (after w.outputs.queue.cap w.outputs.view.seen).items = ap (count_by (λ d. b d == i)) outputs_ended.2.items in
       let each = done.each i lt in omega (arith, t, empty, o, items, each)

@@ -36,7 +36,7 @@ took_by v w es jobs did are job =
 pub took_none : (v : PartyView ℕ) → Took v v []
 took_none v job = (omega arith, omega arith)
 
-took_then : (u v w : PartyView ℕ) (jobs more : List ℕ) → Took u v jobs → Took v w more → Took u w (jobs ++ more)
+pub took_then : (u v w : PartyView ℕ) (jobs more : List ℕ) → Took u v jobs → Took v w more → Took u w (jobs ++ more)
 took_then u v w jobs more a b job =
     let one = a job in let two = b job in
     let both : times job (jobs ++ more) ≡ times job jobs + times job more = sum_by-append (λ j. cond (j == job) 1 0) jobs more in

@@ -3,7 +3,8 @@ use Rattle.std.specs.Prelude.{◌≡◌, ℕ, zero, suc, ◌+◌, ◌<◌, ◌==
 use Rattle.queue_steps.specs.Shares.{SamePart, IsEntire}
 use Rattle.concurrent_queue.specs.Shared.{PartyView, IsPartyOf, Parts, Joins}
 use Rattle.queue_steps.specs.Parties.{IsView}
-use Rattle.law_parties.specs.Doings.{done_by, hands_in_such, hands_out_such, SawDrained}
+use Rattle.queue_steps.specs.Effect.{after}
+use Rattle.law_parties.specs.Doings.{done_by, hands_in_such, hands_out_such}
 use Rattle.use_shared.specs.declared.tasks.executor.Executor.{Executor}
 use Rattle.use_shared.specs.declared.tasks.executor.Worker.{Worker}
 
@@ -30,6 +31,14 @@ came key i p = done_by (hands_in_such (λ x. key x == i)) p.view
 abbrev pub went : {A : Type 0} → (A → ℕ) → ℕ → PartyView A → ℕ
 went key i p = done_by (hands_out_such (λ x. key x == i)) p.view
 
+-- the queue that the party has seen is empty
+abbrev pub SawEmpty : {A : Type 0} → PartyView A → Type 0
+SawEmpty p = (after p.queue.cap p.view.seen).items ≡ []
+
+-- if the party has all of the share, nothing is left in the queue
+abbrev pub SeesNone : {A : Type 0} → PartyView A → Type 0
+SeesNone p = IsEntire p.view.share → SawEmpty p
+
 module _ {A B : Type 0} where
   -- the worker's parties are those of these queues
   abbrev pub IsWorkerOf : {H : Type 0} → Worker A B → Executor A B H → Type 0
@@ -48,10 +57,6 @@ module _ {A B : Type 0} where
     pub shares : SamePart w.tasks.view.share v.tasks.view.share × SamePart w.outputs.view.share v.outputs.view.share
     pub moved : (i : ℕ) → all_came a b i w + (all_went a b i v + less i) ≡ all_came a b i v + (all_went a b i w + more i)
 
-  -- a worker's shift: it leaves as many of each number as it found, and ends only where no task is left
-  abbrev pub IsShift : (A → ℕ) → (B → ℕ) → Worker A B → Worker A B → Type 0
-  IsShift a b v w = Moves a b v w none none × SawDrained w.tasks
-
   -- a worker that has done nothing, and has all of both shares
   abbrev pub IsFresh : Worker A B → Type 0
   IsFresh w = (w.tasks.view.mine ≡ []) × (w.outputs.view.mine ≡ []) × IsEntire w.tasks.view.share × IsEntire w.outputs.view.share
@@ -69,8 +74,8 @@ module _ {A B : Type 0} where
     pub tasks_views : IsView x.tasks.queue.cap x.tasks.view × IsView y.tasks.queue.cap y.tasks.view
     pub outputs_views : IsView x.outputs.queue.cap x.outputs.view × IsView y.outputs.queue.cap y.outputs.view
 
-  -- all is done: the worker has all of both shares, has seen that no task is left, and of each number below n it has handed in one more than it has handed out
+  -- all is done: the worker has all of both shares, the queue of tasks is empty, and of each number below n it has handed in one more than it has handed out
   pub record IsDone (a : A → ℕ) (b : B → ℕ) (n : ℕ) (w : Worker A B) : Type 0 where
     pub whole : IsEntire w.tasks.view.share × IsEntire w.outputs.view.share
-    pub drained : SawDrained w.tasks
+    pub empty : SawEmpty w.tasks
     pub each : (i : ℕ) → i < n → all_came a b i w ≡ all_went a b i w + 1

@@ -15,7 +15,7 @@ use std::sync::Wait;
 use std::thread::Threads;
 pub use stepped::{Step, Task};
 
-/// Steps the tasks until all are done, and gives their outputs in the order of the tasks. Of so many workers this thread is one, and each other has a thread of its own where one can be made.
+/// Steps the tasks until all are done, and gives their outputs in the order of the tasks. Of so many workers, though no more than there are tasks, this thread is one, and each other has a thread of its own where one can be made.
 ///
 /// # Errors
 ///
@@ -52,7 +52,8 @@ fn run_batch<
         return Err(tasks);
     };
     executor.start(rt, &mut worker, tasks);
-    let worker = run_workers(rt, &executor, worker, workers);
+    let worker = run_workers(rt, &executor, worker, workers.min(count as u64));
+    let worker = executor.work(rt, worker);
     place(&mut places, executor.finish(worker));
     Ok(contents(places, outputs))
 }

@@ -109,7 +109,7 @@ impl<T, A: Allocator> Pending<T, A> {
 
 /// Sets out on a call at a table of any kind.
 #[inline(always)]
-fn set_out_at<T, K: TableSteps<T>, A: Allocator, F: FastSteps<SharedTable<T, K, A>> + Drop>(
+fn set_out_at<T, K: TableSteps<T>, A: Allocator, F: FastSteps<SharedTable<T, K, A>> + Drop, W>(
     steps: F,
     table: &SharedTable<T, K, A>,
     seat: &mut Seat<Option<T>, CallState<T>>,
@@ -119,7 +119,7 @@ fn set_out_at<T, K: TableSteps<T>, A: Allocator, F: FastSteps<SharedTable<T, K, 
     requires of { IsPartyOf (party_view_of (place.Table seat.old)) (queue_at K.layout table.now.table.shared.table_id) }
     ensures { MatchControlFlow result (λ left. StopsHere K.layout table.now.table.shared.table_id seat.new left (begun_with seat.old call)) (λ reply. HasEnded (begun_with seat.old call) reply seat.new) }
 {
-    set_out::<SharedTable<T, K, A>, Open, F, Begins>(steps, table, &Open, seat, call)
+    set_out::<SharedTable<T, K, A>, Open, F, W>(steps, table, &Open, seat, call)
 }
 
 /// Takes up a call at a table of any kind.
@@ -143,9 +143,18 @@ impl<T, A: NullTestable> ConcurrentQueue<T, A> {
         requires { IsPartyOf party self.now }
         ensures { Comes party call result }
     {
+        self.begin_as::<Begins>(party, call)
+    }
+
+    /// The same, in place where it is called. `W` tells the calls apart, so that each has fast steps of its own.
+    #[inline(always)]
+    pub fn begin_as<W>(&self, party: Party<T>, call: Call<T>) -> Outcome<T, A>
+        requires { IsPartyOf party self.now }
+        ensures { Comes party call result }
+    {
         match (&self.form, party.place) {
             (Form::Single(slot), SeatPlace::Table(mut seat)) => {
-                match set_out_at(OnSlot, slot, &mut seat, call) {
+                match set_out_at::<_, _, _, _, W>(OnSlot, slot, &mut seat, call) {
                     ControlFlow::Break(reply) => {
                         Outcome::Done(Party::at(SeatPlace::Table(seat)), reply)
                     }
@@ -155,7 +164,7 @@ impl<T, A: NullTestable> ConcurrentQueue<T, A> {
                 }
             }
             (Form::Ring(ring), SeatPlace::Table(mut seat)) => {
-                match set_out_at(on_ring(ring), ring, &mut seat, call) {
+                match set_out_at::<_, _, _, _, W>(on_ring(ring), ring, &mut seat, call) {
                     ControlFlow::Break(reply) => {
                         Outcome::Done(Party::at(SeatPlace::Table(seat)), reply)
                     }
@@ -166,7 +175,7 @@ impl<T, A: NullTestable> ConcurrentQueue<T, A> {
             }
             (Form::Chain(queue), SeatPlace::Web(mut rested)) => {
                 let mut asking: Asking<T, A, Granting> = Asking::wake(&queue.chain, &mut rested);
-                let begun = set_out::<Asking<T, A, Granting>, Open, OnChain, Begins>(
+                let begun = set_out::<Asking<T, A, Granting>, Open, OnChain, W>(
                     OnChain,
                     queue,
                     &Open,

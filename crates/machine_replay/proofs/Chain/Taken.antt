@@ -73,14 +73,14 @@ unheld c who P Q x others holds none never p e = elim (eqb_tells p who) [
 
 -- how many steps a call has before it that has taken
 to_reply : Local ℕ → ℕ
-to_reply (Local.Unbounded (chain.Following head block)) = 2 * LAST + 6
-to_reply (Local.Unbounded (chain.Peeking head block after)) = 2 * LAST + 5
-to_reply (Local.Unbounded (chain.Passing head block more)) = 2 * LAST + 4
-to_reply (Local.Unbounded (chain.Entering head block)) = 2 * LAST + 3
-to_reply (Local.Unbounded (chain.Awaiting head block)) = 2 * LAST + 2
-to_reply (Local.Unbounded (chain.Reading block slot)) = 2 * (LAST - slot) + 1
-to_reply (Local.Unbounded (chain.Walking block slot)) = 2 * (LAST - slot) + 1
-to_reply (Local.Unbounded (chain.Destroying block slot)) = 2 * (LAST - slot)
+to_reply (Local.Unbounded (chain.Following head block)) = 2 * LAST + 5
+to_reply (Local.Unbounded (chain.Peeking head block after)) = 2 * LAST + 4
+to_reply (Local.Unbounded (chain.Passing head block more)) = 2 * LAST + 3
+to_reply (Local.Unbounded (chain.Entering head block)) = 2 * LAST + 2
+to_reply (Local.Unbounded (chain.Awaiting head block)) = 2 * LAST + 1
+to_reply (Local.Unbounded (chain.Reading block slot)) = 2 * (LAST - slot)
+to_reply (Local.Unbounded (chain.Walking block slot)) = 2 * (LAST - slot)
+to_reply (Local.Unbounded (chain.Destroying block slot)) = 2 * (LAST - slot) - 1
 to_reply _ = 1
 
 abbrev Nears : Next ℕ → ℕ → Type 0
@@ -88,29 +88,29 @@ Nears (Next.Step l t o) m = to_reply l < m
 Nears (Next.Reply x spare) m = Unit {0}
 
 -- the walk goes on behind a slot
-on_nears : (name slot m : ℕ) → slot < LAST → 2 * (LAST - slot) ≤ m → Nears (walks_on name slot) m
+on_nears : (name slot m : ℕ) → slot < LAST → 2 * (LAST - slot) ≤ m + 1 → Nears (walks_on name slot) m
 unfolding to_reply
 on_nears name slot m low le =
     cond_both (nat_lt (slot + 2) BLOCK_SLOTS) (walks name (slot + 1) Touch.Nothing) (Next.Reply (Reply.Pop (Ok tt)) (Some name)) (λ x. Nears x m)
     (λ on. let lt = ltb-true (slot + 2) BLOCK_SLOTS on in omega arith) (λ over. tt)
 
-maybe_on_nears : (on : Bool) (name slot m : ℕ) → slot < LAST → 2 * (LAST - slot) ≤ m → Nears (if on then walks_on name slot else ends (Reply.Pop (Ok tt))) m
+maybe_on_nears : (on : Bool) (name slot m : ℕ) → slot < LAST → 2 * (LAST - slot) ≤ m + 1 → Nears (if on then walks_on name slot else ends (Reply.Pop (Ok tt))) m
 maybe_on_nears true name slot m low le = on_nears name slot m low le
 maybe_on_nears false name slot m low le = tt
 
-walking_nears : (name slot st : ℕ) → slot < LAST → Nears (unbounded_next (chain.Walking name slot) (Answer.Found st)) (2 * (LAST - slot) + 1)
+walking_nears : (name slot st : ℕ) → slot < LAST → Nears (unbounded_next (chain.Walking name slot) (Answer.Found st)) (2 * (LAST - slot))
 unfolding to_reply
 walking_nears name slot st low =
-    elim (bit_and st READ == 0) as (λ b. Nears (if not b then walks_on name slot else Next.Step (Local.Unbounded (chain.Destroying name slot)) Touch.Nothing (Op.Or (Word.State name slot) DESTROY)) (2 * (LAST - slot) + 1)) [
+    elim (bit_and st READ == 0) as (λ b. Nears (if not b then walks_on name slot else Next.Step (Local.Unbounded (chain.Destroying name slot)) Touch.Nothing (Op.Or (Word.State name slot) DESTROY)) (2 * (LAST - slot))) [
       | true ↦ omega arith
-      | false ↦ on_nears name slot (2 * (LAST - slot) + 1) low (omega arith)
+      | false ↦ on_nears name slot (2 * (LAST - slot)) low (omega arith)
     ]
 
-awaiting_nears : (head name st : ℕ) → (bit_and st WRITE == 0) ≡ false → Nears (written_found head name st) (2 * LAST + 2)
+awaiting_nears : (head name st : ℕ) → (bit_and st WRITE == 0) ≡ false → Nears (written_found head name st) (2 * LAST + 1)
 unfolding to_reply
 awaiting_nears head name st written = last (eqb_tells (offset_of head + 1) BLOCK_SLOTS)
   where
-    last : (((offset_of head + 1 == BLOCK_SLOTS) ≡ true) × (offset_of head + 1 ≡ BLOCK_SLOTS)) ⊎ (((offset_of head + 1 == BLOCK_SLOTS) ≡ false) × (offset_of head + 1 ≢ BLOCK_SLOTS)) → Nears (written_found head name st) (2 * LAST + 2)
+    last : (((offset_of head + 1 == BLOCK_SLOTS) ≡ true) × (offset_of head + 1 ≡ BLOCK_SLOTS)) ⊎ (((offset_of head + 1 == BLOCK_SLOTS) ≡ false) × (offset_of head + 1 ≢ BLOCK_SLOTS)) → Nears (written_found head name st) (2 * LAST + 1)
     last (inl e) = rw (written, e.0) (omega arith)
     last (inr e) = rw (written, e.0) (omega arith)
 
@@ -120,7 +120,7 @@ unfolding to_reply
 nears {c = c} {who = who} (following x n name more holds got pass) had a ok found clear =
     let rest = rests_if c.mover (unheld c who (Either (Read n) Head) IsPops Tail clear holds (λ z. elim z [ inl y ↦ absurd (cc) | inr y ↦ absurd (cc) ]) (λ z. z)) in
     let free = unheld c who (Either (Read n) Head) IsPops (cells.Next (n / BLOCK_SLOTS)) clear holds (λ z. elim z [ inl y ↦ absurd (cc) | inr y ↦ absurd (cc) ]) (λ z. z) in
-    rw (found (n / BLOCK_SLOTS) got.named) (subst (λ l. Nears (followed (head_of n more) name (linked_of l (c.names (n / BLOCK_SLOTS + 1)))) (2 * LAST + 6)) (sym (linked_then c who n ok rest free pass)) (omega arith))
+    rw (found (n / BLOCK_SLOTS) got.named) (subst (λ l. Nears (followed (head_of n more) name (linked_of l (c.names (n / BLOCK_SLOTS + 1)))) (2 * LAST + 5)) (sym (linked_then c who n ok rest free pass)) (omega arith))
 nears {c = c} {who = who} (peeking x n name after more holds got pass behind) had a ok found clear = rw (found (n / BLOCK_SLOTS + 1) behind.1) (omega arith)
 nears {c = c} {who = who} (passing x n name after more further holds got pass behind room) had a ok found clear = rw found (omega arith)
 nears {c = c} {who = who} (entering x n name more further holds got enters room) had a ok found clear = rw found (omega arith)
@@ -133,7 +133,7 @@ nears {c = c} {who = who} (reading x n name more holds got wrote inner) had a ok
     let h = found (n / BLOCK_SLOTS) got.named in
     let at : offset_of (head_of n more) ≡ n % BLOCK_SLOTS = head_offset n more in
     let low : offset_of (head_of n more) < LAST = inner_low n (offset_of (head_of n more)) at inner in
-    rw (h.1) (maybe_on_nears (not (bit_and h.0 DESTROY == 0)) name (offset_of (head_of n more)) (2 * (LAST - offset_of (head_of n more)) + 1) low (omega arith))
+    rw (h.1) (maybe_on_nears (not (bit_and h.0 DESTROY == 0)) name (offset_of (head_of n more)) (2 * (LAST - offset_of (head_of n more))) low (omega arith))
 nears {c = c} {who = who} (beginning x n name more holds got wrote last) had a ok found clear =
     let h = found (n / BLOCK_SLOTS) got.named in
     rw (h.1) (walking_nears name 0 h.0 (omega arith))
@@ -142,19 +142,19 @@ nears {c = c} {who = who} (walking x b name slot holds is named) had a ok found 
     rw (h.1) (walking_nears name slot h.0 (last_claimed c who b slot ok is).0)
 nears {c = c} {who = who} (destroying x b name slot holds is named) had a ok found clear =
     let h = found b named in
-    rw (h.1) (maybe_on_nears (not (bit_and h.0 READ == 0)) name slot (2 * (LAST - slot)) (last_claimed c who b slot ok is).0 (omega arith))
+    rw (h.1) (maybe_on_nears (not (bit_and h.0 READ == 0)) name slot (2 * (LAST - slot) - 1) (last_claimed c who b slot ok is).0 (omega arith))
 nears _ had a ok found clear = absurd had
 
-in_bounds : {A : Type 0} {c : Chain A} {who : ℕ} {ms : List (State A)} {k : Stand A} → At c who ms k → HasTake k.effects → ChainOk c → (0 < to_reply k.local) × (to_reply k.local ≤ 2 * LAST + 6)
+in_bounds : {A : Type 0} {c : Chain A} {who : ℕ} {ms : List (State A)} {k : Stand A} → At c who ms k → HasTake k.effects → ChainOk c → (0 < to_reply k.local) × (to_reply k.local ≤ 2 * LAST + 5)
 unfolding to_reply
 in_bounds (following x n name more holds got pass) had ok = (omega arith, omega arith)
 in_bounds (peeking x n name after more holds got pass behind) had ok = (omega arith, omega arith)
 in_bounds (passing x n name after more further holds got pass behind room) had ok = (omega arith, omega arith)
 in_bounds (entering x n name more further holds got enters room) had ok = (omega arith, omega arith)
 in_bounds (awaiting x n name more holds got) had ok = (omega arith, omega arith)
-in_bounds (reading x n name more holds got wrote inner) had ok = (omega arith, omega arith)
+in_bounds (reading x n name more holds got wrote inner) had ok = let low = inner_low n (offset_of (head_of n more)) (head_offset n more) inner in (omega arith, omega arith)
 in_bounds (beginning x n name more holds got wrote last) had ok = (omega arith, omega arith)
-in_bounds (walking x b name slot holds is named) had ok = (omega arith, omega arith)
+in_bounds {c = c} {who = who} (walking x b name slot holds is named) had ok = let low = (last_claimed c who b slot ok is).0 in (omega arith, omega arith)
 in_bounds {c = c} {who = who} (destroying x b name slot holds is named) had ok = let low = (last_claimed c who b slot ok is).0 in (omega arith, omega arith)
 in_bounds _ had ok = absurd had
 
@@ -202,10 +202,10 @@ own_falls {A} busy ok s Q g p x x' o holds f had clear goes =
     let went : next_after Kind.Unbounded ok s x ≡ next_on ok s x = ap (λ l. next_of Kind.Unbounded l a) (is_chain f.here) in
     goes_on (next_on ok s x) (carried_then s x) (to_reply x.local) x' (subst (λ n. running_after n (carried_then s x) ≡ Some x') went goes) near
 
-pub chain_takes : (A : Type 0) → TakesReplyWithin A Kind.Unbounded (2 * BLOCK_SLOTS + 4)
+pub chain_takes : (A : Type 0) → TakesReplyWithin A Kind.Unbounded (2 * BLOCK_SLOTS + 3)
 chain_takes A = takes_reply A Kind.Unbounded (chain_rules A) (record {
   before = to_reply;
-  most = 2 * LAST + 6;
+  most = 2 * LAST + 5;
   Clear = Clear;
   Ready = λ g. g.shown ≡ Seen;
   within = λ busy s Q g p r o holds f had. in_bounds f.here had holds.ok;

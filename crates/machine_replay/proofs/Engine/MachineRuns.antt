@@ -129,11 +129,13 @@ pub machine_run-ends : {T A : Type 0} (c : MachineRun T A) (r : RunEnd T A) (k :
 machine_run-ends {T} c r k parties es ts left peak on =
     let known = machine_run-known k parties es ts c on in
     let here : r.left.items ≡ left_of k (world_of c.machine) = rw on.kind_is at left in
+    let made = run-made k parties es ts c on in
     record {
-      made = (run-made k parties es ts c on).told;
+      made = made.told;
       last = known.so_far.book;
       run = known.so_far.run;
       left = here ∙ so_far-left _ parties es ts (world_of c.machine) c.peak known.so_far;
       peak = rw peak known.so_far.highest;
+      peak_is = peak ∙ made.peak;
       no_blocks = rw peak known.so_far.no_blocks;
     }

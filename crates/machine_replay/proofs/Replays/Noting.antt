@@ -5,7 +5,8 @@ use Rattle.machine_replay.specs.declared.machine_run.MachineRun.{MachineRun}
 use Rattle.machine_replay.specs.declared.machine_run.RunEnd.{RunEnd}
 use Rattle.machine_replay.specs.declared.run.Lists.{Lists}
 use Rattle.machine_replay.specs.Conforms.{Conforms, capacity_of, party_of, entries_from, reply_entry, effect_entry, skipped_entry}
-use Rattle.machine_replay.specs.Played.{IsPlayed}
+use Rattle.machine_replay.specs.Peaks.{peak_of}
+use Rattle.machine_replay.specs.Played.{IsPlayed, as_told}
 use Rattle.machine_steps.specs.Left.{left_of}
 use Rattle.machine_replay.specs.MachineRuns.{Continues, IsMachineRun, IsSomeMachineRun, Leaves}
 use Rattle.machine_steps.specs.Machine.{world_of}
@@ -59,11 +60,11 @@ notes-end k parties events l c r notes leaves =
       peak = ends.peak;
     }
 
--- and its lists are what the events make
-pub notes-played : {T A B : Type 0} (k : Kind) (parties : ℕ) (events : List (Event T)) (l : Lists T A) (c : MachineRun T B) (r : Replay T A) → Notes k parties events l c
+-- and its lists and its peak are what the events make
+pub notes-played : {T A B : Type 0} (k : Kind) (parties : ℕ) (events : List (Event T)) (l : Lists T A) (c : MachineRun T B) (r : Replay T A) (notes : Notes k parties events l c)
     → r.replies.items ≡ l.replies.items → r.effects.items ≡ l.effects.items → r.skipped.items ≡ l.skipped.items → r.left.items ≡ left_of c.machine.kind (world_of c.machine)
-    → IsPlayed k parties events r
-notes-played k parties events l c r notes replies effects skipped left =
+    → r.peak ≡ peak_of k parties (as_told events notes.told) → IsPlayed k parties events r
+notes-played k parties events l c r notes replies effects skipped left peak =
     let all = run-made k parties events notes.told c notes.on in
     let here : r.left.items ≡ left_of k (world_of c.machine) = rw notes.on.kind_is at left in
     record {
@@ -73,4 +74,5 @@ notes-played k parties events l c r notes replies effects skipped left =
       effects = effects ∙ notes.effects;
       skipped = skipped ∙ notes.skipped;
       left = here ∙ ap (λ w. left_of k w) all.world;
+      peak = peak;
     }

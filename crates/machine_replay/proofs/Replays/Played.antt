@@ -9,7 +9,7 @@ use Rattle.machine_replay.specs.declared.machine_run.MachineRun.{MachineRun}
 use Rattle.machine_steps.specs.Left.{opening_world}
 use Rattle.machine_steps.specs.Machine.{CanHandle, event_of, world_of}
 use Rattle.machine_replay.specs.MachineRuns.{Comes, IsMachineRun}
-use Rattle.machine_replay.specs.Peaks.{opening_peak, peaked}
+use Rattle.machine_replay.specs.Peaks.{opening_peak, peak_after, peaked}
 use Rattle.machine_replay.specs.Played.{as_told, asks, event_told, is_request, lacks_memory, told_of, world_after}
 use Rattle.machine_memory.specs.SharedMemory.{Shared, answered, asked, operated}
 use Rattle.machine_steps.specs.Steps.{CanReply, CanStep, after_touch, answer_to, carried_then, reply_after, step_of}
@@ -102,14 +102,15 @@ event-told : {T : Type 0} (k : Kind) (w : World (Shared T) (Running T)) (ok : Bo
 event-told k w ok (Begin p c) can = refl
 event-told k w ok (Step p granted) can = stepped-told k w ok granted p (call_at w p) (λ r is. can (granted && ok) r is)
 
--- what is told of events, and where they lead
-pub record IsMadeFrom {T : Type 0} (k : Kind) (w : World (Shared T) (Running T)) (es : List (Event T)) (ts : List (Told T)) (last : World (Shared T) (Running T)) : Type 0 where
+-- what is told of events, where they lead, and the peak that they come to
+pub record IsMadeFrom {T : Type 0} (k : Kind) (w : World (Shared T) (Running T)) (es : List (Event T)) (ts : List (Told T)) (p : Peak) (last : World (Shared T) (Running T)) (top : Peak) : Type 0 where
   pub told : ts ≡ told_of k w (as_told es ts)
   pub world : last ≡ world_after k w (as_told es ts)
+  pub peak : top ≡ peak_after k w p (as_told es ts)
 
 made_from : {T : Type 0} (k : Kind) (parties : ℕ) (past es : List (Event T)) (told ts : List (Told T)) (w last : World (Shared T) (Running T)) (p top : Peak)
-    → KnownAfter k parties past told w p → Comes k w p es ts last top → IsMadeFrom k w es ts last
-made_from k parties past [] told [] w last p top known comes = record { told = refl; world = comes.0 }
+    → KnownAfter k parties past told w p → Comes k w p es ts last top → IsMadeFrom k w es ts p last top
+made_from k parties past [] told [] w last p top known comes = record { told = refl; world = comes.0; peak = comes.1 }
 made_from {T} k parties past (e ∷ es) told (t ∷ ts) w last p top known comes =
     let made = event_of k comes.0 w e in
     let next = known-more k parties past told w p comes.0 e known in
@@ -118,11 +119,12 @@ made_from {T} k parties past (e ∷ es) told (t ∷ ts) w last p top known comes
     record {
       told = ap (λ x. x ∷ ts) comes.1 ∙ ap (λ l. made.1 ∷ l) rest.told ∙ sym (ap (λ m. m.1 ∷ told_of k m.0 (as_told es ts)) same);
       world = rest.world ∙ sym (ap (λ m. world_after k m.0 (as_told es ts)) same);
+      peak = rest.peak ∙ sym (ap (λ m. peak_after k m.0 (peaked m.0 p) (as_told es ts)) same);
     }
 made_from k parties past [] told (t ∷ ts) w last p top known comes = absurd comes
 made_from k parties past (e ∷ es) told [] w last p top known comes = absurd comes
 
 -- so it is with a run
-pub run-made : {T A : Type 0} (k : Kind) (parties : ℕ) (es : List (Event T)) (ts : List (Told T)) (c : MachineRun T A) → IsMachineRun k parties es ts c → IsMadeFrom k (opening_world k parties) es ts (world_of c.machine)
+pub run-made : {T A : Type 0} (k : Kind) (parties : ℕ) (es : List (Event T)) (ts : List (Told T)) (c : MachineRun T A) → IsMachineRun k parties es ts c → IsMadeFrom k (opening_world k parties) es ts opening_peak (world_of c.machine) c.peak
 run-made k parties es ts c on =
     made_from k parties [] es [] ts (opening_world k parties) (world_of c.machine) opening_peak c.peak (known-first k parties (has_machine k on.can on.small)) on.comes

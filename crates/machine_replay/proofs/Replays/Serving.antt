@@ -4,6 +4,7 @@ use Rattle.std.specs.List.{AllByRecursion}
 use Rattle.machine_steps.specs.Left.{left_of, opening_world}
 use Rattle.machine_replay.specs.Vocabulary.{Event, Told, Begin, Step, Skipped, Ran}
 use Rattle.machine_replay.specs.Conforms.{entries_from, party_of, reply_entry, effect_entry, skipped_entry}
+use Rattle.machine_replay.specs.Peaks.{peak_of}
 use Rattle.machine_replay.specs.Played.{as_told, event_told, is_no_memory, told_of, world_after}
 use Rattle.machine_replay.specs.Served.{IsAsRefused, ServedIsExact}
 
@@ -54,4 +55,5 @@ served_is_exact k parties events r played served =
       effects = played.effects ∙ ap (λ ts. entries_from effect_entry 0 events ts) told;
       skipped = played.skipped ∙ ap (λ ts. entries_from skipped_entry 0 events ts) told;
       left = played.left ∙ ap (λ es. left_of k (world_after k (opening_world k parties) es)) same;
+      peak = played.peak ∙ ap (λ es. peak_of k parties es) same;
     }

@@ -40,7 +40,7 @@ length-items {T} r i = go i.blocks
     go (inl bare) = let unused = bare.unused in let empty : accepted r - taken r ≡ 0 = omega arith in rw empty refl
     go (inr l) = let order = i.order in length-items_from r.pieces (taken r / BLOCK_SLOTS) (taken r) (accepted r - taken r) (λ n from to. l.holds.written n from (omega arith))
 
--- once an item was accepted, the blocks are those from the front's to the last one's
+-- once an item was accepted, the blocks are those from the front's to the one where the next item goes
 pub blocks-are : {T : Type 0} (r : OwnChain T) → IsIdle r → 0 < accepted r → length r.pieces ≡ blocks_of (own_chain_queue r)
 blocks-are {T} r i some = go i.blocks
   where

@@ -20,7 +20,7 @@ const OUTPUT_FAILED: End<'static> = End {
     faults: b"output failed\n",
 };
 
-static TABLES: [Table; 8] = [
+static TABLES: [Table; 9] = [
     // A program that runs the two sides one after the other, on one thread, prints `alone`: the first waits for an item that the second is yet to send.
     Table {
         name: "both_threads_of_a_handshake_get_an_item",
@@ -131,6 +131,18 @@ static TABLES: [Table; 8] = [
                     told: "0 values, each counted 2 times\n",
                 },
             ],
+        ),
+    },
+    // The popper gets more items than 2^16.
+    Table {
+        name: "a_large_share",
+        rows: Rows::Ends(
+            0,
+            &[Row {
+                line: "threads unbounded 2 1 35000",
+                input: UNREAD,
+                told: "35000 values, each counted 2 times\n",
+            }],
         ),
     },
     // No queue has more slots than 2^59.

@@ -23,9 +23,9 @@ fn run<R: Abort + Threads + Wait + Sync + AllocGlobal>(
     let alloc = rt.alloc();
     let args = words(alloc, line).expect(rt, "memory for the arguments");
     match parse_mode(&args) {
-        Ok(Mode::Threads(load)) => threads(rt, alloc, load, limit, output),
-        Ok(Mode::Handshake) => handshake(rt, alloc, limit, output),
-        Ok(Mode::Channel(load)) => channel(rt, alloc, load, limit, output),
+        Some(Mode::Threads(load)) => threads(rt, alloc, load, limit, output),
+        Some(Mode::Handshake) => handshake(rt, alloc, limit, output),
+        Some(Mode::Channel(load)) => channel(rt, alloc, load, limit, output),
         _ => panic!(rt; "a form without threads"),
     }
 }

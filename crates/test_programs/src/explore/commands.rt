@@ -5,7 +5,10 @@ use crate::tables::{Row, Rows, Table, all_tables_end};
 /// A forced push to a full ring of two, beside two `len`s.
 const DISPLACEMENT: &str = "before: push 1; push 2\n0: force 3\n1: len; len\n";
 
-static TABLES: [Table; 5] = [
+/// A push, and three parties that pop.
+const FOUR: &str = "0: push 1\n1: pop\n2: pop\n3: pop\n";
+
+static TABLES: [Table; 7] = [
     Table {
         name: "lists_of_all_outcomes",
         rows: Rows::Ends(
@@ -211,6 +214,64 @@ static TABLES: [Table; 5] = [
                     line: "single lanes 18446744073709551615",
                     input: "0: push 1\n",
                     told: "no outcome 18446744073709551615\n",
+                },
+            ],
+        ),
+    },
+    // Each pop waits at O1 for the push that has not unlocked; pops wait for no pop, and `len` for nobody.
+    Table {
+        name: "waits_of_four_parties",
+        rows: Rows::Ends(
+            0,
+            &[
+                Row {
+                    line: "single waits",
+                    input: FOUR,
+                    told: "wait 1 | 1: pop at O1 | 0: push 1 at P2\nwait 2 | 2: pop at O1 | 0: push 1 at P2\nwait 3 | 3: pop at O1 | 0: push 1 at P2\n3 in all\n",
+                },
+                Row {
+                    line: "single waits 1",
+                    input: FOUR,
+                    told: "1 pop\n0 push 1\n0 step\n",
+                },
+                Row {
+                    line: "single waits 3",
+                    input: FOUR,
+                    told: "3 pop\n0 push 1\n0 step\n",
+                },
+                Row {
+                    line: "bounded:2 waits",
+                    input: "before: push 1; push 2\n0: push 3\n1: pop\n2: len\n3: capacity\n",
+                    told: "wait 1 | 0: push 3 at B5 | 1: pop at O4\n1 in all\n",
+                },
+                // Nobody is half done.
+                Row {
+                    line: "single waits",
+                    input: "0: len\n1: is_full\n2: len\n3: is_closed\n",
+                    told: "0 in all\n",
+                },
+            ],
+        ),
+    },
+    Table {
+        name: "waits_that_are_not_there",
+        rows: Rows::Ends(
+            2,
+            &[
+                Row {
+                    line: "single waits 4",
+                    input: FOUR,
+                    told: "no wait 4\n",
+                },
+                Row {
+                    line: "single waits 18446744073709551615",
+                    input: FOUR,
+                    told: "no wait 18446744073709551615\n",
+                },
+                Row {
+                    line: "single waits 1",
+                    input: "0: len\n1: len\n",
+                    told: "no wait 1\n",
                 },
             ],
         ),

@@ -3,8 +3,8 @@ use crate::asserts::is_so;
 use app_explore::args::{Request, Wanted, parse_request};
 use app_explore::read_faults::{LineFault, ReadFault};
 use app_explore::reading::read_program;
+use app_explore::usage::UsageFault;
 use app_text::args::KindName;
-use app_text::usage::UsageFault;
 use machine_explore::program::Program;
 use std::alloc::Global;
 use std::process::Abort;
@@ -170,10 +170,10 @@ static REQUESTS: [(&str, Result<Request, UsageFault>); 19] = [
     ),
     ("single refuse", Err(UsageFault::Refusal)),
     ("single refuse lanes 1", Err(UsageFault::Refusal)),
-    ("single schedule 0", Err(UsageFault::Outcome)),
+    ("single schedule 0", Err(UsageFault::Number)),
     ("single schedule", Err(UsageFault::WordCount)),
-    ("single lanes 0", Err(UsageFault::Outcome)),
-    ("single lanes 01", Err(UsageFault::Outcome)),
+    ("single lanes 0", Err(UsageFault::Number)),
+    ("single lanes 01", Err(UsageFault::Number)),
     ("single lanes", Err(UsageFault::WordCount)),
     ("single lanes schedule 1", Err(UsageFault::WordCount)),
     ("single lanes 1 schedule 1", Err(UsageFault::WordCount)),

@@ -54,7 +54,7 @@ static TABLES: [Table; 11] = [
     Table {
         name: "nothing_of_the_name",
         rows: Rows::Wrong(
-            "after the kind: refuse, schedule N or lanes N",
+            "after the kind: refuse, schedule N, lanes N or waits [N]",
             &[
                 "single picture 1",
                 "single picture",
@@ -64,15 +64,18 @@ static TABLES: [Table; 11] = [
         ),
     },
     Table {
-        name: "no_such_number_of_an_outcome",
+        name: "no_such_number",
         rows: Rows::Wrong(
-            "outcome: 1 to 18446744073709551615",
+            "number: 1 to 18446744073709551615",
             &[
                 "single schedule 0",
                 "single schedule 01",
                 "single schedule 18446744073709551616",
                 "single lanes 0",
                 "single waits 0",
+                "single waits 01",
+                "single waits one",
+                "unbounded refuse waits 0",
             ],
         ),
     },

@@ -134,17 +134,17 @@ fn busy_beside_a_call_that_is_half_done(rt: HostRuntime) {
 }
 
 /// What the only party of an empty queue tries, and what once the queue is closed.
-struct Alone {
-    name: &'static str,
-    cap: Option<usize>,
+pub(crate) struct Alone {
+    pub(crate) name: &'static str,
+    pub(crate) cap: Option<usize>,
     /// Which request is refused. The first is the constructor's.
-    refusal: Refusal,
-    tried: &'static [Try],
-    closed: &'static [Try],
+    pub(crate) refusal: Refusal,
+    pub(crate) tried: &'static [Try],
+    pub(crate) closed: &'static [Try],
 }
 
 /// Each queue is filled and emptied as by the calls that wait.
-static ALONE: [Alone; 6] = [
+pub(crate) static ALONE: [Alone; 6] = [
     Alone {
         name: "a slot",
         cap: Some(1),

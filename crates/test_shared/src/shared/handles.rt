@@ -12,7 +12,7 @@ use std::sync::Wait;
 pub(crate) type Came = Result<usize, &'static str>;
 
 /// A handle of a queue of this capacity, or without one. Asserts that there is memory.
-fn opened(rt: &impl Abort, alloc: Global, cap: Option<usize>) -> Handle<u64> {
+pub(crate) fn opened(rt: &impl Abort, alloc: Global, cap: Option<usize>) -> Handle<u64> {
     let opened = match cap {
         Some(0) => panic!(rt; "a capacity of 0"),
         Some(slots) => Handle::bounded(alloc, slots),
@@ -55,7 +55,8 @@ fn came_of<R: Wait + Abort>(
     cap: Option<usize>,
     second: End,
 ) -> ([bool; 2], Came) {
-    let Ok((mut one, mut other)) = opened(rt, alloc, cap).split() else {
+    let mut one = opened(rt, alloc, cap);
+    let Ok(mut other) = one.split() else {
         panic!(rt; "no second handle")
     };
     let pushed = [one.push(rt, 1).is_ok(), other.try_push(2).is_ok()];

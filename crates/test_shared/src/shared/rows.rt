@@ -107,7 +107,7 @@ fn each_of_two_parties<R: Wait + Abort>(rt: &R, alloc: Global, stories: &[Duet])
 }
 
 /// The calls of the only party of a slot, what is left, and whether it is closed.
-static ONE_PARTY: [Solo; 4] = [
+pub(crate) static ONE_PARTY: [Solo; 4] = [
     Solo {
         name: "a slot, pushed to while it is full, and closed",
         cap: Some(1),
@@ -183,7 +183,7 @@ fn stories_of_one_party(rt: HostRuntime) {
 }
 
 /// The lines of a story of two parties of a slot, what is left, and whether it is closed.
-static TWO_PARTIES: [Duet; 4] = [
+pub(crate) static TWO_PARTIES: [Duet; 4] = [
     Duet {
         name: "a slot, by force, and closed by the other party",
         cap: Some(1),

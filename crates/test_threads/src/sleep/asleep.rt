@@ -1,17 +1,23 @@
 //! Two threads that take turns, and sleep until the other gives an item: each that is seen asleep before, and as fast as they wake.
 use crate::asserts::is;
 use crate::sleep::watched::Watched;
-use event_count::EventCount;
+use event_count::{EventCount, OwesAll, OwesOne};
 use std::process::Abort;
 use std::sync::Wait;
 use std::sync::atomic::AtomicU64;
 use std::sync::atomic::Ordering::SeqCst;
 use std::thread::{Threads, join};
 
+/// What the thread waits for.
+#[derive(Drop)]
+struct Item {
+    made: (),
+}
+
 /// Items for one thread, which sleeps where there is none.
 #[derive(Drop)]
 struct Post {
-    arrivals: EventCount,
+    arrivals: EventCount<Item>,
     items: AtomicU64,
     taker: Watched,
 }
@@ -29,9 +35,9 @@ impl Post {
     fn give(&self, round: u64) {
         self.items.fetch_add(1, SeqCst);
         if round % 2 == 0 {
-            self.arrivals.notify_one();
+            self.arrivals.notify_one(OwesOne::by(Item { made: () }));
         } else {
-            self.arrivals.notify_all();
+            self.arrivals.notify_all(OwesAll::by(Item { made: () }));
         }
     }
 
@@ -52,10 +58,10 @@ impl Post {
             }
             let ticket = self.arrivals.prepare();
             if self.try_take() {
-                ticket.cancel();
+                ticket.found();
                 return;
             }
-            ticket.wait(rt);
+            ticket.missed(Item { made: () }).wait(rt);
         }
     }
 }

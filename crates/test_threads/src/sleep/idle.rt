@@ -22,6 +22,22 @@ fn an_idle_receiver_takes_no_processor_time(rt: HostRuntime) {
     is_in(&rt, spent, (came, sent, spent <= MOST), (true, true, true));
 }
 
+/// An iterator that waits, and the end that it waits for.
+static ITERATOR: (Sleep, Call) = (
+    Sleep {
+        who: Who::One,
+        call: Call::Items(None, None, None),
+        pause: 1000,
+    },
+    Call::End(true),
+);
+
+#[test]
+fn an_idle_iterator_takes_no_processor_time(rt: HostRuntime) {
+    let (ended, last, spent) = woken(&rt, &rt, rt.alloc(), None, &ITERATOR.0, &ITERATOR.1);
+    is_in(&rt, spent, (ended, last, spent <= MOST), (true, true, true));
+}
+
 /// A sender that waits, and what it waits for.
 static SENDER: (Sleep, Call) = (
     Sleep {
@@ -29,7 +45,7 @@ static SENDER: (Sleep, Call) = (
         call: Call::Send(ITEM, Ok(())),
         pause: 1000,
     },
-    Call::Recv(Ok(0)),
+    Call::Recv(Ok(ITEM)),
 );
 
 #[test]

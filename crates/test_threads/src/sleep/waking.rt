@@ -20,8 +20,10 @@ pub(crate) const ITEM: u64 = 7;
 pub(crate) enum Who {
     /// The only end of a side sleeps, and that of the other side wakes it.
     One,
-    /// Two ends of a side sleep, and the only end of the other side wakes them.
+    /// Two ends of a side sleep, and a call of the only end of the other side wakes both.
     Two,
+    /// The same, but that end calls twice, and each of its calls wakes one.
+    Each,
     /// Of two ends of a side one sleeps, and the other wakes it.
     OneOfTwo,
 }
@@ -56,25 +58,41 @@ fn call_once<E: AnyEnd, R: Wait + Abort>(
     (right, time(rt, host, OWN).wrapping_sub(before))
 }
 
+/// Makes a call, which may end the end. Gives whether it is answered so.
+pub(crate) fn is_done<E: AnyEnd, R: Wait>(
+    rt: &R,
+    channel: &Channel<u64>,
+    mut end: E,
+    call: &Call,
+    twice: bool,
+) -> bool
+    requires { IsEndOf (E.end end) channel.now }
+{
+    match call {
+        Call::End(last) => end.leave(channel).1 == *last,
+        _ => {
+            let right = end.is_answered(rt, channel, call);
+            right && (!twice || end.is_answered(rt, channel, call))
+        }
+    }
+}
+
 /// Makes the call that wakes, once the other end is seen asleep. Gives whether it was, and the call is answered so.
 fn wake<E: AnyEnd, R: Wait + Abort>(
     rt: &R,
     host: &HostRuntime,
     channel: &Channel<u64>,
-    mut end: E,
+    end: E,
     call: &Call,
-    pause: u64,
+    slept: &Sleep,
     watched: &Watched,
 ) -> bool
     requires { IsEndOf (E.end end) channel.now }
 {
     let asleep = watched.is_seen_asleep(rt, host);
-    sleep(host, Duration::from_millis(pause));
-    let right = match call {
-        Call::End(last) => end.leave(channel).1 == *last,
-        _ => end.is_answered(rt, channel, call),
-    };
-    asleep && right
+    sleep(host, Duration::from_millis(slept.pause));
+    let twice = matches!(slept.who, Who::Each);
+    is_done(rt, channel, end, call, twice) && asleep
 }
 
 /// An end sleeps, and another one wakes it.
@@ -97,7 +115,7 @@ fn one_sleeps<S: AnyEnd, W: AnyEnd, R: Threads + Wait + Abort + Sync>(
         { call_once(rt, host, channel, sleeper, &slept.call, &watched) },
         || -> bool
             requires { IsEndOf (W.end waker) channel.now }
-        { wake(rt, host, channel, waker, wakes, slept.pause, &watched) },
+        { wake(rt, host, channel, waker, wakes, slept, &watched) },
     );
     (answered, woke, spent)
 }
@@ -160,7 +178,7 @@ fn apart<S: AnyEnd, W: AnyEnd, R: Threads + Wait + Abort + Sync>(
 {
     match &slept.who {
         Who::One => one_sleeps(rt, host, channel, slept, sleeper, waker, wakes),
-        Who::Two => {
+        Who::Two | Who::Each => {
             let (one, two) = sleeper.two(rt, channel);
             two_sleep(rt, host, channel, slept, one, two, waker, wakes)
         }
@@ -171,13 +189,13 @@ fn apart<S: AnyEnd, W: AnyEnd, R: Threads + Wait + Abort + Sync>(
     }
 }
 
-/// Sends 0, 1, .. until a channel of one to three items has no room.
-fn fill<R: Wait>(rt: &R, channel: &Channel<u64>, sender: &mut Sender<u64>)
+/// Sends items until a channel of one to three has no room.
+pub(crate) fn fill<R: Wait>(rt: &R, channel: &Channel<u64>, sender: &mut Sender<u64>)
     requires { IsEndOf sender.old channel.now }
     ensures { IsEndOf sender.new channel.now }
 {
-    for item in 0..3u64 {
-        let _sent = channel.try_send(rt, sender, item);
+    for _ in 0..3 {
+        let _sent = channel.try_send(rt, sender, ITEM);
     }
 }
 
@@ -248,7 +266,7 @@ static SENDER: Waking = Waking {
         pause: 0,
     },
     caps: &[Some(1), Some(3)],
-    wakes: &[Call::Recv(Ok(0)), Call::TryRecv(Ok(0))],
+    wakes: &[Call::Recv(Ok(ITEM)), Call::TryRecv(Ok(ITEM))],
 };
 
 #[test]
@@ -313,5 +331,57 @@ static ONE_OF_TWO: [Waking; 2] = [
 fn an_end_that_closes_wakes_another_of_its_side(rt: HostRuntime) {
     for waking in &ONE_OF_TWO {
         each_wakes(&rt, &rt, rt.alloc(), waking);
+    }
+}
+
+static EACH_RECEIVER: Waking = Waking {
+    slept: Sleep {
+        who: Who::Each,
+        call: Call::Recv(Ok(ITEM)),
+        pause: 0,
+    },
+    caps: &[Some(2), None],
+    wakes: &[
+        Call::Send(ITEM, Ok(())),
+        Call::TrySend(ITEM, Ok(())),
+        Call::ForceSend(ITEM, Ok(None)),
+    ],
+};
+
+#[test]
+fn two_items_wake_two_receivers(rt: HostRuntime) {
+    each_wakes(&rt, &rt, rt.alloc(), &EACH_RECEIVER);
+}
+
+static EACH_SENDER: Waking = Waking {
+    slept: Sleep {
+        who: Who::Each,
+        call: Call::Send(ITEM, Ok(())),
+        pause: 0,
+    },
+    caps: &[Some(2), Some(3)],
+    wakes: &[Call::Recv(Ok(ITEM)), Call::TryRecv(Ok(ITEM))],
+};
+
+#[test]
+fn two_places_wake_two_senders(rt: HostRuntime) {
+    each_wakes(&rt, &rt, rt.alloc(), &EACH_SENDER);
+}
+
+/// The receiver sleeps too, while a sender sleeps.
+static AT_A_SLOT: Waking = Waking {
+    slept: Sleep {
+        who: Who::Two,
+        call: Call::Send(ITEM, Ok(())),
+        pause: 0,
+    },
+    caps: &[Some(1)],
+    wakes: &[Call::Items(Some(ITEM), Some(ITEM), Some(ITEM))],
+};
+
+#[test]
+fn two_senders_and_their_receiver_wake_each_other(rt: HostRuntime) {
+    for _ in 0..20 {
+        each_wakes(&rt, &rt, rt.alloc(), &AT_A_SLOT);
     }
 }

@@ -73,6 +73,14 @@ pub(crate) fn time(rt: &impl Abort, host: &HostRuntime, path: &str) -> u64 {
     field(&text, 13).wrapping_add(field(&text, 14))
 }
 
+/// How many threads this process has, or more than there may be where that cannot be read.
+pub(crate) fn threads(host: &HostRuntime) -> u64 {
+    match fs::read_to_string(host, PROCESS) {
+        Ok(text) => field(&text, 19),
+        Err(_) => u64::MAX,
+    }
+}
+
 /// A text of the system. Asserts that it can be read.
 fn read(rt: &impl Abort, host: &HostRuntime, path: &str) -> String {
     match fs::read_to_string(host, path) {

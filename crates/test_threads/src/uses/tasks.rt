@@ -1,6 +1,6 @@
-//! Tasks that workers share come to what each comes to alone, in as many steps, and workers that have none sleep.
+//! Tasks that workers share come to what each comes to alone, in as many steps, and workers that find none end.
 use crate::asserts::{is, is_in};
-use crate::sleep::watched::{PROCESS, time};
+use crate::sleep::watched::{PROCESS, threads, time};
 use std::alloc::Global;
 use std::process::Abort;
 use std::sync::Wait;
@@ -20,8 +20,12 @@ enum Does {
     Meets(u64),
     /// Its one step ends once the steps of so many are in progress, or after a while. Those that met are counted.
     Blocks(u64),
-    /// It sleeps for 10 milliseconds in each of so many steps, which are counted.
+    /// The first has so many steps, and each other one. All are counted.
+    Lasts(u64),
+    /// The first sleeps for 10 milliseconds in each of so many steps, and each other has one step. All are counted.
     Sleeps(u64),
+    /// It sleeps for 10 milliseconds in each of five steps. Those are counted that see more threads than so many.
+    Watches(u64),
 }
 
 /// What the tasks of a test share.
@@ -56,6 +60,11 @@ impl<'h> Board<'h> {
         self.counted.fetch_add(1, Ordering::SeqCst);
     }
 
+    /// Sleeps for 10 milliseconds.
+    fn pause(&self) {
+        sleep(self.host, Duration::from_millis(10));
+    }
+
     /// Waits until the steps of so many are in progress, though not for ever.
     fn block(&self, all: u64) {
         let before = self.came.fetch_add(1, Ordering::SeqCst);
@@ -84,10 +93,24 @@ impl<'h> Board<'h> {
                 self.block(all);
                 true
             }
+            Does::Lasts(steps) => {
+                self.add();
+                number > 0 || before.wrapping_add(1) == steps
+            }
             Does::Sleeps(steps) => {
                 self.add();
-                sleep(self.host, Duration::from_millis(10));
+                if number > 0 {
+                    return true;
+                }
+                self.pause();
                 before.wrapping_add(1) == steps
+            }
+            Does::Watches(most) => {
+                if threads(self.host) > most {
+                    self.add();
+                }
+                self.pause();
+                before == 4
             }
         }
     }
@@ -205,6 +228,12 @@ fn each_output_is_its_tasks_own(rt: HostRuntime) {
         (3000, 5, 4),
         (7, 5000, 3),
         (100, 60, 40),
+        (3, 2000, 100),
+        (100, 60, 0),
+        (100, 60, 20_000),
+        (100, 60, 100_000),
+        (100, 60, 3_000_000),
+        (3000, 5, 3_000_000),
     ] {
         let found = worked(&rt, &rt, rt.alloc(), Does::Counts(most), count, workers);
         let wanted = (Ok(true), all_steps(count, most), 0);
@@ -229,13 +258,39 @@ fn each_worker_steps_a_task_at_the_same_time(rt: HostRuntime) {
     }
 }
 
+/// Of 64 workers there are only as many as tasks.
+#[test]
+fn no_thread_is_started_without_a_task(rt: HostRuntime) {
+    let before = threads(&rt);
+    for count in [1, 2, 4] {
+        let most = before.wrapping_add(count).wrapping_sub(1);
+        let found = worked(&rt, &rt, rt.alloc(), Does::Watches(most), count, 64);
+        is_in(&rt, count, found, (Ok(true), 0, 0));
+    }
+}
+
+/// One task has very many steps, and each other has one: soon one worker steps that task, and puts it back as often.
+#[test]
+fn a_long_task_is_done_beside_short_ones(rt: HostRuntime) {
+    for (steps, count, workers) in [
+        (2_000u64, 1, 8),
+        (50_000, 8, 8),
+        (2_000, 100, 4),
+        (2_000, 100, 20_000),
+    ] {
+        let found = worked(&rt, &rt, rt.alloc(), Does::Lasts(steps), count, workers);
+        let all = steps.wrapping_add(count).wrapping_sub(1);
+        is_in(&rt, (steps, count, workers), found, (Ok(true), all, 0));
+    }
+}
+
 /// Of eight workers seven have no task for a second. They take next to no time.
 #[test]
-fn workers_without_a_task_sleep(rt: HostRuntime) {
+fn workers_without_a_task_take_no_time(rt: HostRuntime) {
     let before = time(&rt, &rt, PROCESS);
-    let found = worked(&rt, &rt, rt.alloc(), Does::Sleeps(100), 1, 8);
+    let found = worked(&rt, &rt, rt.alloc(), Does::Sleeps(100), 8, 8);
     let took = time(&rt, &rt, PROCESS).wrapping_sub(before);
-    is_in(&rt, took, (found, took <= 10), ((Ok(true), 100, 0), true));
+    is_in(&rt, took, (found, took <= 10), ((Ok(true), 107, 0), true));
 }
 
 /// What comes of 20 tasks where this request is refused, which is not the first, in which the tasks lie: whether all are right or come back, whether one was stepped, and whether it was refused and all memory was given back.

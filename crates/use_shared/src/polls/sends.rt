@@ -4,7 +4,7 @@ ghost use Rattle.std.specs.ControlFlow.{MatchControlFlow};
 ghost use Rattle.concurrent_queue.specs.Shared.{IsPartyOf};
 ghost use Rattle.use_shared.specs.Places.{IsAt};
 
-use crate::polls::turns::{PollState, Queue, turn};
+use crate::polls::turns::{CALLS, PollState, Queue, turn};
 use concurrent_queue::model::{Call, Reply};
 use concurrent_queue::{Party, PushError};
 use futures::Future;
@@ -58,6 +58,30 @@ fn send<'a>(
     }
 }
 
+/// Pushes these values until one has to wait for room, the queue is closed, or it has pushed often enough for one poll. Gives the values that are left, or the party once the queue is closed.
+fn send_some<'a>(
+    queue: &Queue,
+    state: PollState,
+    values: &'a [u64],
+) -> ControlFlow<Party<u64>, (PollState, &'a [u64])>
+    requires { IsAt state queue.now }
+    ensures { MatchControlFlow result (λ r. IsAt r.0 queue.now) (λ party. IsPartyOf party queue.now) }
+{
+    let (mut state, mut values) = (state, values);
+    for _ in 0..CALLS {
+        match send(queue, state, values) {
+            ControlFlow::Break(party) => return ControlFlow::Break(party),
+            ControlFlow::Continue((next, rest)) => {
+                if rest.len() == values.len() {
+                    return ControlFlow::Continue((next, rest));
+                }
+                (state, values) = (next, rest);
+            }
+        }
+    }
+    ControlFlow::Continue((state, values))
+}
+
 impl Future for Sends<'_> {
     type Output = Party<u64>;
 
@@ -65,12 +89,12 @@ impl Future for Sends<'_> {
 
     ghost gives = { λ sends party. IsPartyOf party sends.queue.now };
 
-    /// Takes one turn. No other call wakes it, so it asks to be polled again.
+    /// Makes pushes. No other call wakes it, so it asks to be polled again.
     fn poll(&mut self, cx: &mut Context<'_>) -> Poll<Party<u64>> {
         let Some(state) = self.state.take() else {
             unreachable!()
         };
-        match send(self.queue, state, self.values) {
+        match send_some(self.queue, state, self.values) {
             ControlFlow::Break(party) => Poll::Ready(party),
             ControlFlow::Continue((state, values)) => {
                 self.state = Some(state);

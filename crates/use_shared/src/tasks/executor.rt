@@ -1,19 +1,14 @@
 //! What workers share, and what each of them does.
 ghost use Rattle.std.specs.Prelude.{◌≡◌, ◌<◌, ◌==◌, ℕ, length, map, IfOk, IfNone, MatchResult};
 ghost use Rattle.std.specs.List.{count_by};
-ghost use Rattle.law_parties.specs.Doings.{SawDrained};
-ghost use Rattle.use_shared.specs.Sharing.{IsWorkerOf, IsFresh, Moves, IsShift, IsDone, AreParts, AreJoined, none, one, below, taken};
+ghost use Rattle.use_shared.specs.Sharing.{IsWorkerOf, IsFresh, Moves, SeesNone, IsDone, AreParts, AreJoined, none, one, below, taken};
 ghost use denote.Param.Send.{IsSync};
 
 use crate::tasks::numbered::{Batch, Finished, Numbered, Running};
 use crate::tasks::stepped::{Step, Task};
-use concurrent_queue::{ConcurrentQueue, Exclusive, NullTestable, Party, PopError};
-use crossbeam_utils::Backoff;
-use event_count::EventCount;
+use concurrent_queue::{ConcurrentQueue, Exclusive, NullTestable, Party};
 use std::alloc::{AllocError, Allocator};
 use std::sync::Wait;
-use std::sync::atomic::AtomicU64;
-use std::sync::atomic::Ordering::SeqCst;
 use std::thread::{Threads, join};
 
 /// A queue of tasks that are not done, and one of those that are. Each has room for all.
@@ -21,10 +16,6 @@ use std::thread::{Threads, join};
 pub(crate) struct Executor<T, D, A: Allocator> {
     tasks: ConcurrentQueue<T, A>,
     outputs: ConcurrentQueue<D, A>,
-    /// Who finds no task waits for this.
-    awaited: EventCount,
-    /// How many tasks are not done. It decides when the queue of tasks is closed, and no contract rests on it.
-    undone: AtomicU64,
 }
 
 /// A worker has a party of either queue.
@@ -48,12 +39,7 @@ pub(crate) fn open<T: Drop + Send, D: Drop + Send, A: Allocator + Clone>(
 {
     let (tasks, tasks_party) = ConcurrentQueue::bounded(alloc.clone()?, count)?;
     let (outputs, outputs_party) = ConcurrentQueue::bounded(alloc.clone()?, count)?;
-    let executor = Executor {
-        tasks,
-        outputs,
-        awaited: EventCount::new(),
-        undone: AtomicU64::new(count as u64),
-    };
+    let executor = Executor { tasks, outputs };
     let worker = Worker {
         tasks: tasks_party,
         outputs: outputs_party,
@@ -91,24 +77,21 @@ impl<K: Batch<T::Output>, T: Task, A: NullTestable> Executor<Running<K, T>, Fini
     {
         worker.tasks.show_view();
         worker.outputs.show_view();
-        let Executor {
-            tasks: _,
-            outputs,
-            awaited: _,
-            undone: _,
-        } = self;
-        match outputs.finish(worker.outputs) {
-            Ok(queue) => {
-                queue.show_sound();
-                queue
-            }
-            Err(_) => unreachable!(),
-        }
+        let Executor { tasks, outputs } = self;
+        let Ok(tasks) = tasks.finish(worker.tasks) else {
+            unreachable!()
+        };
+        let Ok(outputs) = outputs.finish(worker.outputs) else {
+            unreachable!()
+        };
+        tasks.show_sound();
+        outputs.show_sound();
+        outputs
     }
 }
 
 impl<W: Numbered, A: NullTestable> Executor<W, W::Finished, A> {
-    /// Puts a task into the queue. Where that refuses it, which it does not while it is open, the task is stepped here.
+    /// Puts a task into the queue. Where that refuses it, which it does not, as it has room for all and is open, the task is stepped here.
     fn put<R: Wait>(&self, rt: &R, worker: &mut Worker<W, W::Finished>, task: W)
         requires of { IsWorkerOf worker.old self.now }
         ensures { Moves W.number W.finished_number worker.old worker.new (one (W.number task)) none }
@@ -117,10 +100,7 @@ impl<W: Numbered, A: NullTestable> Executor<W, W::Finished, A> {
         for _ in rt.forever() {
             worker.tasks.show_view();
             match self.tasks.push(rt, &mut worker.tasks, task) {
-                Ok(()) => {
-                    self.awaited.notify_one();
-                    return;
-                }
+                Ok(()) => return,
                 Err(why) => match why.into_inner().step() {
                     Step::More(next) => task = next,
                     Step::Done(finished) => {
@@ -133,7 +113,7 @@ impl<W: Numbered, A: NullTestable> Executor<W, W::Finished, A> {
         unreachable!()
     }
 
-    /// Hands in an output. Who hands in the last one closes the queue of tasks.
+    /// Hands in an output.
     fn hand_in<R: Wait>(&self, rt: &R, worker: &mut Worker<W, W::Finished>, finished: W::Finished)
         requires of { IsWorkerOf worker.old self.now }
         ensures { Moves W.number W.finished_number worker.old worker.new (one (W.finished_number finished)) none }
@@ -142,87 +122,46 @@ impl<W: Numbered, A: NullTestable> Executor<W, W::Finished, A> {
         for _ in rt.forever() {
             worker.outputs.show_view();
             match self.outputs.push(rt, &mut worker.outputs, finished) {
-                Ok(()) => {
-                    self.count_down(worker);
-                    return;
-                }
+                Ok(()) => return,
                 Err(why) => finished = why.into_inner(),
             }
         }
         unreachable!()
     }
 
-    /// One task less is to be done.
-    fn count_down(&self, worker: &mut Worker<W, W::Finished>)
-        requires of { IsWorkerOf worker.old self.now }
-        ensures { Moves W.number W.finished_number worker.old worker.new none none }
-    {
-        if self.undone.fetch_sub(1, SeqCst) == 1 {
-            self.close(worker);
-        }
-    }
-
-    /// Closes the queue of tasks, and wakes who waits for one.
-    fn close(&self, worker: &mut Worker<W, W::Finished>)
-        requires of { IsWorkerOf worker.old self.now }
-        ensures { Moves W.number W.finished_number worker.old worker.new none none }
-    {
-        worker.tasks.show_view();
-        self.tasks.close(&mut worker.tasks);
-        self.awaited.notify_all();
-    }
-
-    /// Takes the next task. Where there is none it waits for one; it gives none where all are done.
+    /// Takes the next task, if there is one.
     fn take<R: Wait>(&self, rt: &R, worker: &mut Worker<W, W::Finished>) -> Option<W>
         requires of { IsWorkerOf worker.old self.now }
         ensures moved { Moves W.number W.finished_number worker.old worker.new none (taken W.number result) }
-        ensures drained { IfNone result (SawDrained worker.new.tasks) }
+        ensures last { IfNone result (SeesNone worker.new.tasks) }
     {
-        let backoff = Backoff::new();
-        for _ in rt.forever() {
-            worker.tasks.show_view();
-            match self.tasks.pop(rt, &mut worker.tasks) {
-                Ok(task) => return Some(task),
-                Err(PopError::Closed) => return None,
-                Err(PopError::Empty) => self.pause(rt, worker, &backoff),
-            }
-        }
-        unreachable!()
-    }
-
-    /// Gives way to other threads, or sleeps, while there is no task.
-    fn pause<R: Wait>(&self, rt: &R, worker: &mut Worker<W, W::Finished>, backoff: &Backoff)
-        requires of { IsWorkerOf worker.old self.now }
-        ensures { Moves W.number W.finished_number worker.old worker.new none none }
-    {
-        if !backoff.is_completed() {
-            backoff.snooze();
-            return;
-        }
-        let ticket = self.awaited.prepare();
-        if self.may_come(worker) {
-            ticket.wait(rt);
-        } else {
-            ticket.cancel();
+        worker.tasks.show_view();
+        match self.tasks.pop(rt, &mut worker.tasks) {
+            Ok(task) => Some(task),
+            Err(_) => None,
         }
     }
 
-    /// Whether there is no task, and one may still come.
-    fn may_come(&self, worker: &mut Worker<W, W::Finished>) -> bool
+    /// Whether there is no task in the queue.
+    fn has_no_task(&self, worker: &mut Worker<W, W::Finished>) -> bool
         requires of { IsWorkerOf worker.old self.now }
         ensures { Moves W.number W.finished_number worker.old worker.new none none }
     {
         worker.tasks.show_view();
-        let empty = self.tasks.is_empty(&mut worker.tasks);
-        worker.tasks.show_view();
-        let closed = self.tasks.is_closed(&mut worker.tasks);
-        empty && !closed
+        self.tasks.is_empty(&mut worker.tasks)
     }
 
-    /// Steps tasks until all are done.
-    fn work<R: Wait>(&self, rt: &R, worker: Worker<W, W::Finished>) -> Worker<W, W::Finished>
+    /// Takes tasks, steps each once, and puts it back or hands in its output, until the queue of tasks is found empty.
+    ///
+    /// Then each task that is not done is with another worker, who goes on with it: there is no use for this one any more.
+    pub(crate) fn work<R: Wait>(
+        &self,
+        rt: &R,
+        worker: Worker<W, W::Finished>,
+    ) -> Worker<W, W::Finished>
         requires of { IsWorkerOf worker self.now }
-        ensures { IsShift W.number W.finished_number worker result }
+        ensures moved { Moves W.number W.finished_number worker result none none }
+        ensures last { SeesNone result.tasks }
     {
         let mut worker = worker;
         for _ in rt.forever() {
@@ -288,7 +227,7 @@ impl<W: Numbered, A: NullTestable> Executor<W, W::Finished, A> {
     }
 }
 
-/// Runs so many workers, each but one in a thread of its own, and joins them. Where no further worker can be had, there are fewer.
+/// Runs so many workers, each but one in a thread of its own where one can be made, and joins them. Where no task is in the queue, or no further worker can be had, there are fewer.
 pub(crate) fn run_workers<W: Numbered, A: NullTestable + Send + Sync, R: Threads + Wait + Sync>(
     rt: &R,
     executor: &Executor<W, W::Finished, A>,
@@ -296,26 +235,32 @@ pub(crate) fn run_workers<W: Numbered, A: NullTestable + Send + Sync, R: Threads
     count: u64,
 ) -> Worker<W, W::Finished>
     requires of { IsWorkerOf worker executor.now }
-    ensures { IsShift W.number W.finished_number worker result }
+    ensures { Moves W.number W.finished_number worker result none none }
 {
     if count <= 1 {
         return executor.work(rt, worker);
     }
+    let mut worker = worker;
+    if executor.has_no_task(&mut worker) {
+        return worker;
+    }
+    let half = count / 2;
+    let rest = count - half;
     match executor.split(worker) {
         Err(worker) => executor.work(rt, worker),
         Ok((ours, theirs)) => {
             let (theirs, ours) = join(
                 rt,
                 || -> Worker<W, W::Finished>
+                    requires sync { IsSync R.row }
                     requires of { IsWorkerOf theirs executor.now }
-                    ensures { IsShift W.number W.finished_number theirs result }
-                { executor.work(rt, theirs) },
+                    ensures { Moves W.number W.finished_number theirs result none none }
+                { run_workers(rt, executor, theirs, half) },
                 || -> Worker<W, W::Finished>
                     requires sync { IsSync R.row }
                     requires of { IsWorkerOf ours executor.now }
-                    requires more { 1 < count }
-                    ensures { IsShift W.number W.finished_number ours result }
-                { run_workers(rt, executor, ours, count - 1) },
+                    ensures { Moves W.number W.finished_number ours result none none }
+                { run_workers(rt, executor, ours, rest) },
             );
             executor.join(ours, theirs)
         }

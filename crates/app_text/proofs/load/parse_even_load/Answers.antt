@@ -7,4 +7,4 @@ returns-then-load-ne0 c =
     let load = c.in_ok-load.load in
     let is = c.in_ok-load.ensures in
     let odd = c.if-load-ne0.true in
-    ((λ l even same. uneven load is.0 odd l even (same ∙ sym is.1)), (load, is.0, is.1, odd))
+    λ l even same. uneven load is.0 odd l even (same ∙ sym is.1)

@@ -67,7 +67,9 @@ returns-clause-played g c =
     let t = YieldsList-end (YieldsList-from_vec c.args.events.items it.0 (it.1 ∙ c.args.events.ok.0)) c.loop-event.yielded c.loop-event.event-iterator c.loop-event.yielded_by c.next.result c.next.new.self c.in-None.is c.next.ensures.steps in
     let all : c.loop-event.yielded ≡ c.args.events.items = sym (map-id c.loop-event.yielded) ∙ t.0 in
     let told : Replay g.row.T.Denot g.row.A.Denot = record { replies = c.loop-event.lists.replies; effects = c.loop-event.lists.effects; skipped = c.loop-event.lists.skipped; left = c.end_in-left.result.left; peak = c.end_in-left.result.peak } in
-    rw (← all) (notes-played c.args.kind c.args.parties c.loop-event.yielded c.loop-event.lists c.loop-event.run told c.loop-event.invariant.notes refl refl refl c.end_in-left.ensures.left)
+    let notes = c.loop-event.invariant.notes in
+    let peak = (c.end_in-left.ensures.leaves c.args.kind c.args.parties c.loop-event.yielded notes.told notes.on).peak_is in
+    rw (← all) (notes-played c.args.kind c.args.parties c.loop-event.yielded c.loop-event.lists c.loop-event.run told notes refl refl refl c.end_in-left.ensures.left peak)
 
 pub returns-clause-alone : goal.returns-clause-alone
 returns-clause-alone g c =

@@ -1,6 +1,7 @@
 use Rattle.std.proofs.Common.{ℕ, length, replicate, Some, None, ap, sym, subst, ◌∙◌, arith}
 use Rattle.std.proofs.lemmas.List.{length-map}
-use Rattle.use_shared.specs.Sharing.{IsDone}
+use Rattle.use_shared.specs.Sharing.{none, IsDone}
+use Rattle.use_shared.proofs.Moving.{then}
 use Rattle.use_shared.proofs.Shifts.{all_done}
 use Rattle.use_shared.proofs.Places.{all_full, same_contents}
 use Rattle.use_shared.proofs.tasks.run_batch.Goals as goal
@@ -17,16 +18,22 @@ start-requires-clause-batch g c = λ κs outlive. c.requires
 pub run_workers-worker-requires-clause-of : goal.run_workers-worker-requires-clause-of
 run_workers-worker-requires-clause-of g c = λ κs outlive. let of = c.in-Ok-open.ensures.0 in let begun = c.start.ensures.queues in (begun.0 ∙ of.0, begun.1 ∙ of.1)
 
+pub work-worker-requires-clause-of : goal.work-worker-requires-clause-of
+work-worker-requires-clause-of g c = λ κs outlive.
+    let of = c.in-Ok-open.ensures.0 in let begun = c.start.ensures.queues in let ran = c.run_workers-worker.ensures.queues in (ran.0 ∙ (begun.0 ∙ of.0), ran.1 ∙ (begun.1 ∙ of.1))
+
 pub finish-requires-clause-of : goal.finish-requires-clause-of
 finish-requires-clause-of g c = λ κs outlive.
-    let of = c.in-Ok-open.ensures.0 in let begun = c.start.ensures.queues in let done = c.run_workers-worker.ensures.0.queues in (done.0 ∙ (begun.0 ∙ of.0), done.1 ∙ (begun.1 ∙ of.1))
+    let of = c.in-Ok-open.ensures.0 in let begun = c.start.ensures.queues in let ran = c.run_workers-worker.ensures.queues in let last = c.work-worker.ensures.moved.queues in
+    (last.0 ∙ (ran.0 ∙ (begun.0 ∙ of.0)), last.1 ∙ (ran.1 ∙ (begun.1 ∙ of.1)))
 
 pub finish-requires-clause-done : goal.finish-requires-clause-done
 finish-requires-clause-done g c = λ κs outlive.
-    let last = c.run_workers-worker.result in
+    let ran = c.run_workers-worker.result in let last = c.work-worker.result in
     let count = sym (length-map c.args.tasks.items g.T.Task.outcome) ∙ ap length c.requires in
+    let shifts = then (λ t. t.number) (λ d. d.number) c.start.new.worker ran last none none c.run_workers-worker.ensures c.work-worker.ensures.moved in
     subst {A = ℕ} (λ n. IsDone (λ t. t.number) (λ d. d.number) n last) count
-    (all_done (λ t. t.number) (λ d. d.number) (length c.args.tasks.items) c.in-Ok-open.worker c.start.new.worker last c.in-Ok-open.ensures.1 c.start.ensures c.run_workers-worker.ensures)
+    (all_done (λ t. t.number) (λ d. d.number) (length c.args.tasks.items) c.in-Ok-open.worker c.start.new.worker last c.in-Ok-open.ensures.1 c.start.ensures shifts c.work-worker.ensures.last)
 
 pub place-requires-clause-places : goal.place-requires-clause-places
 place-requires-clause-places g c = λ κs outlive.

@@ -1,9 +1,10 @@
 use Rattle.std.proofs.Common.{◌∙◌}
-use Rattle.use_shared.proofs.Moving.{stepped, then_shift}
+use Rattle.use_shared.specs.Sharing.{none}
+use Rattle.use_shared.proofs.Moving.{stepped, then}
 use Rattle.use_shared.proofs.tasks.executor.Executor+W+W+Finished+A.work.Goals as goal
 
-pub returns-in_default : goal.returns-in_default
-returns-in_default g c = let last = c.in_default.ensures in then_shift g.W.Numbered.number g.W.Numbered.finished_number c.args.worker c.loop.worker c.take.new.worker c.loop.invariant (last.moved, last.drained)
+pub returns-in_default-clause-moved : goal.returns-in_default-clause-moved
+returns-in_default-clause-moved g c = then g.W.Numbered.number g.W.Numbered.finished_number c.args.worker c.loop.worker c.take.new.worker none none c.loop.invariant c.in_default.ensures.moved
 
 pub loop-preserved-in-More : goal.loop-preserved-in-More
 loop-preserved-in-More g c =

@@ -1,0 +1,103 @@
+# Our tests, and those of the crate concurrent-queue. To be sourced; wants tools/library.sh and tools/build.sh.
+
+# NAME ARG..: runs cargo's tests, and shows how many passed.
+cargo_tests() {
+    local name=$1
+    shift
+    if try "$name" cargo test --offline --release --quiet "$@"; then
+        echo "$name: $(sed -n 's/^test result: ok. \([0-9]*\) passed.*/\1/p' "$work/log" | paste -sd+ | bc) passed"
+    fi
+}
+
+# The drop-in with that crate's tests in the place of ours.
+put_their_tests() {
+    cp -r "$here/rust" "$work/theirs"
+    cd "$work/theirs"
+    rm tests/*.rs
+    cp "$reference"/tests/*.rs tests/
+    # It tries the crate's own steps, by a model of memory.
+    rm -f tests/loom.rs
+}
+
+# FILE: that crate's tests over a wrong library. Each test is run by itself, since it may never end.
+try_wrong() {
+    local name=$(basename "$1" .c) file test code fail=0
+    [ -d "$work/theirs" ] || put_their_tests
+    QUEUE_C=$(wrong_library "$1")
+    export QUEUE_C CARGO_PROFILE_RELEASE_LTO=off
+    for file in tests/*.rs; do
+        file=$(basename "$file" .rs)
+        for test in $(cargo test --offline --release --quiet --test "$file" -- --list 2>"$work/log" | sed -n 's/: test$//p'); do
+            code=0
+            timeout 20 cargo test --offline --release --quiet --test "$file" -- --exact "$test" >"$work/log" 2>&1 || code=$?
+            case $code in
+                0) ;;
+                124) echo "wrong/$name.c: tests/$file.rs, $test does not end within 20 seconds" ;;
+                *)
+                    echo "wrong/$name.c: tests/$file.rs, $test fails"
+                    fail=$((fail + 1))
+                    ;;
+            esac
+        done
+    done
+    if [ "$fail" = 0 ]; then
+        echo "wrong/$name.c: no test fails"
+        failed=$((failed + 1))
+    fi
+}
+
+check_c() {
+    local sanitize="-O1 -g -fsanitize=address,undefined -fno-sanitize-recover=all"
+    if try "c/test.c" make -s -C c test OUT="$work/c"; then
+        echo "c/test.c: $(tail -n 1 "$work/log")"
+    fi
+    if command -v "${CXX:-c++}" >/dev/null; then
+        if try "c/test.cpp" make -s -C c test_cpp OUT="$work/c"; then
+            echo "c/test.cpp: $(tail -n 1 "$work/log")"
+        fi
+    else
+        echo "c/test.cpp: not tried, there is no C++ compiler"
+    fi
+    if try "make install" make -s -C c install DESTDIR="$work/installed" PREFIX=/usr && command -v pkg-config >/dev/null; then
+        export PKG_CONFIG_PATH=$work/installed/usr/lib/pkgconfig PKG_CONFIG_SYSROOT_DIR=$work/installed PKG_CONFIG_ALLOW_SYSTEM_CFLAGS=1 PKG_CONFIG_ALLOW_SYSTEM_LIBS=1
+        if try "c/test.c by pkg-config" sh -c 'cc -std=c11 -D_POSIX_C_SOURCE=200809L -O2 -o "$1" c/test.c $(pkg-config --cflags --libs queue_c) && "$1" 300' sh "$work/by_pkg_config"; then
+            echo "c/test.c by pkg-config: $(tail -n 1 "$work/log")"
+        fi
+        unset PKG_CONFIG_PATH PKG_CONFIG_SYSROOT_DIR PKG_CONFIG_ALLOW_SYSTEM_CFLAGS PKG_CONFIG_ALLOW_SYSTEM_LIBS
+    fi
+    if echo 'int main(void) { return 0; }' | cc $sanitize -x c -o "$work/sanitized" - 2>"$work/log"; then
+        if try "c/test.c with ASan and UBSan" make -s -C c test OUT="$work/sanitize" CFLAGS="$sanitize" ARGS=2000; then
+            echo "c/test.c with ASan and UBSan: $(tail -n 1 "$work/log")"
+        fi
+    else
+        echo "c/test.c with ASan and UBSan: not tried, cc has neither"
+    fi
+}
+
+check_tests() {
+    local test file
+    check_c
+    cp -r "$here/rust" "$work/ours"
+    cd "$work/ours"
+    for test in tests/*.rs; do
+        file=$(basename "$test")
+        cargo_tests "rust/tests/$file" --test "${file%.rs}"
+    done
+    cargo_tests "rust/src/refused.rs" --doc
+    find_reference || return 0
+    # What we expect of it comes from the crate itself.
+    build_reference "$work/reference"
+    if build_over "$work/as_the_reference" "$here/rust/tests/as_the_reference.rs" "$work/reference" --test && try "concurrent-queue $version, rust/tests/as_the_reference.rs" "$work/as_the_reference"; then
+        echo "concurrent-queue $version itself, rust/tests/as_the_reference.rs: $(sed -n 's/^test result: ok. \([0-9]*\) passed.*/\1/p' "$work/log") passed"
+    fi
+    put_their_tests
+    for test in tests/*.rs; do
+        file=$(basename "$test")
+        cargo_tests "concurrent-queue $version, tests/$file" --test "${file%.rs}"
+    done
+    # The examples of its comments, as the only ones of the copy.
+    sed -i -e 's|^ *//[/!].*||' -e 's/, missing_docs//' src/*.rs
+    awk '/^[ \t]*\/\/[\/!]/ { sub(/^[ \t]*\/\/[\/!] ?/, ""); fence = /^```/; if (fence || inside) print; if (fence) inside = !inside }' "$reference/src/lib.rs" >src/examples.md
+    sed -i '1i #![doc = include_str!("examples.md")]' src/lib.rs
+    cargo_tests "concurrent-queue $version, examples of src/lib.rs" --doc
+}

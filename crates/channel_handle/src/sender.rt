@@ -1,0 +1,51 @@
+//! What a sender does.
+ghost use Rattle.queue_steps.specs.declared.model.Call.TheVariants as call;
+ghost use Rattle.queue_steps.specs.declared.model.Reply.TheVariants as reply;
+ghost use Rattle.counted_channel.specs.Channel.{ChannelCall, sent, force_sent};
+
+use crate::handle::Sender;
+use concurrent_queue::{NullTestable, PushError};
+use counted_channel::SendError;
+use std::fmt;
+use std::sync::Wait;
+
+impl<T: Drop, A: NullTestable> Sender<T, A> {
+    /// Appends `value`. It waits while the channel is full.
+    ///
+    /// # Errors
+    ///
+    /// `Closed` with the value on a closed channel, `NoMemory` with the value where a block was asked for and refused: that changes nothing.
+    pub fn send<R: Wait>(&mut self, rt: &R, value: T) -> Result<(), SendError<T>>
+        ensures { ChannelCall self.old (call.Push value) (sent result) self.new }
+    {
+        self.channel.send(rt, &mut self.owed.end, value)
+    }
+
+    /// Appends `value` where there is room.
+    ///
+    /// # Errors
+    ///
+    /// Those of a push, each with the value. None changes anything.
+    pub fn try_send<R: Wait>(&mut self, rt: &R, value: T) -> Result<(), PushError<T>>
+        ensures { ChannelCall self.old (call.Push value) (reply.Push result) self.new }
+    {
+        self.channel.try_send(rt, &mut self.owed.end, value)
+    }
+
+    /// Appends `value`, and takes the front off and hands it out where the channel was full.
+    ///
+    /// # Errors
+    ///
+    /// Those of `send`.
+    pub fn force_send<R: Wait>(&mut self, rt: &R, value: T) -> Result<Option<T>, SendError<T>>
+        ensures { ChannelCall self.old (call.ForcePush value) (force_sent result) self.new }
+    {
+        self.channel.force_send(rt, &mut self.owed.end, value)
+    }
+}
+
+impl<T, A: NullTestable> fmt::Debug for Sender<T, A> {
+    fn fmt<W: fmt::Write>(&self, f: &mut fmt::Formatter<W>) -> fmt::Result {
+        f.pad("Sender { .. }")
+    }
+}

@@ -1,0 +1,6 @@
+pub mod Sides
+pub mod Marks
+pub mod Linked
+pub mod Runs
+pub mod Histories
+pub mod Short

@@ -1,0 +1,6 @@
+//! Ends of channels that are values of their own.
+pub mod dropped;
+pub mod left;
+pub mod memory;
+pub mod opening;
+pub mod passing;

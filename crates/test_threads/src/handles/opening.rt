@@ -1,0 +1,45 @@
+//! Channels as the tests open them.
+use channel_handle::{Receiver, Sender, bounded, unbounded};
+use mem_blocks::null_testable::NullTestable;
+use std::alloc::AllocError;
+use std::process::Abort;
+
+/// The two ends of a channel, where there was memory.
+pub type Opened<T, A> = Result<(Sender<T, A>, Receiver<T, A>), AllocError>;
+
+/// The two ends of a channel of this capacity, or without one. Asserts that the capacity is not 0.
+pub fn opened<T: Drop, A: NullTestable + Clone>(
+    rt: &impl Abort,
+    alloc: A,
+    cap: Option<usize>,
+) -> Opened<T, A> {
+    match cap {
+        Some(0) => panic!(rt; "a capacity of 0"),
+        Some(slots) => bounded(alloc, slots),
+        None => unbounded(alloc),
+    }
+}
+
+/// The same, where there has to be memory. Asserts that there is.
+pub fn opened_surely<T: Drop, A: NullTestable + Clone>(
+    rt: &impl Abort,
+    alloc: A,
+    cap: Option<usize>,
+) -> (Sender<T, A>, Receiver<T, A>) {
+    match opened(rt, alloc, cap) {
+        Ok(ends) => ends,
+        Err(_) => panic!(rt; "no memory"),
+    }
+}
+
+/// One more end of this one. Asserts that there is one.
+pub fn one_more<T, A>(rt: &impl Abort, sender: &mut Sender<T, A>) -> Sender<T, A>
+where
+    T: Drop,
+    A: NullTestable,
+{
+    match sender.split() {
+        Ok(other) => other,
+        Err(_) => panic!(rt; "no second sender"),
+    }
+}

@@ -1,0 +1,91 @@
+//! Items between many threads, and what each call is answered.
+use crate::asserts::{is, is_in};
+use crate::handles::opening::{one_more, opened_surely};
+use channel_handle::{Disconnected, Receiver, SendError, Sender};
+use std::io;
+use std::io::ErrorKind;
+use std::process::Abort;
+use std::sync::Wait;
+use std::thread::{Threads, join};
+
+/// Sends the numbers below `count`.
+fn send_all<R: Wait>(rt: &R, mut sender: Sender<u64>, count: u64) -> io::Result<()> {
+    for item in 0..count {
+        sender.send(rt, item)?;
+    }
+    Ok(())
+}
+
+/// Adds up what comes.
+fn sum_all<R: Wait>(rt: &R, receiver: Receiver<u64>) -> u64 {
+    let mut sum: u64 = 0;
+    for item in receiver.into_iter(rt) {
+        sum = sum.wrapping_add(item);
+    }
+    sum
+}
+
+/// The sum of what two threads receive that two others send.
+fn two_and_two<R: Threads + Wait + Abort + Sync>(
+    rt: &R,
+    host: &HostRuntime,
+    cap: Option<usize>,
+) -> u64 {
+    let (mut one, mut first) = opened_surely(rt, host.alloc(), cap);
+    let two = one_more(rt, &mut one);
+    let Ok(second) = first.split() else {
+        panic!(rt; "no second receiver")
+    };
+    let (_, (here, there)) = join(
+        rt,
+        || join(rt, || send_all(rt, one, 1000), || send_all(rt, two, 1000)),
+        || join(rt, || sum_all(rt, first), || sum_all(rt, second)),
+    );
+    here.wrapping_add(there)
+}
+
+#[test]
+fn each_item_comes_once(rt: HostRuntime) {
+    for cap in [Some(1), Some(3), None] {
+        is_in(&rt, cap, two_and_two(&rt, &rt, cap), 999_000);
+    }
+}
+
+#[test]
+fn each_call_is_answered(rt: HostRuntime) {
+    let (mut sender, mut receiver) = opened_surely(&rt, rt.alloc(), Some(1));
+    is(&rt, (sender.is_empty(), receiver.is_full()), (true, false));
+    is(&rt, sender.send(&rt, 1), Ok(()));
+    is(&rt, (receiver.is_empty(), sender.is_full()), (false, true));
+    is(&rt, (sender.len(&rt), receiver.capacity()), (1, Some(1)));
+    is(&rt, sender.force_send(&rt, 2), Ok(Some(1)));
+    let mut got: u64 = 0;
+    for item in receiver.try_iter(&rt) {
+        got = got.wrapping_add(item);
+    }
+    is(&rt, got, 2);
+    is(
+        &rt,
+        (receiver.close(), sender.close(), sender.is_closed()),
+        (true, false, true),
+    );
+    is(&rt, sender.send(&rt, 3), Err(SendError::Closed(3)));
+    is(&rt, receiver.recv(&rt), Err(Disconnected));
+}
+
+#[test]
+fn errors_become_those_of_io(rt: HostRuntime) {
+    let closed: io::Error = SendError::Closed(1u64).into();
+    let refused: io::Error = SendError::NoMemory(1u64).into();
+    let gone: io::Error = Disconnected.into();
+    let kinds = (closed.kind(), refused.kind(), gone.kind());
+    is(
+        &rt,
+        kinds,
+        (
+            ErrorKind::BrokenPipe,
+            ErrorKind::OutOfMemory,
+            ErrorKind::BrokenPipe,
+        ),
+    );
+}
