@@ -199,7 +199,7 @@ impl<T, A: Allocator> ConcurrentQueue<T, A> {
         party: &mut Party<T>,
         call: Call<T>,
     ) -> Reply<T>
-        requires { IsPartyOf party.old self.now }
+        requires is_party { IsPartyOf party.old self.now }
         ensures { Calls party.old call result party.new }
     {
         match &mut party.place {
@@ -225,7 +225,7 @@ impl<T, A: Allocator> ConcurrentQueue<T, A> {
     pub fn push<R: Wait>(&self, rt: &R, party: &mut Party<T>, value: T) -> Result<(), PushError<T>>
     where
         A: NullTestable,
-        requires { IsPartyOf party.old self.now }
+        requires is_party { IsPartyOf party.old self.now }
         ensures { Calls party.old (call.Push value) (reply.Push result) party.new }
     {
         let call = Call::Push(value);
@@ -289,7 +289,7 @@ impl<T, A: Allocator> ConcurrentQueue<T, A> {
     ) -> Result<Option<T>, ForcePushError<T>>
     where
         A: NullTestable,
-        requires { IsPartyOf party.old self.now }
+        requires is_party { IsPartyOf party.old self.now }
         ensures { Calls party.old (call.ForcePush value) (reply.ForcePush result) party.new }
     {
         match self.answer::<Granting, R, Open, Displaces>(
@@ -309,7 +309,7 @@ impl<T, A: Allocator> ConcurrentQueue<T, A> {
     ///
     /// On an empty queue `Empty`, or `Closed` if it is closed.
     pub fn pop<R: Wait>(&self, rt: &R, party: &mut Party<T>) -> Result<T, PopError>
-        requires { IsPartyOf party.old self.now }
+        requires is_party { IsPartyOf party.old self.now }
         ensures { Calls party.old call.Pop (reply.Pop result) party.new }
     {
         let call = Call::Pop;
@@ -361,7 +361,7 @@ impl<T, A: Allocator> ConcurrentQueue<T, A> {
 
     /// The number of items at a moment of the call.
     pub fn len<R: Wait>(&self, rt: &R, party: &mut Party<T>) -> usize
-        requires { IsPartyOf party.old self.now }
+        requires is_party { IsPartyOf party.old self.now }
         ensures { Calls party.old call.Len (reply.Len result) party.new }
     {
         match self.answer::<Refusing, R, Open, Counts>(rt, &Open, party, Call::Len) {

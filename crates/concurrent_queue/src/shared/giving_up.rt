@@ -19,7 +19,7 @@ impl<T, A: Allocator> ConcurrentQueue<T, A> {
     ///
     /// The call, unchanged, where it is too late: it has had its effect, or on a chain it has laid the first block and is to show it.
     pub fn give_up(&self, pending: Pending<T, A>) -> Result<(Party<T>, Option<T>), Pending<T, A>>
-        requires of { IsPartyOf pending.party self.now }
+        requires is_party { IsPartyOf pending.party self.now }
         requires heap { self.now.cap ≡ None → IsOneHeap A }
         ensures { MatchResult result (λ r. SawMore pending.party r.0 × (r.1 ≡ call_value pending.call)) (λ same. same ≡ pending) }
     {

@@ -35,7 +35,7 @@ impl<T, A: Allocator> ConcurrentQueue<T, A> {
     /// The items, each of which is popped for the party as it is asked for. It asks for no memory, and closes nothing. It keeps `rt` for `next`, which asks
     /// that it is a right to wait.
     pub fn try_iter<'a, R>(&'a self, rt: &'a R, party: &'a mut Party<T>) -> TryIter<'a, T, R, A>
-        requires { IsPartyOf party.old self.now }
+        requires is_party { IsPartyOf party.old self.now }
         ensures of { (result.queue.now ≡ self.now) × (result.party.now ≡ party.old) × IsIterOf result }
         ensures same_reference { iter_lender result ≡ party.entry.ghost_name }
     {

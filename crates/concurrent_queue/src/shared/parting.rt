@@ -21,7 +21,7 @@ impl<T, A: Allocator> ConcurrentQueue<T, A> {
     ///
     /// The party itself, where the queue has as many parties as it may; so it is not the only one.
     pub fn split(&self, party: Party<T>) -> Result<(Party<T>, Party<T>), Party<T>>
-        requires { IsPartyOf party self.now }
+        requires is_party { IsPartyOf party self.now }
         ensures { MatchResult result (λ r. Parts party r.0 r.1) (λ p. (p ≡ party) × ¬ (IsEntire party.view.share)) }
     {
         match split(&self.form, party.place) {
@@ -32,7 +32,7 @@ impl<T, A: Allocator> ConcurrentQueue<T, A> {
 
     /// Makes one party of two, which has seen and done what both have.
     pub fn join(&self, first: Party<T>, second: Party<T>) -> Party<T>
-        requires { IsPartyOf first self.now × IsPartyOf second self.now }
+        requires is_party { IsPartyOf first self.now × IsPartyOf second self.now }
         ensures { Joins first second result }
     {
         Party::at(join(&self.form, first.place, second.place))
@@ -40,7 +40,7 @@ impl<T, A: Allocator> ConcurrentQueue<T, A> {
 
     /// Both parties have then seen what either has seen.
     pub fn meet(&self, first: &mut Party<T>, second: &mut Party<T>)
-        requires { IsPartyOf first.old self.now × IsPartyOf second.old self.now }
+        requires is_party { IsPartyOf first.old self.now × IsPartyOf second.old self.now }
         ensures { Meets first.old second.old first.new second.new }
     {
         let one = mem::replace(&mut first.place, SeatPlace::Away);
@@ -56,7 +56,7 @@ impl<T, A: Allocator> ConcurrentQueue<T, A> {
     ///
     /// The queue and the party, both unchanged, where a party that was split off has not been joined back.
     pub fn finish(self, party: Party<T>) -> Result<Exclusive<T, A>, (Self, Party<T>)>
-        requires { IsPartyOf party self }
+        requires is_party { IsPartyOf party self }
         ensures { MatchResult result (λ e. Finishes party e) (λ r. (r.0 ≡ self) × (r.1 ≡ party) × ¬ (IsEntire party.view.share)) }
     {
         let ConcurrentQueue { form } = self;

@@ -116,7 +116,7 @@ fn set_out_at<T, K: TableSteps<T>, A: Allocator, F: FastSteps<SharedTable<T, K, 
     call: Call<T>,
 ) -> ControlFlow<Reply<T>, Left<T, usize>>
     requires held { IsHeld (place.Table seat.old) }
-    requires of { IsPartyOf (party_view_of (place.Table seat.old)) (queue_at K.layout table.now.table.shared.table_id) }
+    requires is_party { IsPartyOf (party_view_of (place.Table seat.old)) (queue_at K.layout table.now.table.shared.table_id) }
     ensures { MatchControlFlow result (λ left. StopsHere K.layout table.now.table.shared.table_id seat.new left (begun_with seat.old call)) (λ reply. HasEnded (begun_with seat.old call) reply seat.new) }
 {
     set_out::<SharedTable<T, K, A>, Open, F, W>(steps, table, &Open, seat, call)
@@ -140,7 +140,7 @@ impl<T, A: NullTestable> ConcurrentQueue<T, A> {
 
     /// Begins a call, which takes steps until its reply or until it has met another call half done. It never waits.
     pub fn begin(&self, party: Party<T>, call: Call<T>) -> Outcome<T, A>
-        requires { IsPartyOf party self.now }
+        requires is_party { IsPartyOf party self.now }
         ensures { Comes party call result }
     {
         self.begin_as::<Begins>(party, call)
@@ -149,7 +149,7 @@ impl<T, A: NullTestable> ConcurrentQueue<T, A> {
     /// The same, in place where it is called. `W` tells the calls apart, so that each has fast steps of its own.
     #[inline(always)]
     pub fn begin_as<W>(&self, party: Party<T>, call: Call<T>) -> Outcome<T, A>
-        requires { IsPartyOf party self.now }
+        requires is_party { IsPartyOf party self.now }
         ensures { Comes party call result }
     {
         match (&self.form, party.place) {
@@ -198,7 +198,7 @@ impl<T, A: NullTestable> ConcurrentQueue<T, A> {
     /// Takes a call up where it stands. It never waits. On a chain of blocks the call may carry a block, whose allocator no name tells: so that has to be one of
     /// which there is one value.
     pub fn resume(&self, pending: Pending<T, A>) -> Outcome<T, A>
-        requires of { IsPartyOf pending.party self.now }
+        requires is_party { IsPartyOf pending.party self.now }
         requires heap { self.now.cap ≡ None → IsOneHeap A }
         ensures { Comes pending.party pending.call result }
     {

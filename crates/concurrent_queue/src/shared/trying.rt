@@ -205,7 +205,7 @@ impl<T, A: NullTestable> ConcurrentQueue<T, A> {
     /// Makes a call which gives up where it would wait.
     #[inline(always)]
     fn attempt<W: Attempt<T>>(&self, party: &mut Party<T>, given: W::Given) -> W::Told
-        requires of { IsPartyOf party.old self.now }
+        requires is_party { IsPartyOf party.old self.now }
         requires pushes { self.now.cap ≡ None → IsPush (W.asks given) }
         ensures { W.tells party.old given result party.new }
     {
@@ -230,7 +230,7 @@ impl<T, A: NullTestable> ConcurrentQueue<T, A> {
     ///
     /// Those of `push`, and `Busy` with the value where another call was half done: nothing has happened then.
     pub fn try_push(&self, party: &mut Party<T>, value: T) -> Result<(), TryPushError<T>>
-        requires { IsPartyOf party.old self.now }
+        requires is_party { IsPartyOf party.old self.now }
         ensures { TriesPush party.old value result party.new }
     {
         self.attempt::<TryPushes>(party, value)
@@ -246,7 +246,7 @@ impl<T, A: NullTestable> ConcurrentQueue<T, A> {
         party: &mut Party<T>,
         value: T,
     ) -> Result<Option<T>, TryForcePushError<T>>
-        requires { IsPartyOf party.old self.now }
+        requires is_party { IsPartyOf party.old self.now }
         ensures { TriesForcePush party.old value result party.new }
     {
         self.attempt::<TryDisplaces>(party, value)
@@ -259,7 +259,7 @@ impl<T, A: NullTestable> ConcurrentQueue<T, A> {
     ///
     /// Those of `pop`, and `Busy` where another call was half done: nothing has happened then.
     pub fn try_pop(&self, party: &mut Party<T>) -> Result<T, TryPopError>
-        requires of { IsPartyOf party.old self.now }
+        requires is_party { IsPartyOf party.old self.now }
         requires capped { self.now.cap ≢ None }
         ensures { TriesPop party.old result party.new }
     {

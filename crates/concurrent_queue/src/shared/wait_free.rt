@@ -26,7 +26,7 @@ impl<T, A: Allocator> ConcurrentQueue<T, A> {
         party: &mut Party<T>,
         call: Call<T>,
     ) -> Reply<T>
-        requires of { IsPartyOf party.old self.now }
+        requires is_party { IsPartyOf party.old self.now }
         requires wait_free { is_wait_free call ≡ true }
         ensures { Calls party.old call result party.new }
     {
@@ -46,7 +46,7 @@ impl<T, A: Allocator> ConcurrentQueue<T, A> {
 
     /// Closes the queue, and tells whether this call did it. The items stay.
     pub fn close(&self, party: &mut Party<T>) -> bool
-        requires { IsPartyOf party.old self.now }
+        requires is_party { IsPartyOf party.old self.now }
         ensures { Calls party.old call.Close (reply.Close result) party.new }
     {
         match self.answer_wait_free(&Open, party, Call::Close) {
@@ -57,7 +57,7 @@ impl<T, A: Allocator> ConcurrentQueue<T, A> {
 
     /// Whether the queue is closed at a moment of the call.
     pub fn is_closed(&self, party: &mut Party<T>) -> bool
-        requires { IsPartyOf party.old self.now }
+        requires is_party { IsPartyOf party.old self.now }
         ensures { Calls party.old call.IsClosed (reply.IsClosed result) party.new }
     {
         match self.answer_wait_free(&Open, party, Call::IsClosed) {
@@ -68,7 +68,7 @@ impl<T, A: Allocator> ConcurrentQueue<T, A> {
 
     /// Whether the queue has no item at a moment of the call.
     pub fn is_empty(&self, party: &mut Party<T>) -> bool
-        requires { IsPartyOf party.old self.now }
+        requires is_party { IsPartyOf party.old self.now }
         ensures { Calls party.old call.IsEmpty (reply.IsEmpty result) party.new }
     {
         match self.answer_wait_free(&Open, party, Call::IsEmpty) {
@@ -79,7 +79,7 @@ impl<T, A: Allocator> ConcurrentQueue<T, A> {
 
     /// Whether the queue has as many items as its capacity at a moment of the call.
     pub fn is_full(&self, party: &mut Party<T>) -> bool
-        requires { IsPartyOf party.old self.now }
+        requires is_party { IsPartyOf party.old self.now }
         ensures { Calls party.old call.IsFull (reply.IsFull result) party.new }
     {
         match self.answer_wait_free(&Open, party, Call::IsFull) {

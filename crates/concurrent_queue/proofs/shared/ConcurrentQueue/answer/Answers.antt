@@ -14,7 +14,7 @@ ends : (g : Over) (c : Joined-party g) → IsHeld c.match-party.party-inside.pla
 ends g c = elim c.match-party.branch [
   | in-Table+in-Break w ↦ (ends_where _ (place.Table w.in-Table.seat) _ (place.Table w.begin_at.new.seat) c.args.party.now c.args.call _ _ w.in-Table.is c.party.view_is (ap (λ p. p.place) w.party-inside-is) w.result-is w.in-Break.ensures)
   | in-Table+in-Continue w ↦ (ends_where _ (place.Table w.in-Table.seat) _ (place.Table w.end_at.new.seat) c.args.party.now c.args.call _ _ w.in-Table.is c.party.view_is (ap (λ p. p.place) w.party-inside-is) w.result-is (w.end_at.ensures c.args.call w.in-Table.seat (w.in-Continue.ensures)))
-  | in-Web+in-Chain w ↦ (web_ends _ _ w.in-Web.rested w.answer.new.party c.args.party.now c.args.call _ _ w.in-Web.is c.party.invariant (ap (λ p. p.place) w.party-inside-is) w.result-is c.party.view_is (ap (λ (z : QueueId). z.cap) (c.requires ∙ (sym c.self.view_is ∙ ap form_id w.in-Chain.is))) w.answer.ensures)
+  | in-Web+in-Chain w ↦ (web_ends _ _ w.in-Web.rested w.answer.new.party c.args.party.now c.args.call _ _ w.in-Web.is c.party.invariant (ap (λ p. p.place) w.party-inside-is) w.result-is c.party.view_is (ap (λ (z : QueueId). z.cap) (c.requires.is_party ∙ (sym c.self.view_is ∙ ap form_id w.in-Chain.is))) w.answer.ensures)
 ]
 
 pub invariant_of-party : goal.invariant_of-party

@@ -14,10 +14,10 @@ use Rattle.concurrent_queue.proofs.StopsIn.{started_in}
 use Rattle.concurrent_queue.proofs.shared.ConcurrentQueue.begin_as.Goals as goal
 
 pub set_out_at-requires-clause-held : goal.set_out_at-requires-clause-held
-set_out_at-requires-clause-held g c = let b = c.in-Single-Table in (held_here (λ _. slot_table) b.slot.table.shared.table_id _ b.seat c.args.party b.is-1 c.party.invariant c.party.view_is (c.requires ∙ (sym c.self.view_is ∙ ap form_id b.is-0))).0
+set_out_at-requires-clause-held g c = let b = c.in-Single-Table in (held_here (λ _. slot_table) b.slot.table.shared.table_id _ b.seat c.args.party b.is-1 c.party.invariant c.party.view_is (c.requires.is_party ∙ (sym c.self.view_is ∙ ap form_id b.is-0))).0
 
-pub set_out_at-requires-clause-of : goal.set_out_at-requires-clause-of
-set_out_at-requires-clause-of g c = let b = c.in-Single-Table in (held_here (λ _. slot_table) b.slot.table.shared.table_id _ b.seat c.args.party b.is-1 c.party.invariant c.party.view_is (c.requires ∙ (sym c.self.view_is ∙ ap form_id b.is-0))).1
+pub set_out_at-requires-clause-is_party : goal.set_out_at-requires-clause-is_party
+set_out_at-requires-clause-is_party g c = let b = c.in-Single-Table in (held_here (λ _. slot_table) b.slot.table.shared.table_id _ b.seat c.args.party b.is-1 c.party.invariant c.party.view_is (c.requires.is_party ∙ (sym c.self.view_is ∙ ap form_id b.is-0))).1
 
 pub at-requires : goal.at-requires
 at-requires g c = c.in-Break.ensures.0
@@ -38,10 +38,10 @@ returns-in-Single-Table g c =
     c.at-in-Continue.ensures ∙ ((go_there (λ _. slot_table) b.slot.table.shared.table_id c.set_out_at.new.seat c.in-Continue.left _ c.in-Continue.ensures).1 ∙ (λ i. record { party = is_v i; call = c.args.call }))
 
 pub set_out_at-requires-in-Ring-Table-clause-held : goal.set_out_at-requires-in-Ring-Table-clause-held
-set_out_at-requires-in-Ring-Table-clause-held g c = let b = c.in-Ring-Table in (held_here ring_table b.ring.table.shared.table_id _ b.seat c.args.party b.is-1 c.party.invariant c.party.view_is (c.requires ∙ (sym c.self.view_is ∙ ap form_id b.is-0))).0
+set_out_at-requires-in-Ring-Table-clause-held g c = let b = c.in-Ring-Table in (held_here ring_table b.ring.table.shared.table_id _ b.seat c.args.party b.is-1 c.party.invariant c.party.view_is (c.requires.is_party ∙ (sym c.self.view_is ∙ ap form_id b.is-0))).0
 
 pub set_out_at-requires-in-Ring-Table-clause-of : goal.set_out_at-requires-in-Ring-Table-clause-of
-set_out_at-requires-in-Ring-Table-clause-of g c = let b = c.in-Ring-Table in (held_here ring_table b.ring.table.shared.table_id _ b.seat c.args.party b.is-1 c.party.invariant c.party.view_is (c.requires ∙ (sym c.self.view_is ∙ ap form_id b.is-0))).1
+set_out_at-requires-in-Ring-Table-clause-of g c = let b = c.in-Ring-Table in (held_here ring_table b.ring.table.shared.table_id _ b.seat c.args.party b.is-1 c.party.invariant c.party.view_is (c.requires.is_party ∙ (sym c.self.view_is ∙ ap form_id b.is-0))).1
 
 pub at-requires-in-Break-set_out_at : goal.at-requires-in-Break-set_out_at
 at-requires-in-Break-set_out_at g c = c.in-Break-set_out_at.ensures.0
@@ -73,7 +73,7 @@ pub at-requires-in-Break-begun : goal.at-requires-in-Break-begun
 at-requires-in-Break-begun g c =
     let b = c.in-Chain-Web in let s = c.wake-asking.ensures.seat in let d = c.in-Break-begun.ensures in let out = c.rests.ensures in
     let rests : RestsAt (web_of b.queue.chain) b.rested = search rules in
-    let none = ap (λ (z : QueueId). z.cap) (c.requires ∙ (sym c.self.view_is ∙ ap form_id b.is-0)) in
+    let none = ap (λ (z : QueueId). z.cap) (c.requires.is_party ∙ (sym c.self.view_is ∙ ap form_id b.is-0)) in
     let ends : EndedAt b.rested c.args.call c.in-Break-begun.reply c.rests.result =
     rests_ended b.rested c.rests.result c.wake-asking.result.seat.sitter c.set_out-begun.new.seat.seat.sitter c.args.call c.in-Break-begun.reply s.1 d.0.1 d.1 out.0 (out.1 ∙ (d.0.0.0 ∙ sym rests.1)) out.2 in
     (web_ends _ (place.Web c.rests.result) b.rested c.rests.result c.args.party c.args.call _ _ b.is-1 c.party.invariant refl refl c.party.view_is none ends).0
@@ -82,7 +82,7 @@ pub returns-in-Break-begun : goal.returns-in-Break-begun
 returns-in-Break-begun g c =
     let b = c.in-Chain-Web in let s = c.wake-asking.ensures.seat in let d = c.in-Break-begun.ensures in let out = c.rests.ensures in
     let rests : RestsAt (web_of b.queue.chain) b.rested = search rules in
-    let none = ap (λ (z : QueueId). z.cap) (c.requires ∙ (sym c.self.view_is ∙ ap form_id b.is-0)) in
+    let none = ap (λ (z : QueueId). z.cap) (c.requires.is_party ∙ (sym c.self.view_is ∙ ap form_id b.is-0)) in
     let ends : EndedAt b.rested c.args.call c.in-Break-begun.reply c.rests.result =
     rests_ended b.rested c.rests.result c.wake-asking.result.seat.sitter c.set_out-begun.new.seat.seat.sitter c.args.call c.in-Break-begun.reply s.1 d.0.1 d.1 out.0 (out.1 ∙ (d.0.0.0 ∙ sym rests.1)) out.2 in
     subst (λ p. Calls c.args.party c.args.call c.in-Break-begun.reply p) (sym c.at-in-Break-begun.ensures)
@@ -91,10 +91,10 @@ returns-in-Break-begun g c =
 pub at-requires-in-Continue-begun : goal.at-requires-in-Continue-begun
 at-requires-in-Continue-begun g c =
     let b = c.in-Chain-Web in let e = c.in-Continue-begun.ensures in
-    (started_in b.queue.chain b.rested _ c.wake-asking.result c.set_out-begun.new.seat c.in-Continue-begun.left c.args.party c.args.call b.is-1 c.party.invariant c.party.view_is (c.requires ∙ (sym c.self.view_is ∙ ap form_id b.is-0)) c.wake-asking.ensures.seat.1 e.0.0.0 e.0.0.1 e.0.1 e.1).1
+    (started_in b.queue.chain b.rested _ c.wake-asking.result c.set_out-begun.new.seat c.in-Continue-begun.left c.args.party c.args.call b.is-1 c.party.invariant c.party.view_is (c.requires.is_party ∙ (sym c.self.view_is ∙ ap form_id b.is-0)) c.wake-asking.ensures.seat.1 e.0.0.0 e.0.0.1 e.0.1 e.1).1
 
 pub returns-in-Chain-Web : goal.returns-in-Chain-Web
 returns-in-Chain-Web g c =
     let b = c.in-Chain-Web in let e = c.in-Continue-begun.ensures in
     c.at-in-Continue-begun.ensures
-    ∙ (started_in b.queue.chain b.rested _ c.wake-asking.result c.set_out-begun.new.seat c.in-Continue-begun.left c.args.party c.args.call b.is-1 c.party.invariant c.party.view_is (c.requires ∙ (sym c.self.view_is ∙ ap form_id b.is-0)) c.wake-asking.ensures.seat.1 e.0.0.0 e.0.0.1 e.0.1 e.1).2
+    ∙ (started_in b.queue.chain b.rested _ c.wake-asking.result c.set_out-begun.new.seat c.in-Continue-begun.left c.args.party c.args.call b.is-1 c.party.invariant c.party.view_is (c.requires.is_party ∙ (sym c.self.view_is ∙ ap form_id b.is-0)) c.wake-asking.ensures.seat.1 e.0.0.0 e.0.0.1 e.0.1 e.1).2
