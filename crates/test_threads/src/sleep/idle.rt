@@ -1,7 +1,16 @@
-//! An end that waits for a second takes next to no processor time.
+//! An end that waits takes next to no processor time.
+ghost use Rattle.counted_channel.specs.Channel.{IsEndOf};
+
 use crate::asserts::is_in;
-use crate::channel::ends::Call;
-use crate::sleep::waking::{ITEM, Sleep, Who, woken};
+use crate::channel::ends::{AnyEnd, Call};
+use crate::channel::opening::opened_surely;
+use crate::sleep::waking::{ITEM, Sleep, Who, Woken, call_once, fill, woken};
+use crate::sleep::watched::Watched;
+use counted_channel::{Channel, SendError, Sender};
+use std::alloc::Global;
+use std::process::Abort;
+use std::sync::Wait;
+use std::thread::{Threads, join};
 
 /// How many hundredths of a second of processor time a wait of a second may take.
 const MOST: u64 = 1;
@@ -52,4 +61,61 @@ static SENDER: (Sleep, Call) = (
 fn a_sender_at_a_full_queue_takes_no_processor_time(rt: HostRuntime) {
     let (sent, came, spent) = woken(&rt, &rt, rt.alloc(), Some(1), &SENDER.0, &SENDER.1);
     is_in(&rt, spent, (sent, came, spent <= MOST), (true, true, true));
+}
+
+/// How many items are sent by force beside a sender that sleeps.
+const FORCED: u64 = 200_000;
+
+/// Sends items by force once another sender is seen asleep, and closes. Gives whether it was, each item displaced another one, and the channel was open.
+fn force_and_close<R: Wait + Abort>(
+    rt: &R,
+    host: &HostRuntime,
+    channel: &Channel<u64>,
+    mut sender: Sender<u64>,
+    watched: &Watched,
+) -> bool
+    requires { IsEndOf sender channel.now }
+{
+    let asleep = watched.is_seen_asleep(rt, host);
+    let mut displaced = true;
+    for _ in 0..FORCED {
+        displaced = channel.force_send(rt, &mut sender, ITEM) == Ok(Some(ITEM)) && displaced;
+    }
+    channel.close(&mut sender) && displaced && asleep
+}
+
+/// A sender sleeps at a full channel, and another one sends by force until it closes.
+fn beside_forced_items<R: Threads + Wait + Abort + Sync>(
+    rt: &R,
+    host: &HostRuntime,
+    alloc: Global,
+) -> Woken {
+    let (channel, mut sender, _receiver) = opened_surely(rt, alloc, Some(1));
+    fill(rt, &channel, &mut sender);
+    let (one, two) = sender.two(rt, &channel);
+    let watched = Watched::new();
+    let ((answered, spent), forced) = join(
+        rt,
+        || -> (bool, u64)
+            requires { IsEndOf one channel.now }
+        {
+            let refused = Call::Send(ITEM, Err(SendError::Closed(ITEM)));
+            call_once(rt, host, &channel, one, &refused, &watched)
+        },
+        || -> bool
+            requires { IsEndOf two channel.now }
+        { force_and_close(rt, host, &channel, two, &watched) },
+    );
+    (answered, forced, spent)
+}
+
+#[test]
+fn an_item_sent_by_force_wakes_no_sender(rt: HostRuntime) {
+    let (answered, forced, spent) = beside_forced_items(&rt, &rt, rt.alloc());
+    is_in(
+        &rt,
+        spent,
+        (answered, forced, spent <= MOST),
+        (true, true, true),
+    );
 }
