@@ -84,6 +84,9 @@ fn force_and_close<R: Wait + Abort>(
     channel.close(&mut sender) && displaced && asleep
 }
 
+/// What the sender that sleeps calls.
+static REFUSED: Call = Call::Send(ITEM, Err(SendError::Closed(ITEM)));
+
 /// A sender sleeps at a full channel, and another one sends by force until it closes.
 fn beside_forced_items<R: Threads + Wait + Abort + Sync>(
     rt: &R,
@@ -98,10 +101,7 @@ fn beside_forced_items<R: Threads + Wait + Abort + Sync>(
         rt,
         || -> (bool, u64)
             requires { IsEndOf one channel.now }
-        {
-            let refused = Call::Send(ITEM, Err(SendError::Closed(ITEM)));
-            call_once(rt, host, &channel, one, &refused, &watched)
-        },
+        { call_once(rt, host, &channel, one, &REFUSED, &watched) },
         || -> bool
             requires { IsEndOf two channel.now }
         { force_and_close(rt, host, &channel, two, &watched) },
