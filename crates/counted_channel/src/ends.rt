@@ -103,7 +103,7 @@ impl<T, A: Allocator> Channel<T, A> {
     ///
     /// The sender, with its places and its share, where the queue has 2^31 parties or the channel [`MAX_ENDS`](crate::MAX_ENDS) senders, splits under way included.
     pub fn split_sender(&self, sender: Sender<T>) -> Result<(Sender<T>, Sender<T>), Sender<T>>
-        requires { IsEndOf sender self.now }
+        requires is_end { IsEndOf sender self.now }
         ensures { MatchResult result (λ r. EndParts sender r.0 r.1) (λ s. GivenBack sender s) }
     {
         match split_end(&self.queue, &self.counts.shared, sender.end, SENDERS) {
@@ -121,7 +121,7 @@ impl<T, A: Allocator> Channel<T, A> {
         &self,
         receiver: Receiver<T>,
     ) -> Result<(Receiver<T>, Receiver<T>), Receiver<T>>
-        requires { IsEndOf receiver self.now }
+        requires is_end { IsEndOf receiver self.now }
         ensures { MatchResult result (λ r. EndParts receiver r.0 r.1) (λ r. GivenBack receiver r) }
     {
         match split_end(&self.queue, &self.counts.shared, receiver.end, RECEIVERS) {
@@ -132,7 +132,7 @@ impl<T, A: Allocator> Channel<T, A> {
 
     /// Makes one sender of two, as before a split. It is ended once.
     pub fn join_senders(&self, first: Sender<T>, second: Sender<T>) -> Sender<T>
-        requires { IsEndOf first self.now × IsEndOf second self.now }
+        requires is_end { IsEndOf first self.now × IsEndOf second self.now }
         ensures { EndJoins first second result }
     {
         Sender {
@@ -148,7 +148,7 @@ impl<T, A: Allocator> Channel<T, A> {
 
     /// Makes one receiver of two, as before a split. It is ended once.
     pub fn join_receivers(&self, first: Receiver<T>, second: Receiver<T>) -> Receiver<T>
-        requires { IsEndOf first self.now × IsEndOf second self.now }
+        requires is_end { IsEndOf first self.now × IsEndOf second self.now }
         ensures { EndJoins first second result }
     {
         Receiver {
@@ -175,7 +175,7 @@ impl<T, A: Allocator> Channel<T, A> {
     ) -> Result<(), SendError<T>>
     where
         A: NullTestable,
-        requires { IsEndOf sender.old self.now }
+        requires is_end { IsEndOf sender.old self.now }
         ensures { ChannelCall sender.old (call.Push value) (sent result) sender.new }
     {
         push_until(&self.queue, &self.awaited, rt, &mut sender.end.party, value)
@@ -194,7 +194,7 @@ impl<T, A: Allocator> Channel<T, A> {
     ) -> Result<(), PushError<T>>
     where
         A: NullTestable,
-        requires { IsEndOf sender.old self.now }
+        requires is_end { IsEndOf sender.old self.now }
         ensures { ChannelCall sender.old (call.Push value) (reply.Push result) sender.new }
     {
         push(&self.queue, &self.awaited, rt, &mut sender.end.party, value)
@@ -213,7 +213,7 @@ impl<T, A: Allocator> Channel<T, A> {
     ) -> Result<Option<T>, SendError<T>>
     where
         A: NullTestable,
-        requires { IsEndOf sender.old self.now }
+        requires is_end { IsEndOf sender.old self.now }
         ensures { ChannelCall sender.old (call.ForcePush value) (force_sent result) sender.new }
     {
         force_push(&self.queue, &self.awaited, rt, &mut sender.end.party, value)
@@ -225,7 +225,7 @@ impl<T, A: Allocator> Channel<T, A> {
     ///
     /// On a closed and empty queue.
     pub fn recv<R: Wait>(&self, rt: &R, receiver: &mut Receiver<T>) -> Result<T, Disconnected>
-        requires { IsEndOf receiver.old self.now }
+        requires is_end { IsEndOf receiver.old self.now }
         ensures { ChannelCall receiver.old call.Pop (received result) receiver.new }
     {
         pop_until(&self.queue, &self.awaited, rt, &mut receiver.end.party)
@@ -237,7 +237,7 @@ impl<T, A: Allocator> Channel<T, A> {
     ///
     /// Those of a pop: `Empty`, and `Closed` on a closed and empty queue.
     pub fn try_recv<R: Wait>(&self, rt: &R, receiver: &mut Receiver<T>) -> Result<T, PopError>
-        requires { IsEndOf receiver.old self.now }
+        requires is_end { IsEndOf receiver.old self.now }
         ensures { ChannelCall receiver.old call.Pop (reply.Pop result) receiver.new }
     {
         pop(&self.queue, &self.awaited, rt, &mut receiver.end.party)
@@ -246,7 +246,7 @@ impl<T, A: Allocator> Channel<T, A> {
     /// Closes the channel, by an end of either side, and returns whether it was open. Nothing can be sent from then on; what was sent is received. Every end that
     /// sleeps is woken. The end is still to be ended.
     pub fn close<E: ChannelEnd<T>>(&self, end: &mut E) -> bool
-        requires { IsEndOf (E.end end.old) self.now }
+        requires is_end { IsEndOf (E.end end.old) self.now }
         ensures { ChannelCall (E.end end.old) call.Close (reply.Close result) (E.end end.new) }
     {
         end.close_queue(&self.queue, &self.awaited)
@@ -254,7 +254,7 @@ impl<T, A: Allocator> Channel<T, A> {
 
     /// Whether the queue is closed, so that nothing can be sent any more: an end has closed it, or the last one of either side has ended.
     pub fn is_closed<E: ChannelEnd<T>>(&self, end: &mut E) -> bool
-        requires { IsEndOf (E.end end.old) self.now }
+        requires is_end { IsEndOf (E.end end.old) self.now }
         ensures { ChannelCall (E.end end.old) call.IsClosed (reply.IsClosed result) (E.end end.new) }
     {
         end.sees_closed(&self.queue)
@@ -262,7 +262,7 @@ impl<T, A: Allocator> Channel<T, A> {
 
     /// How many items were sent and not received, at a moment of the call.
     pub fn len<E: ChannelEnd<T>, R: Wait>(&self, rt: &R, end: &mut E) -> usize
-        requires { IsEndOf (E.end end.old) self.now }
+        requires is_end { IsEndOf (E.end end.old) self.now }
         ensures { ChannelCall (E.end end.old) call.Len (reply.Len result) (E.end end.new) }
     {
         end.count_items(&self.queue, rt)
@@ -270,7 +270,7 @@ impl<T, A: Allocator> Channel<T, A> {
 
     /// Whether no item was sent that was not received, at a moment of the call.
     pub fn is_empty<E: ChannelEnd<T>>(&self, end: &mut E) -> bool
-        requires { IsEndOf (E.end end.old) self.now }
+        requires is_end { IsEndOf (E.end end.old) self.now }
         ensures { ChannelCall (E.end end.old) call.IsEmpty (reply.IsEmpty result) (E.end end.new) }
     {
         end.sees_empty(&self.queue)
@@ -278,7 +278,7 @@ impl<T, A: Allocator> Channel<T, A> {
 
     /// Whether there is no room, at a moment of the call.
     pub fn is_full<E: ChannelEnd<T>>(&self, end: &mut E) -> bool
-        requires { IsEndOf (E.end end.old) self.now }
+        requires is_end { IsEndOf (E.end end.old) self.now }
         ensures { ChannelCall (E.end end.old) call.IsFull (reply.IsFull result) (E.end end.new) }
     {
         end.sees_full(&self.queue)
@@ -293,7 +293,7 @@ impl<T, A: Allocator> Channel<T, A> {
 
     /// Ends a sender, and gives its party and whether it was the last. The last closes the queue.
     pub fn end_sender(&self, sender: Sender<T>) -> (Party<T>, bool)
-        requires { IsEndOf sender self.now }
+        requires is_end { IsEndOf sender self.now }
         ensures party { Ends sender.party result.0 result.1 }
         ensures last { IsEntire sender.stake → result.1 ≡ true }
     {
@@ -308,7 +308,7 @@ impl<T, A: Allocator> Channel<T, A> {
 
     /// Ends a receiver, and gives its party and whether it was the last. The last closes the queue.
     pub fn end_receiver(&self, receiver: Receiver<T>) -> (Party<T>, bool)
-        requires { IsEndOf receiver self.now }
+        requires is_end { IsEndOf receiver self.now }
         ensures party { Ends receiver.party result.0 result.1 }
         ensures last { IsEntire receiver.stake → result.1 ≡ true }
     {
@@ -323,7 +323,7 @@ impl<T, A: Allocator> Channel<T, A> {
 
     /// Makes one party of two that ends gave back, which has seen and done what both have.
     pub fn join(&self, first: Party<T>, second: Party<T>) -> Party<T>
-        requires { IsPartyOf first self.now.queue × IsPartyOf second self.now.queue }
+        requires is_party { IsPartyOf first self.now.queue × IsPartyOf second self.now.queue }
         ensures { Joins first second result }
     {
         self.queue.join(first, second)
@@ -331,7 +331,7 @@ impl<T, A: Allocator> Channel<T, A> {
 
     /// How many items are in the queue, at a moment of the call, as a party that an end gave back sees it.
     pub fn len_by<R: Wait>(&self, rt: &R, party: &mut Party<T>) -> usize
-        requires { IsPartyOf party.old self.now.queue }
+        requires is_party { IsPartyOf party.old self.now.queue }
         ensures { Calls party.old call.Len (reply.Len result) party.new }
     {
         self.queue.len(rt, party)
@@ -339,7 +339,7 @@ impl<T, A: Allocator> Channel<T, A> {
 
     /// Whether the queue is closed, as a party that an end gave back sees it.
     pub fn is_closed_by(&self, party: &mut Party<T>) -> bool
-        requires { IsPartyOf party.old self.now.queue }
+        requires is_party { IsPartyOf party.old self.now.queue }
         ensures { Calls party.old call.IsClosed (reply.IsClosed result) party.new }
     {
         self.queue.is_closed(party)
@@ -351,7 +351,7 @@ impl<T, A: Allocator> Channel<T, A> {
     ///
     /// The channel and the party, both unchanged, where a party has not been joined back.
     pub fn finish(self, party: Party<T>) -> Result<Exclusive<T, A>, (Self, Party<T>)>
-        requires { IsPartyOf party self.queue }
+        requires is_party { IsPartyOf party self.queue }
         ensures { MatchResult result (λ e. Finishes party e) (λ r. (r.0 ≡ self) × (r.1 ≡ party) × ¬ (IsEntire party.view.share)) }
     {
         let Channel {

@@ -32,7 +32,7 @@ impl<'a, T, R, A: Allocator> Drop for Items<'a, T, R, A> {
 impl<T, A: Allocator> Channel<T, A> {
     /// The items that come, each of which is received as it is asked for. It keeps `rt` for `next`, which asks that it is a right to wait.
     pub fn items<'a, R>(&'a self, rt: &'a R, receiver: &'a mut Receiver<T>) -> Items<'a, T, R, A>
-        requires { IsEndOf receiver.old self.now }
+        requires is_end { IsEndOf receiver.old self.now }
         ensures of { (result.channel.now ≡ self.now) × (result.receiver.now ≡ receiver.old) × IsItemsOf result }
         ensures same_reference { items_lender result ≡ receiver.entry.ghost_name }
     {

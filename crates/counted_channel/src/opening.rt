@@ -21,7 +21,7 @@ pub fn channel<T, A: Allocator>(
     queue: ConcurrentQueue<T, A>,
     party: Party<T>,
 ) -> Result<(Channel<T, A>, Sender<T>, Receiver<T>), (ConcurrentQueue<T, A>, Party<T>)>
-    requires { IsPartyOf party queue }
+    requires is_party { IsPartyOf party queue }
     ensures { MatchResult result (λ r. Opens queue party r.0 r.1 r.2) (λ r. (r.0 ≡ queue) × (r.1 ≡ party)) }
 {
     let Ok((counts, sending, receiving)) = open(alloc) else {

@@ -89,7 +89,7 @@ impl<T: Drop, A: Allocator + Clone> Handle<T, A> {
 impl<T, A: Allocator> Handle<T, A> {
     /// A handle of a queue and a party of it.
     pub fn from_parts(queue: Arc<ConcurrentQueue<T, A>, A>, party: Party<T>) -> Self
-        requires { IsPartyOf party (arc_value queue) }
+        requires is_party { IsPartyOf party (arc_value queue) }
         ensures { result ≡ party }
     {
         Handle { queue, party }
@@ -184,7 +184,7 @@ impl<T, A: Allocator> Handle<T, A> {
 
     /// Both handles have then seen what either has seen.
     pub fn meet(&mut self, other: &mut Self)
-        requires { other.old.queue ≡ self.old.queue }
+        requires of_this_queue { other.old.queue ≡ self.old.queue }
         ensures { Meets self.old other.old self.new other.new }
     {
         self.queue.meet(&mut self.party, &mut other.party)
@@ -224,7 +224,7 @@ impl<T, A: Allocator> Handle<T, A> {
     pub fn try_pop(&mut self) -> Result<T, TryPopError>
     where
         A: NullTestable,
-        requires { self.old.queue.cap ≢ None }
+        requires capped { self.old.queue.cap ≢ None }
         ensures { TriesPop self.old result self.new }
     {
         self.queue.try_pop(&mut self.party)
@@ -262,7 +262,7 @@ impl<T: Drop, A: Allocator> Handle<T, A> {
 
     /// Makes one of two handles of a queue: its party has seen and done what both have.
     pub fn join(self, other: Self) -> Self
-        requires { other.queue ≡ self.queue }
+        requires of_this_queue { other.queue ≡ self.queue }
         ensures { Joins self other result }
     {
         let Handle { queue, party } = self;

@@ -4,10 +4,10 @@ use Rattle.counted_channel.proofs.EndViews.{is_end_inside}
 use Rattle.counted_channel.proofs.ends.Channel.split_sender.Goals as goal
 
 pub split_end-requires-clause-table : goal.split_end-requires-clause-table
-split_end-requires-clause-table g c = ((is_end_inside _ _ _ _ c.sender.view_is c.self.view_is c.requires).1, c.self.invariant, omega arith)
+split_end-requires-clause-table g c = ((is_end_inside _ _ _ _ c.sender.view_is c.self.view_is c.requires.is_end).1, c.self.invariant, omega arith)
 
 pub split_end-requires-clause-end : goal.split_end-requires-clause-end
-split_end-requires-clause-end g c = ((is_end_inside _ _ _ _ c.sender.view_is c.self.view_is c.requires).0, c.sender.invariant)
+split_end-requires-clause-end g c = ((is_end_inside _ _ _ _ c.sender.view_is c.self.view_is c.requires.is_end).0, c.sender.invariant)
 
 pub returns-in-Ok : goal.returns-in-Ok
 returns-in-Ok g c =
