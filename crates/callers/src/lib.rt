@@ -8,4 +8,5 @@ pub mod moments;
 pub mod owner;
 pub mod parties;
 pub mod phantoms;
+pub mod tries;
 pub mod turns;

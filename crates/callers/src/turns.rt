@@ -1,18 +1,17 @@
-//! A call that is begun, and taken up again so many times at most.
+//! A call that is begun, and resumed so many times at most.
 ghost use Rattle.concurrent_queue.specs.Shared.{IsPartyOf};
 ghost use Rattle.concurrent_queue.specs.Comes.{Comes};
 
-use concurrent_queue::one_heap::OneHeap;
-use concurrent_queue::{ConcurrentQueue, NullTestable, Outcome, Party};
-use queue_steps::model::Call;
+use concurrent_queue::model::Call;
+use concurrent_queue::{ConcurrentQueue, Outcome, Party};
 
-/// Begins a call, and takes it up again until its reply, but so many times at most.
-pub fn in_turns<T, A: NullTestable + OneHeap>(
-    queue: &ConcurrentQueue<T, A>,
-    party: Party<T>,
-    call: Call<T>,
-    turns: usize,
-) -> Outcome<T, A>
+/// Begins a call, and resumes it until its reply, but so many times at most. No turn waits.
+pub fn in_turns(
+    queue: &ConcurrentQueue<u64>,
+    party: Party<u64>,
+    call: Call<u64>,
+    turns: u64,
+) -> Outcome<u64>
     requires { IsPartyOf party queue.now }
     ensures { Comes party call result }
 {
