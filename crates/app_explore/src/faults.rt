@@ -46,7 +46,7 @@ impl fmt::Display for Stop {
         match self {
             Stop::Usage(why) => write!(
                 f,
-                "usage: queue_explore KIND [refuse] [schedule N | lanes N | waits [N]]\n{why}"
+                "usage: queue_explore KIND [refuse] [schedule N | lanes N | waits [N]]\nreads: [before: CALLS] 0: CALLS 1: CALLS .., a line each; CALLS is CALL; CALL ..; CALL is push N, force N, pop, close, is_closed, is_empty, is_full, len or capacity\n{why}"
             ),
             Stop::Fault(fault) => write!(f, "{fault}"),
             Stop::Line(number, why) => write!(f, "{}\n{why}", Fault::Unreadable(*number)),

@@ -66,9 +66,9 @@ fn end_of(status: u8, told: &str) -> End<'_> {
 pub const RUN_USAGE: &str =
     "usage: queue_run script KIND | replay KIND PARTIES | threads KIND PUSHERS POPPERS ITEMS | handshake | channel KIND SENDERS RECEIVERS ITEMS\n";
 
-/// The first line of what `queue_explore` tells of arguments that ask for nothing. The reason is the second.
+/// The first lines of what `queue_explore` tells of arguments that ask for nothing. The reason is the third.
 const EXPLORE_USAGE: &str =
-    "usage: queue_explore KIND [refuse] [schedule N | lanes N | waits [N]]\n";
+    "usage: queue_explore KIND [refuse] [schedule N | lanes N | waits [N]]\nreads: [before: CALLS] 0: CALLS 1: CALLS .., a line each; CALLS is CALL; CALL ..; CALL is push N, force N, pop, close, is_closed, is_empty, is_full, len or capacity\n";
 
 /// Streams of a run that is not to read its input: a read would fail.
 const UNREADABLE: Streams = Streams {

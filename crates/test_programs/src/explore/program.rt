@@ -56,7 +56,7 @@ static ROWS: [Row; 9] = [
         given: Given::Words("queue_explore single waits 0"),
         status: 2,
         output: "",
-        faults: "usage: queue_explore KIND [refuse] [schedule N | lanes N | waits [N]]\nnumber: 1 to 18446744073709551615\n",
+        faults: "usage: queue_explore KIND [refuse] [schedule N | lanes N | waits [N]]\nreads: [before: CALLS] 0: CALLS 1: CALLS .., a line each; CALLS is CALL; CALL ..; CALL is push N, force N, pop, close, is_closed, is_empty, is_full, len or capacity\nnumber: 1 to 18446744073709551615\n",
         unread: INPUT,
     },
     Row {
@@ -64,7 +64,7 @@ static ROWS: [Row; 9] = [
         given: Given::Words("queue_explore single wait 1"),
         status: 2,
         output: "",
-        faults: "usage: queue_explore KIND [refuse] [schedule N | lanes N | waits [N]]\nafter the kind: refuse, schedule N, lanes N or waits [N]\n",
+        faults: "usage: queue_explore KIND [refuse] [schedule N | lanes N | waits [N]]\nreads: [before: CALLS] 0: CALLS 1: CALLS .., a line each; CALLS is CALL; CALL ..; CALL is push N, force N, pop, close, is_closed, is_empty, is_full, len or capacity\nafter the kind: refuse, schedule N, lanes N or waits [N]\n",
         unread: INPUT,
     },
     Row {
@@ -72,7 +72,7 @@ static ROWS: [Row; 9] = [
         given: Given::Words("queue_explore"),
         status: 2,
         output: "",
-        faults: "usage: queue_explore KIND [refuse] [schedule N | lanes N | waits [N]]\nwords: too few or too many\n",
+        faults: "usage: queue_explore KIND [refuse] [schedule N | lanes N | waits [N]]\nreads: [before: CALLS] 0: CALLS 1: CALLS .., a line each; CALLS is CALL; CALL ..; CALL is push N, force N, pop, close, is_closed, is_empty, is_full, len or capacity\nwords: too few or too many\n",
         unread: INPUT,
     },
     Row {
@@ -88,7 +88,7 @@ static ROWS: [Row; 9] = [
         given: Given::Fails(ErrorKind::InvalidData),
         status: 2,
         output: "",
-        faults: "usage: queue_explore KIND [refuse] [schedule N | lanes N | waits [N]]\nwords: too few or too many\n",
+        faults: "usage: queue_explore KIND [refuse] [schedule N | lanes N | waits [N]]\nreads: [before: CALLS] 0: CALLS 1: CALLS .., a line each; CALLS is CALL; CALL ..; CALL is push N, force N, pop, close, is_closed, is_empty, is_full, len or capacity\nwords: too few or too many\n",
         unread: INPUT,
     },
 ];

@@ -33,7 +33,7 @@ static TELLINGS: [StreamRow; 6] = [
         end: End {
             status: 2,
             output: b"",
-            faults: b"usage: queue_explore KIND [refuse] [schedule N | lanes N | waits [N]]\nrefuse: with unbounded alone\n",
+            faults: b"usage: queue_explore KIND [refuse] [schedule N | lanes N | waits [N]]\nreads: [before: CALLS] 0: CALLS 1: CALLS .., a line each; CALLS is CALL; CALL ..; CALL is push N, force N, pop, close, is_closed, is_empty, is_full, len or capacity\nrefuse: with unbounded alone\n",
         },
     },
     StreamRow {
