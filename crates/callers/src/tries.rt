@@ -26,11 +26,7 @@ pub fn push_in_tries(
 }
 
 /// Takes the front of a queue with a capacity, in so many tries at most.
-pub fn pop_in_tries(
-    queue: &ConcurrentQueue<u64>,
-    party: &mut Party<u64>,
-    tries: u64,
-) -> Option<u64>
+pub fn pop_in_tries(queue: &ConcurrentQueue<u64>, party: &mut Party<u64>, tries: u64) -> Option<u64>
     requires is_party { IsPartyOf party.old queue.now }
     requires capped { queue.now.cap ≢ None }
     ensures { IsPartyOf party.new queue.now }
