@@ -100,10 +100,10 @@ fn beside_forced_items<R: Threads + Wait + Abort + Sync>(
     let ((answered, spent), forced) = join(
         rt,
         || -> (bool, u64)
-            requires { IsEndOf one channel.now }
+            requires { IsEndOf one channel }
         { call_once(rt, host, &channel, one, &REFUSED, &watched) },
         || -> bool
-            requires { IsEndOf two channel.now }
+            requires { IsEndOf two channel }
         { force_and_close(rt, host, &channel, two, &watched) },
     );
     (answered, forced, spent)
