@@ -66,6 +66,11 @@ fn the_last_receiver_closes(rt: HostRuntime) {
     }
 }
 
+/// Drops two values at once, each on a thread of its own.
+fn drop_both<R: Threads + Sync, A: Send + Drop, B: Send + Drop>(rt: &R, one: A, two: B) {
+    join(rt, || drop(one), || drop(two));
+}
+
 /// How many items were made and dropped, of a channel that three are sent to and one is received from, whose ends two threads drop at once.
 fn dropped_at_once<R: Threads + Wait + Abort + Sync>(
     rt: &R,
@@ -78,7 +83,7 @@ fn dropped_at_once<R: Threads + Wait + Abort + Sync>(
         drop(sender.try_send(rt, Counted::of(&items)));
     }
     drop(receiver.try_recv(rt));
-    join(rt, || drop(sender), || drop(receiver));
+    drop_both(rt, sender, receiver);
     (items.made(), items.dropped())
 }
 
