@@ -64,6 +64,14 @@ impl Post {
     }
 }
 
+/// What happens before a future says what it found at its first look.
+#[derive(Clone, Copy)]
+enum Meanwhile {
+    Nothing,
+    /// An item is given.
+    Given,
+}
+
 /// A task of one future, which takes an item.
 struct Taker<'a> {
     post: &'a Post,
@@ -84,14 +92,13 @@ impl<'a> Taker<'a> {
         self.task.is_woken()
     }
 
-    /// One poll. Before the future says what it found at its first look, this happens.
-    fn poll_while<F: FnOnce()>(&mut self, meanwhile: F) {
+    fn poll_while(&mut self, meanwhile: Meanwhile) {
         let Taker { post, task, place } = self;
         task.enter(|cx| take(post, cx, place, meanwhile));
     }
 
     fn poll(&mut self) {
-        self.poll_while(|| {});
+        self.poll_while(Meanwhile::Nothing);
     }
 
     /// The future is dropped.
@@ -106,15 +113,17 @@ impl<'a> Taker<'a> {
 }
 
 /// Takes an item, or is pending.
-fn take<'a, F: FnOnce()>(
+fn take<'a>(
     post: &'a Post,
     cx: &mut Context<'_>,
     place: &mut Place<'a, Item>,
-    meanwhile: F,
+    meanwhile: Meanwhile,
 ) {
     let look = mem::replace(place, Place::new(&post.arrivals)).rise();
     let found = post.try_take();
-    meanwhile();
+    if let Meanwhile::Given = meanwhile {
+        post.give();
+    }
     let now = if found {
         look.found(Item { made: () })
     } else {
@@ -203,7 +212,7 @@ fn a_future_that_has_found_hands_on_a_wake_for_another_item(rt: HostRuntime) {
     let (mut first, mut second) = two_pending(&rt, &post);
     // an item that nobody is notified of yet, which the first takes; another one is given before it says so
     post.items.fetch_add(1, SeqCst);
-    first.poll_while(|| post.give());
+    first.poll_while(Meanwhile::Given);
     is(&rt, second.is_woken(), true);
     second.poll();
     is(&rt, post.left(), 0);
