@@ -40,8 +40,8 @@ returns-in-Single-Table g c =
 pub set_out_at-requires-in-Ring-Table-clause-held : goal.set_out_at-requires-in-Ring-Table-clause-held
 set_out_at-requires-in-Ring-Table-clause-held g c = let b = c.in-Ring-Table in (held_here ring_table b.ring.table.shared.table_id _ b.seat c.args.party b.is-1 c.party.invariant c.party.view_is (c.requires.is_party ∙ (sym c.self.view_is ∙ ap form_id b.is-0))).0
 
-pub set_out_at-requires-in-Ring-Table-clause-of : goal.set_out_at-requires-in-Ring-Table-clause-of
-set_out_at-requires-in-Ring-Table-clause-of g c = let b = c.in-Ring-Table in (held_here ring_table b.ring.table.shared.table_id _ b.seat c.args.party b.is-1 c.party.invariant c.party.view_is (c.requires.is_party ∙ (sym c.self.view_is ∙ ap form_id b.is-0))).1
+pub set_out_at-requires-in-Ring-Table-clause-is_party : goal.set_out_at-requires-in-Ring-Table-clause-is_party
+set_out_at-requires-in-Ring-Table-clause-is_party g c = let b = c.in-Ring-Table in (held_here ring_table b.ring.table.shared.table_id _ b.seat c.args.party b.is-1 c.party.invariant c.party.view_is (c.requires.is_party ∙ (sym c.self.view_is ∙ ap form_id b.is-0))).1
 
 pub at-requires-in-Break-set_out_at : goal.at-requires-in-Break-set_out_at
 at-requires-in-Break-set_out_at g c = c.in-Break-set_out_at.ensures.0
