@@ -35,7 +35,7 @@ leave_for_tests() {
 
 # SIDE CRATE FLAG..: runs the crate's tests there. It writes the names of the tests that failed to SIDE.failed, the counts to SIDE.counts.
 run_tests() {
-    local side=$1 crate=$2 linked=no file status=0
+    local side=$1 crate=$2 linked=no status=0
     shift 2
     (
         cd "$work/$side/$crate"
@@ -45,12 +45,14 @@ run_tests() {
             tail -n 20 "$work/$side.build"
             exit 3
         fi
+        cargo tree --offline --invert concurrent-queue --depth 0 --prefix none "$@" >"$work/$side.tree" 2>&1 || true
         timeout 1800 cargo test --offline --release --no-fail-fast "$@" >"$work/$side.log" 2>&1
     ) || status=$?
     [ "$status" = 3 ] && return 1
-    for file in $(sed -n 's/^ *Executable .*(\(.*\))$/\1/p' "$work/$side.build"); do
-        if nm "$file" 2>/dev/null | grep -q ' queue_c_push$'; then linked=yes; fi
-    done
+    # Where only the examples of its comments call the queue, no executable that is left has the library.
+    if grep -qF "($work/$side/concurrent-queue)" "$work/$side.tree" && [ -n "$(nm "$work/$side"/target/release/deps/libconcurrent_queue-*.rlib 2>/dev/null | sed -n '/ queue_c_push$/p')" ]; then
+        linked=yes
+    fi
     sed -n 's/^test \(.*\) \.\.\. FAILED$/\1/p' "$work/$side.log" | sort -u >"$work/$side.failed"
     if [ "$status" != 0 ] && ! [ -s "$work/$side.failed" ]; then echo "the run, with status $status" >"$work/$side.failed"; fi
     awk '/^test result:/ { passed += $4; failed += $6 } END { printf "%d passed, %d failed", passed, failed }' "$work/$side.log" >"$work/$side.counts"

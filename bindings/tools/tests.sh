@@ -74,11 +74,28 @@ check_c() {
     fi
 }
 
+# TEXT COMMAND..: the command fails, and says why.
+check_refused() {
+    local text=$1
+    shift
+    if timeout 600 "$@" >"$work/log" 2>&1; then
+        echo "'$*' is not refused: FAILED"
+        failed=$((failed + 1))
+    elif ! grep -qF "$text" "$work/log"; then
+        echo "'$*' does not say '$text': FAILED"
+        tail -n 20 "$work/log"
+        failed=$((failed + 1))
+    fi
+}
+
 check_tests() {
     local test file
     check_c
     cp -r "$here/rust" "$work/ours"
     cd "$work/ours"
+    check_refused "QUEUE_C is not set" env -u QUEUE_C cargo build --offline --release
+    check_refused "which has no liblibc_c.a" env RATTLE_C="$work" cargo build --offline --release
+    check_refused "the feature \`loom\`" cargo build --offline --release --features loom
     for test in tests/*.rs; do
         file=$(basename "$test")
         cargo_tests "rust/tests/$file" --test "${file%.rs}"

@@ -12,8 +12,8 @@ const FAR: usize = 56;
 /// A number that no thread has.
 const NOBODY: usize = usize::MAX;
 
-/// A place for a party, on cache lines of its own. One thread at a time may look at it.
-#[repr(align(128))]
+/// A place for a party, on a cache line of its own. One thread at a time may look at it.
+#[repr(align(64))]
 struct Place<T>(Cell<Option<Party<T>>>);
 
 impl<T> Place<T> {

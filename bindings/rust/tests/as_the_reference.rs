@@ -54,7 +54,7 @@ fn a_static_queue() {
 #[test]
 fn capacities_that_no_memory_has() {
     assert!(catch_unwind(|| ConcurrentQueue::<u64>::bounded(0)).is_err());
-    for capacity in [usize::MAX / 2, usize::MAX / 8] {
+    for capacity in [usize::MAX, usize::MAX / 2, usize::MAX / 8] {
         assert!(catch_unwind(|| ConcurrentQueue::<u64>::bounded(capacity)).is_err());
     }
 }

@@ -120,7 +120,7 @@ impl End {
         let shared: &ConcurrentQueue<u64> = &self.queue;
         match begin::<W>(shared, party, call) {
             Outcome::Done(party, reply) => {
-                self.turn = Turn::Resting(Some(party));
+                *place = Some(party);
                 Answer::Reply(reply)
             }
             Outcome::Pending(pending) => {
