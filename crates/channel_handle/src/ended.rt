@@ -1,6 +1,7 @@
 //! What is left of an end that has ended.
 ghost use Rattle.std.specs.Prelude.{◌≡◌, MatchResult};
 ghost use Rattle.std.specs.Arc.{arc_value};
+ghost use Rattle.queue_steps.specs.Parties.{IsView};
 ghost use Rattle.concurrent_queue.specs.Shared.{IsPartyOf, Joins, Finishes};
 ghost use Rattle.channel_handle.specs.Left.{IsLeft};
 
@@ -35,6 +36,15 @@ impl<T, A: Allocator> Model for Ended<T, A> {
     ghost Value = { PartyView T };
 
     ghost view = { λ e. e.party };
+}
+
+impl<T, A: Allocator> Ended<T, A> {
+    /// Does nothing. Its contract tells of the party what `Party::show_view` tells of every party.
+    pub fn show_view(&self)
+        ensures { IsView self.now.queue.cap self.now.view }
+    {
+        self.party.show_view();
+    }
 }
 
 impl<T: Drop, A: Allocator> Ended<T, A> {

@@ -3,6 +3,7 @@ ghost use Rattle.std.specs.Prelude.{◌≡◌, true, MatchResult, MatchOption};
 ghost use Rattle.std.specs.Arc.{arc_value};
 ghost use Rattle.queue_steps.specs.declared.model.Call.TheVariants as call;
 ghost use Rattle.queue_steps.specs.declared.model.Reply.TheVariants as reply;
+ghost use Rattle.queue_steps.specs.Parties.{IsView};
 ghost use Rattle.queue_steps.specs.Shares.{IsEntire};
 ghost use Rattle.counted_channel.specs.Channel.{IsEndOf, ChannelCall, EndParts, EndJoins, Ends, GivenBack};
 
@@ -42,6 +43,15 @@ impl<E: ChannelEnd<T>, T: Drop, A: Allocator> Drop for Handle<E, T, A> {
     fn drop(self) {
         let Self { channel, owed } = self;
         owed.end(&channel);
+    }
+}
+
+impl<E: ChannelEnd<T>, T, A: Allocator> Handle<E, T, A> {
+    /// Does nothing. Its contract tells of the end's party what `Party::show_view` tells of every party.
+    pub fn show_view(&self)
+        ensures { IsView self.now.party.queue.cap self.now.party.view }
+    {
+        self.owed.end.shows_view();
     }
 }
 

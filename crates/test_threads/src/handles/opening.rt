@@ -1,4 +1,8 @@
 //! Channels as the tests open them.
+ghost use Rattle.std.specs.Prelude.{IfOk};
+ghost use Rattle.channel_handle.specs.Ends.{IsPair};
+ghost use Rattle.counted_channel.specs.Channel.{EndParts};
+
 use channel_handle::{Receiver, Sender, bounded, unbounded};
 use mem_blocks::null_testable::NullTestable;
 use std::alloc::AllocError;
@@ -12,7 +16,9 @@ pub fn opened<T: Drop, A: NullTestable + Clone>(
     rt: &impl Abort,
     alloc: A,
     cap: Option<usize>,
-) -> Opened<T, A> {
+) -> Opened<T, A>
+    ensures { IfOk result (λ r. IsPair cap r.0 r.1) }
+{
     match cap {
         Some(0) => panic!(rt; "a capacity of 0"),
         Some(slots) => bounded(alloc, slots),
@@ -25,7 +31,9 @@ pub fn opened_surely<T: Drop, A: NullTestable + Clone>(
     rt: &impl Abort,
     alloc: A,
     cap: Option<usize>,
-) -> (Sender<T, A>, Receiver<T, A>) {
+) -> (Sender<T, A>, Receiver<T, A>)
+    ensures { IsPair cap result.0 result.1 }
+{
     match opened(rt, alloc, cap) {
         Ok(ends) => ends,
         Err(_) => panic!(rt; "no memory"),
@@ -37,6 +45,7 @@ pub fn one_more<T, A>(rt: &impl Abort, sender: &mut Sender<T, A>) -> Sender<T, A
 where
     T: Drop,
     A: NullTestable,
+    ensures { EndParts sender.old sender.new result }
 {
     match sender.split() {
         Ok(other) => other,

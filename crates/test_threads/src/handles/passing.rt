@@ -2,6 +2,7 @@
 use crate::asserts::{is, is_in};
 use crate::handles::opening::{one_more, opened_surely};
 use channel_handle::{Disconnected, Receiver, SendError, Sender};
+use std::alloc::Global;
 use std::io;
 use std::io::ErrorKind;
 use std::process::Abort;
@@ -48,6 +49,27 @@ fn two_and_two<R: Threads + Wait + Abort + Sync>(
 fn each_item_comes_once(rt: HostRuntime) {
     for cap in [Some(1), Some(3), None] {
         is_in(&rt, cap, two_and_two(&rt, &rt, cap), 999_000);
+    }
+}
+
+/// What an iterator of a receiver gives, of three numbers that were sent.
+fn collected<R: Wait + Abort>(rt: &R, alloc: Global, cap: Option<usize>) -> Option<[u64; 3]> {
+    let (mut sender, mut receiver) = opened_surely(rt, alloc, cap);
+    for item in 1..=3 {
+        is(rt, sender.send(rt, item), Ok(()));
+    }
+    drop(sender);
+    let came: Vec<u64> = receiver.iter(rt).collect(alloc).ok()?;
+    let [one, two, three] = came.as_slice() else {
+        return None;
+    };
+    Some([*one, *two, *three])
+}
+
+#[test]
+fn a_receiver_fills_a_list(rt: HostRuntime) {
+    for cap in [Some(3), None] {
+        is_in(&rt, cap, collected(&rt, rt.alloc(), cap), Some([1, 2, 3]));
     }
 }
 

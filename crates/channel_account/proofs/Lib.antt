@@ -1,0 +1,3 @@
+pub mod Own
+pub mod Settled
+pub mod Telling
