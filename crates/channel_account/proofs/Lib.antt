@@ -1,3 +1,2 @@
 pub mod Own
 pub mod Settled
-pub mod Telling
