@@ -1,5 +1,5 @@
 -- What calls, partings and joinings add to what a party has sent and received.
-use Rattle.std.proofs.Common.{◌≡◌, ℕ, zero, suc, ◌+◌, ◌<◌, Bool, true, false, List, [], ◌∷◌, ◌++◌, length, Option, Result, Ok, Err, MatchResult, refl, ap, sym, subst, ◌∙◌, ⊎_elim, append_assoc, append-nil, arith}
+use Rattle.std.proofs.Common.{◌≡◌, ℕ, zero, suc, ◌+◌, ◌<◌, Bool, true, false, List, [], ◌∷◌, ◌++◌, length, Option, Result, Ok, Err, MatchResult, refl, ap, sym, subst, ◌∙◌, ⊎_elim, append-nil, arith}
 use Rattle.std.specs.List.{All}
 use Rattle.std.proofs.lemmas.List.Elements.{All-head, All-tail}
 use mathlib.Core.List.{IsPrefix}
@@ -22,7 +22,7 @@ use Rattle.channel_calls.specs.declared.errors.Disconnected.{Disconnected}
 use Rattle.counted_channel.specs.Channel.{End, ChannelCall, EndParts, GivenBack, Ends, sent, received}
 use Rattle.channel_handle.specs.Ends.{AreEnds, IsPair}
 use Rattle.channel_account.specs.Own.{found_before, at_places, own}
-use Rattle.channel_account.specs.Told.{Told, told, HasDone, HasSent, HasReceived, PartsTold, JoinsTold, AreNew, SawEnd}
+use Rattle.channel_account.specs.Told.{told, HasDone, HasSent, HasReceived, PartsTold, JoinsTold, AreNew, SawEnd}
 
 module _ {T : Type 0} where
   -- what stands in a history stands in a longer one

@@ -8,7 +8,7 @@ use Rattle.law_common.specs.Vocabulary.{Effect}
 use Rattle.queue_steps.specs.Effect.{after}
 use Rattle.queue_steps.specs.Legal.{IsSoundOwned}
 use Rattle.queue_steps.specs.Sequential.{Owned}
-use Rattle.queue_steps.specs.Parties.{View, IsView}
+use Rattle.queue_steps.specs.Parties.{IsView}
 use Rattle.law_histories.specs.Histories.{handed_in, handed_out}
 use Rattle.law_parties.specs.Doings.{passes, done_by, hands_in_such, hands_out_such}
 use Rattle.law_parties.proofs.Drained.{is_drained}
