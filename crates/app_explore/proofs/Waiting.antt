@@ -25,9 +25,8 @@ wait_more f xs i x start old new inside is before line =
     let all : wait_lines 1 (map f (take (i + 1) xs)) ≡ wait_lines 1 done ++ last = ap (λ l. wait_lines 1 l) more ∙ wait_lines-more done 1 (f x) ∙ ap (λ k. wait_lines 1 done ++ wait_line k (f x).waiter (f x).other) number in
     line ∙ ap (λ l. l ++ last) before ∙ append_assoc start (wait_lines 1 done) last ∙ ap (λ l. start ++ l) (sym all)
 
--- a line is at its end, where d is its number and a and b are the sides
-pub line_ends : {E : Type 0} (r : Result Unit E) (d a b start numbered one barred two new : List ℕ) → numbered ≡ start ++ (codes "wait " ++ d ++ codes " | ") → one ≡ numbered ++ a → barred ≡ one ++ codes " | " → two ≡ barred ++ b → new ≡ (if is_ok r then two ++ 10 ∷ [] else two)
-    → OnOk r (new ≡ start ++ (codes "wait " ++ d ++ codes " | " ++ a ++ codes " | " ++ b ++ 10 ∷ []))
-line_ends (Ok u) d a b start numbered one barred two new number first bar second end =
-    end ∙ ap (λ l. l ++ 10 ∷ []) (second ∙ ap (λ l. l ++ b) (bar ∙ ap (λ l. l ++ codes " | ") (first ∙ ap (λ l. l ++ a) number))) ∙ simp append_assoc refl
-line_ends (Err e) d a b start numbered one barred two new number first bar second end = tt
+-- a line is at its end, where d is its number and a is what stands behind that
+pub line_ends : {E : Type 0} (r : Result Unit E) (d a start numbered one new : List ℕ) → numbered ≡ start ++ (codes "wait " ++ d ++ codes " | ") → one ≡ numbered ++ a → new ≡ (if is_ok r then one ++ 10 ∷ [] else one)
+    → OnOk r (new ≡ start ++ (codes "wait " ++ d ++ codes " | " ++ a ++ 10 ∷ []))
+line_ends (Ok u) d a start numbered one new number first end = end ∙ ap (λ l. l ++ 10 ∷ []) (first ∙ ap (λ l. l ++ a) number) ∙ simp append_assoc refl
+line_ends (Err e) d a start numbered one new number first end = tt

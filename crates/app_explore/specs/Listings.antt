@@ -15,7 +15,7 @@ use Rattle.app_explore.specs.Lanes.{lanes_text}
 use Rattle.app_explore.specs.Outcomes.{AreInOrder, outcome_line, text_of}
 use Rattle.app_explore.specs.Reads.{IsReadAs, IsFirstWrong}
 use Rattle.app_explore.specs.Schedules.{MakeAll, move_lines, schedule_text}
-use Rattle.app_explore.specs.Waits.{IsWaitList, IsWaitSchedule}
+use Rattle.app_explore.specs.Waits.{HasFewerWaits, IsWaitList, IsWaitSchedule}
 use Rattle.app_explore.specs.Tails.{Tail, tail_line, last_text, without_order}
 use Rattle.app_explore.specs.declared.args.Request.{Request}
 use Rattle.app_explore.specs.declared.args.Wanted.{Wanted}
@@ -85,7 +85,7 @@ TellsWanted k refuses before calls wanted.Outcomes text = IsListing k refuses be
 TellsWanted k refuses before calls (wanted.Schedule n) text = IsScheduleOf k refuses before calls n text
 TellsWanted k refuses before calls (wanted.Lanes n) text = IsPictureOf k refuses before calls n text
 TellsWanted k refuses before calls wanted.Waits text = IsWaitList k refuses before calls text
-TellsWanted k refuses before calls (wanted.Wait n) text = IsWaitSchedule k refuses before calls text
+TellsWanted k refuses before calls (wanted.Wait n) text = IsWaitSchedule k refuses before calls n text
 
 -- the number of the outcome that is asked for, if one is
 abbrev pub number_in : Wanted → Option ℕ
@@ -107,7 +107,7 @@ MayTellNothing k refuses before calls w (stop.Usage why) = ⊥
 MayTellNothing k refuses before calls w (stop.Fault why) = why ≡ fault.NoMemory
 MayTellNothing k refuses before calls w (stop.Line n why) = ⊥
 MayTellNothing k refuses before calls w (stop.NoOutcome number) = (number_in w ≡ Some number) × HasFewer k refuses before calls number
-MayTellNothing k refuses before calls w (stop.NoWait number) = w ≡ wanted.Wait number
+MayTellNothing k refuses before calls w (stop.NoWait number) = (w ≡ wanted.Wait number) × HasFewerWaits k refuses before calls number
 MayTellNothing k refuses before calls w _ = Unit {0}
 
 -- the program that the input names has fewer outcomes than that
@@ -118,11 +118,19 @@ pub record HasFewerOutcomes (r : Request) (input : List ℕ) (number : ℕ) : Ty
   pub asked : number_in r.wanted ≡ Some number
   pub fewer : HasFewer (queue_named r.kind) r.refuses before calls number
 
+-- the program that the input names has fewer waits than that
+pub record HasFewerWaitsThan (r : Request) (input : List ℕ) (number : ℕ) : Type 0 where
+  pub before : List (Call ℕ)
+  pub calls : List (List (Call ℕ))
+  pub read : IsReadAs (lines_of input) before calls
+  pub asked : r.wanted ≡ wanted.Wait number
+  pub fewer : HasFewerWaits (queue_named r.kind) r.refuses before calls number
+
 -- why nothing is told of the program that the input names
 abbrev pub MayStop : Request → List ℕ → Stop → Type 0
 MayStop r input (stop.Usage why) = ⊥
 MayStop r input (stop.Fault why) = why ≡ fault.NoMemory
 MayStop r input (stop.Line n why) = IsFirstWrong (lines_of input) n
 MayStop r input (stop.NoOutcome number) = HasFewerOutcomes r input number
-MayStop r input (stop.NoWait number) = r.wanted ≡ wanted.Wait number
+MayStop r input (stop.NoWait number) = HasFewerWaitsThan r input number
 MayStop r input _ = Unit {0}

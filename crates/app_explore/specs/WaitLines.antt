@@ -15,9 +15,16 @@ party_call_text p None = decimal p ++ codes ":"
 abbrev pub side_text : Side → List ℕ
 side_text s = party_call_text s.party s.call ++ codes " at " ++ label_text s.local
 
--- the line of this number: who waits, and for whom
+-- who waits, and for whom
+abbrev pub sides_text : Side → Side → List ℕ
+sides_text waiter other = side_text waiter ++ codes " | " ++ side_text other
+
+abbrev pub wait_text : Waiting → List ℕ
+wait_text x = sides_text x.waiter x.other
+
+-- the line of this number
 abbrev pub wait_line : ℕ → Side → Side → List ℕ
-wait_line n waiter other = codes "wait " ++ decimal n ++ codes " | " ++ side_text waiter ++ codes " | " ++ side_text other ++ 10 ∷ []
+wait_line n waiter other = codes "wait " ++ decimal n ++ codes " | " ++ sides_text waiter other ++ 10 ∷ []
 
 -- a line for each, of which the first has the number n
 abbrev pub wait_lines : ℕ → List Waiting → List ℕ

@@ -1,26 +1,41 @@
 -- Who waits for whom in a program.
-use Rattle.std.specs.Prelude.{◌≡◌, ℕ, Bool, List}
+use Rattle.std.specs.Prelude.{◌≡◌, ℕ, ◌-◌, ◌<◌, Bool, Some, List, length, map, slice_get}
 use Rattle.std.specs.List.{All}
 use Rattle.queue_steps.specs.declared.model.Call.{Call}
 use Rattle.queue_steps.specs.declared.steps.types.Kind.{Kind}
 use Rattle.machine_explore.specs.declared.schedule.Move.{Move}
-use Rattle.machine_explore.specs.Waiting.{IsWaitOf, Waiting}
+use Rattle.machine_explore.specs.Waiting.{HasNoOtherWait, IsWaitOf, Waiting}
+use Rattle.app_explore.specs.Outcomes.{AreInOrder}
 use Rattle.app_explore.specs.Schedules.{MakeAll, move_lines, schedule_text}
-use Rattle.app_explore.specs.WaitLines.{waits_text}
+use Rattle.app_explore.specs.WaitLines.{wait_text, waits_text}
 
 -- a schedule shows that the one waits for the other at its end
 abbrev pub IsShownWait : Kind → Bool → List (Call ℕ) → List (List (Call ℕ)) → Waiting → Type 0
 IsShownWait k refuses before calls x = (schedule : List Move) × IsWaitOf k refuses before calls schedule x
 
--- the text lists waits of the program, each of which a schedule shows
+-- these are the waits of the program, each of which a schedule shows, in the order of their texts, each once; and it has no other
+pub record AreWaits (k : Kind) (refuses : Bool) (before : List (Call ℕ)) (calls : List (List (Call ℕ))) (waits : List Waiting) : Type 0 where
+  pub no_other : HasNoOtherWait k refuses before calls waits
+  pub shown : All (IsShownWait k refuses before calls) waits
+  pub in_order : AreInOrder (map wait_text waits)
+
+-- the text has a line for each wait of the program, and for no other, and how many there are
 pub record IsWaitList (k : Kind) (refuses : Bool) (before : List (Call ℕ)) (calls : List (List (Call ℕ))) (text : List ℕ) : Type 0 where
   pub waits : List Waiting
-  pub shown : All (IsShownWait k refuses before calls) waits
+  pub are : AreWaits k refuses before calls waits
   pub text_is : text ≡ waits_text waits
 
--- the text has the lines by which a replay makes a schedule that shows a wait of the program: line by line, they make its moves and no other
-pub record IsWaitSchedule (k : Kind) (refuses : Bool) (before : List (Call ℕ)) (calls : List (List (Call ℕ))) (text : List ℕ) : Type 0 where
+-- the text has the lines by which a replay makes a schedule that shows the program's wait of this number: line by line, they make its moves and no other
+pub record IsWaitSchedule (k : Kind) (refuses : Bool) (before : List (Call ℕ)) (calls : List (List (Call ℕ))) (number : ℕ) (text : List ℕ) : Type 0 where
+  pub waits : List Waiting
+  pub are : AreWaits k refuses before calls waits
   pub wait : Waiting
-  pub shown : IsShownWait k refuses before calls wait
+  pub there : slice_get waits (number - 1) ≡ Some wait
   pub text_is : text ≡ schedule_text before wait.seen
   pub made : MakeAll (move_lines 0 wait.seen) wait.seen
+
+-- the program has fewer waits than that
+pub record HasFewerWaits (k : Kind) (refuses : Bool) (before : List (Call ℕ)) (calls : List (List (Call ℕ))) (number : ℕ) : Type 0 where
+  pub waits : List Waiting
+  pub are : AreWaits k refuses before calls waits
+  pub fewer : length waits < number

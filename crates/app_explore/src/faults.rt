@@ -20,7 +20,7 @@ pub enum Stop {
     TooManyStates,
     /// The program has no outcome of this number.
     NoOutcome(u64),
-    /// So many waits were not found.
+    /// The program has no wait of this number.
     NoWait(u64),
     /// What was found could not be shown to be right.
     NotShown,

@@ -1,7 +1,7 @@
 //! How it is printed who waits for whom.
-ghost use Rattle.std.specs.Prelude.{◌≡◌, ◌++◌, map, OnOk, string_bytes};
+ghost use Rattle.std.specs.Prelude.{◌≡◌, ◌++◌, map, IfOk, OnOk, string_bytes};
 ghost use Rattle.machine_explore.specs.Waiting.{wait_of};
-ghost use Rattle.app_explore.specs.WaitLines.{party_call_text, side_text, wait_line, waits_text};
+ghost use Rattle.app_explore.specs.WaitLines.{party_call_text, side_text, sides_text, wait_line, wait_text, waits_text};
 
 use app_text::calls::ShownCall;
 use machine_explore::waiting::{Side, Wait};
@@ -33,10 +33,48 @@ pub fn write_wait<A: Allocator>(
     ensures { OnOk result (string_bytes text.new ≡ string_bytes text.old ++ wait_line number waiter other) }
 {
     write!(text, "wait {number} | ")?;
+    write_sides(waiter, other, text)?;
+    text.push_str("\n")
+}
+
+/// Appends that line without its number, by which waits are told apart and sorted.
+pub fn write_sides<A: Allocator>(
+    waiter: Side,
+    other: Side,
+    text: &mut String<A>,
+) -> Result<(), AllocError>
+    ensures { OnOk result (string_bytes text.new ≡ string_bytes text.old ++ sides_text waiter other) }
+{
     write_side(waiter, text)?;
     text.push_str(" | ")?;
-    write_side(other, text)?;
-    text.push_str("\n")
+    write_side(other, text)
+}
+
+/// The text of each wait.
+///
+/// # Errors
+///
+/// Where there is no memory.
+pub fn texts_of<A: Allocator + Copy>(
+    alloc: A,
+    waits: &[Wait<A>],
+) -> Result<Vec<String<A>, A>, AllocError>
+    ensures { IfOk result (λ texts. map string_bytes texts.items ≡ map wait_text (map wait_of waits.now)) }
+{
+    let mut texts = Vec::new(alloc);
+    for wait in waits {
+        texts.push(text_of(alloc, wait)?)?;
+    }
+    Ok(texts)
+}
+
+// The text of a wait.
+fn text_of<A: Allocator>(alloc: A, wait: &Wait<A>) -> Result<String<A>, AllocError>
+    ensures { IfOk result (λ text. string_bytes text ≡ wait_text (wait_of wait.now)) }
+{
+    let mut text = String::new(alloc);
+    write_sides(wait.waiter, wait.other, &mut text)?;
+    Ok(text)
 }
 
 // Appends a party, its call, and the label of its step.

@@ -1,20 +1,23 @@
 //! Who waits for whom in a program: a line for each wait, or the schedule of one.
-ghost use Rattle.std.specs.Prelude.{◌<◌, IfOk, MatchOption, string_bytes, ⊤};
+ghost use Rattle.std.specs.Prelude.{◌<◌, IfOk, MatchOption, map, string_bytes};
+ghost use Rattle.std.specs.List.{All};
 ghost use Rattle.machine_explore.specs.Waiting.{wait_of};
 ghost use Rattle.machine_replay.specs.Replays.{CanReplay};
-ghost use Rattle.app_explore.specs.Waits.{IsShownWait, IsWaitList, IsWaitSchedule};
+ghost use Rattle.app_explore.specs.Waits.{AreWaits, HasFewerWaits, IsShownWait, IsWaitList, IsWaitSchedule};
 
 use crate::listing::Problem;
+use crate::outcomes::are_in_order;
 use crate::schedules::write_schedule;
-use crate::wait_lines::{write_wait, write_waits};
+use crate::wait_lines::{texts_of, write_sides, write_waits};
 use machine_explore::check::Table;
+use machine_explore::check_waits::check_waits;
 use machine_explore::search::faults::SearchFault;
 use machine_explore::search::find::find;
 use machine_explore::search::rounds::{Approach, Round, approaches, rounds_of};
 use machine_explore::waiting::{Wait, show_wait, side_of};
 use std::alloc::{AllocError, Allocator};
 
-/// The line of each wait, sorted by their bytes, and how many there are. Each is shown by a schedule; that none is missing is not proved.
+/// The line of each wait, sorted by their bytes, and how many there are.
 ///
 /// # Errors
 ///
@@ -26,18 +29,13 @@ pub fn list_waits<A: Allocator + Copy>(
     requires { CanReplay problem.now.kind }
     ensures { IfOk result (λ text. IsWaitList problem.now.kind problem.now.refuses problem.now.program.before problem.now.program.parties.items (string_bytes text)) }
 {
-    let approaches = find_waits(alloc, problem)?;
-    let mut waits = Vec::new(alloc);
-    for found in &approaches {
-        let wait = show(alloc, problem, found)?;
-        waits.push(wait)?;
-    }
+    let waits = all_waits(alloc, problem)?;
     let mut text = String::new(alloc);
     write_waits(&waits, &mut text)?;
     Ok(text)
 }
 
-/// The lines of the schedule of the wait of this number, counted from 1, if so many were found.
+/// The lines of the schedule of the wait of this number, counted from 1, if there are so many.
 ///
 /// # Errors
 ///
@@ -49,13 +47,14 @@ pub fn wait_schedule<A: Allocator + Copy>(
 ) -> Result<Option<String<A>>, SearchFault>
     requires can { CanReplay problem.now.kind }
     requires counted { 0 < number }
-    ensures { IfOk result (λ o. MatchOption o ⊤ (λ text. IsWaitSchedule problem.now.kind problem.now.refuses problem.now.program.before problem.now.program.parties.items (string_bytes text))) }
+    ensures { IfOk result (λ o. MatchOption o
+        (HasFewerWaits problem.now.kind problem.now.refuses problem.now.program.before problem.now.program.parties.items number)
+        (λ text. IsWaitSchedule problem.now.kind problem.now.refuses problem.now.program.before problem.now.program.parties.items number (string_bytes text))) }
 {
-    let waits = find_waits(alloc, problem)?;
-    let Some(found) = waits.get((number - 1) as usize) else {
+    let waits = all_waits(alloc, problem)?;
+    let Some(wait) = waits.get((number - 1) as usize) else {
         return Ok(None);
     };
-    let wait = show(alloc, problem, found)?;
     let mut text = String::new(alloc);
     write_schedule(
         problem.program.before.as_slice(),
@@ -63,6 +62,57 @@ pub fn wait_schedule<A: Allocator + Copy>(
         &mut text,
     )?;
     Ok(Some(text))
+}
+
+// The waits that were found, shown to be all, and to stand in order.
+fn all_waits<A: Allocator + Copy>(
+    alloc: A,
+    problem: &Problem<A>,
+) -> Result<Vec<Wait<A>, A>, SearchFault>
+    requires { CanReplay problem.now.kind }
+    ensures { IfOk result (λ waits. AreWaits problem.now.kind problem.now.refuses problem.now.program.before problem.now.program.parties.items (map wait_of waits.items)) }
+{
+    let table = find(
+        alloc,
+        problem.kind,
+        problem.refuses,
+        &problem.program,
+        problem.most_states,
+    )?;
+    let found = find_waits(alloc, problem, &table)?;
+    let waits = show_each(alloc, problem, &found)?;
+    let texts = texts_of(alloc, &waits)?;
+    if !are_in_order(&texts) {
+        return Err(SearchFault::NotShown);
+    }
+    if !check_waits(
+        alloc,
+        problem.kind,
+        problem.refuses,
+        &problem.program,
+        &table,
+        &waits,
+    )? {
+        return Err(SearchFault::NotShown);
+    }
+    Ok(waits)
+}
+
+// The wait at the end of each schedule that was found.
+fn show_each<A: Allocator + Copy>(
+    alloc: A,
+    problem: &Problem<A>,
+    approaches: &[Approach<A>],
+) -> Result<Vec<Wait<A>, A>, SearchFault>
+    requires { CanReplay problem.now.kind }
+    ensures { IfOk result (λ waits. All (IsShownWait problem.now.kind problem.now.refuses problem.now.program.before problem.now.program.parties.items) (map wait_of waits.items)) }
+{
+    let mut waits = Vec::new(alloc);
+    for found in approaches {
+        let wait = show(alloc, problem, found)?;
+        waits.push(wait)?;
+    }
+    Ok(waits)
 }
 
 // What is seen of the schedule that was found, shown to lead to a wait.
@@ -89,27 +139,19 @@ fn show<A: Allocator + Copy>(
     }
 }
 
-// A schedule for each wait, in the order of their lines.
+// A schedule for each wait, in the order of their texts. Nothing rests on it.
 fn find_waits<A: Allocator + Copy>(
     alloc: A,
     problem: &Problem<A>,
-) -> Result<Vec<Approach<A>, A>, SearchFault>
-    requires { CanReplay problem.now.kind }
-{
-    let table = find(
-        alloc,
-        problem.kind,
-        problem.refuses,
-        &problem.program,
-        problem.most_states,
-    )?;
+    table: &Table<A>,
+) -> Result<Vec<Approach<A>, A>, SearchFault> {
     let parties = problem.program.parties.len();
-    let rounds = rounds_of(alloc, parties, &table)?;
-    let firsts = first_rounds(alloc, problem, &table, &rounds)?;
-    approaches(alloc, parties, &table, &firsts)
+    let rounds = rounds_of(alloc, parties, table)?;
+    let firsts = first_rounds(alloc, problem, table, &rounds)?;
+    approaches(alloc, parties, table, &firsts)
 }
 
-// The first of the rounds with each line, in the order of the lines.
+// The first of the rounds with each text, in the order of the texts.
 fn first_rounds<A: Allocator + Copy>(
     alloc: A,
     problem: &Problem<A>,
@@ -120,7 +162,7 @@ fn first_rounds<A: Allocator + Copy>(
     firsts_of(alloc, &keyed, rounds)
 }
 
-// The line of each round and its place, in the order of the lines.
+// The text of each round and its place, in the order of the texts.
 fn keyed<A: Allocator + Copy>(
     alloc: A,
     problem: &Problem<A>,
@@ -129,13 +171,13 @@ fn keyed<A: Allocator + Copy>(
 ) -> Result<Vec<(String<A>, usize), A>, AllocError> {
     let mut keyed = Vec::new(alloc);
     for (place, round) in rounds.iter().enumerate() {
-        keyed.push((line_of(alloc, problem, table, round)?, place))?;
+        keyed.push((text_at(alloc, problem, table, round)?, place))?;
     }
     keyed.sort()?;
     Ok(keyed)
 }
 
-// The first of the rounds with each of these lines, which are in order.
+// The first of the rounds with each of these texts, which are in order.
 fn firsts_of<A: Allocator + Copy>(
     alloc: A,
     keyed: &[(String<A>, usize)],
@@ -152,8 +194,8 @@ fn firsts_of<A: Allocator + Copy>(
     Ok(firsts)
 }
 
-// The line of a round, with the number 0.
-fn line_of<A: Allocator + Copy>(
+// The text of a round.
+fn text_at<A: Allocator + Copy>(
     alloc: A,
     problem: &Problem<A>,
     table: &Table<A>,
@@ -163,7 +205,7 @@ fn line_of<A: Allocator + Copy>(
     if let Some(position) = table.positions.get(round.place) {
         let waiter = side_of(&problem.program, position, round.waiter);
         let other = side_of(&problem.program, position, round.other);
-        write_wait(0, waiter, other, &mut text)?;
+        write_sides(waiter, other, &mut text)?;
     }
     Ok(text)
 }

@@ -12,3 +12,6 @@ pub mod Pairs
 pub mod Listing
 pub mod Resting
 pub mod Waits
+pub mod Halves
+pub mod Rounds
+pub mod Waited

@@ -1,5 +1,5 @@
 -- A table of standings that no move leaves has where every run comes, on any machine.
-use Rattle.std.proofs.Common.{◌≡◌, ◌≢◌, ◌∙◌, ◌<◌, ◌==◌, ◌++◌, ◌∷◌, [], ℕ, Bool, true, false, if◌then◌else◌, ◌⊎◌, List, Option, Some, None, length, refl, subst, sym, ap, inl, inr, arith, append_assoc, append-nil, drop}
+use Rattle.std.proofs.Common.{◌≡◌, ◌≢◌, ◌∙◌, ◌+◌, ◌<◌, ◌==◌, ◌++◌, ◌∷◌, [], ℕ, Bool, true, false, if◌then◌else◌, ◌⊎◌, List, Option, Some, None, length, length-append, refl, subst, sym, ap, inl, inr, arith, append_assoc, append-nil, drop}
 use Rattle.std.specs.Prelude.{slice_get, Contains, ⊤, MatchOption}
 use Rattle.std.specs.List.{All}
 use Rattle.std.proofs.lemmas.Bool.{eq-eqb}
@@ -25,11 +25,12 @@ pub record Arrives {S R T : Type 0} (step : Bool → S → R → Made S R T) (st
   pub kind : end.kind ≡ s.kind
   pub world : end.world ≡ world_by step start s.world events
   pub parties : length end.parties ≡ length calls
+  pub begun : (p : ℕ) → p < length calls → (progress_of end p).begun ≡ (progress_of s p).begun + length (begun_by p events (told_by step start s.world events))
   pub replies : (p : ℕ) → p < length calls → (progress_of end p).replies ≡ (progress_of s p).replies ++ replies_by p events (told_by step start s.world events)
 
--- the parties have the calls that are left to them to begin
-abbrev pub Begins : {S R T : Type 0} → (Bool → S → R → Made S R T) → (Call T → Begun R T) → List (List (Call T)) → Configuration S R T → List (Event T) → Type 0
-Begins step start calls s events = (p : ℕ) → p < length calls → begun_by p events (told_by step start s.world events) ≡ drop (progress_of s p).begun (calls_of calls p)
+-- of the calls that are left to it to begin each party begins the first, and so many are left behind them
+abbrev pub Begins : {S R T : Type 0} → (Bool → S → R → Made S R T) → (Call T → Begun R T) → List (List (Call T)) → (ℕ → List (Call T)) → Configuration S R T → List (Event T) → Type 0
+Begins step start calls left s events = (p : ℕ) → p < length calls → begun_by p events (told_by step start s.world events) ++ left p ≡ drop (progress_of s p).begun (calls_of calls p)
 
 -- there are as many parties as lists of calls
 pub record HasParties {S R T : Type 0} (calls : List (List (Call T))) (s : Configuration S R T) : Type 0 where
@@ -107,12 +108,12 @@ begun-skipped e es ts q = ap (λ l. (if party_of e == q then l else []) ++ begun
 replied-skipped : {T : Type 0} (e : Event T) (es : List (Event T)) (ts : List (Told T)) (q : ℕ) → replies_by q (e ∷ es) (Skipped ∷ ts) ≡ replies_by q es ts
 replied-skipped e es ts q = ap (λ l. l ++ replies_by q es ts) (if-nothing (party_of e == q))
 
-module _ {S R T : Type 0} (step : Bool → S → R → Made S R T) (start : Call T → Begun R T) (calls : List (List (Call T))) where
+module _ {S R T : Type 0} (step : Bool → S → R → Made S R T) (start : Call T → Begun R T) (calls : List (List (Call T))) (left : ℕ → List (Call T)) where
   -- past an event that was skipped
-  begins-skipped : (s : Configuration S R T) (e : Event T) (es : List (Event T)) → world_event step start s.world true e ≡ (s.world, Skipped) → Begins step start calls s (e ∷ es) → Begins step start calls s es
+  begins-skipped : (s : Configuration S R T) (e : Event T) (es : List (Event T)) → world_event step start s.world true e ≡ (s.world, Skipped) → Begins step start calls left s (e ∷ es) → Begins step start calls left s es
   begins-skipped s e es skips begins p h =
-      sym (begun-skipped e es (told_by step start s.world es) p)
-      ∙ ap (λ m. begun_by p (e ∷ es) (m.1 ∷ told_by step start m.0 es)) (sym skips)
+      ap (λ l. l ++ left p) (sym (begun-skipped e es (told_by step start s.world es) p)
+      ∙ ap (λ m. begun_by p (e ∷ es) (m.1 ∷ told_by step start m.0 es)) (sym skips))
       ∙ begins p h
 
   arrives-skipped : (s end : Configuration S R T) (e : Event T) (es : List (Event T)) → world_event step start s.world true e ≡ (s.world, Skipped) → Arrives step start calls s es end → Arrives step start calls s (e ∷ es) end
@@ -120,31 +121,40 @@ module _ {S R T : Type 0} (step : Bool → S → R → Made S R T) (start : Call
     kind = to.kind;
     world = to.world ∙ ap (λ m. world_by step start m.0 es) (sym skips);
     parties = to.parties;
+    begun = λ p h. to.begun p h ∙ ap (λ l. (progress_of s p).begun + length l)
+        (sym (begun-skipped e es (told_by step start s.world es) p) ∙ ap (λ m. begun_by p (e ∷ es) (m.1 ∷ told_by step start m.0 es)) (sym skips));
     replies = λ p h. to.replies p h ∙ ap (λ l. (progress_of s p).replies ++ l)
         (sym (replied-skipped e es (told_by step start s.world es) p) ∙ ap (λ m. replies_by p (e ∷ es) (m.1 ∷ told_by step start m.0 es)) (sym skips));
   }
 
+  -- the call that the event begins is the first of those that are left
+  first-begun : (s : Configuration S R T) (e : Event T) (es : List (Event T)) → party_of e < length calls → Begins step start calls left s (e ∷ es)
+      → call_in e (world_event step start s.world true e).1 ++ (begun_by (party_of e) es (told_by step start (world_event step start s.world true e).0 es) ++ left (party_of e)) ≡ drop (progress_of s (party_of e)).begun (calls_of calls (party_of e))
+  first-begun s e es counted begins =
+      let t = (world_event step start s.world true e).1 in
+      let ts = told_by step start (world_event step start s.world true e).0 es in
+      sym (append_assoc (call_in e t) (begun_by (party_of e) es ts) (left (party_of e))) ∙ ap (λ l. l ++ left (party_of e)) (sym (begun-own e t es ts)) ∙ begins (party_of e) counted
+
   -- past an event that went on
-  begins-on : (s : Configuration S R T) (e : Event T) (es : List (Event T)) → party_of e < length s.parties → party_of e < length calls → Begins step start calls s (e ∷ es) → Begins step start calls (led_by step start s e) es
+  begins-on : (s : Configuration S R T) (e : Event T) (es : List (Event T)) → party_of e < length s.parties → party_of e < length calls → Begins step start calls left s (e ∷ es) → Begins step start calls left (led_by step start s e) es
   begins-on s e es inside counted begins q h = elim (eqb_tells (party_of e) q) [ inl same ↦ subst Goal same.1 own | inr other ↦ by_other other.0 other.1 ]
     where
       made : World S R × Told T
       made = world_event step start s.world true e
 
       Goal : ℕ → Type 0
-      Goal z = begun_by z es (told_by step start (world_event step start s.world true e).0 es) ≡ drop (progress_of (led_by step start s e) z).begun (calls_of calls z)
+      Goal z = begun_by z es (told_by step start (world_event step start s.world true e).0 es) ++ left z ≡ drop (progress_of (led_by step start s e) z).begun (calls_of calls z)
 
       own : Goal (party_of e)
       own =
           let t = (world_event step start s.world true e).1 in
           let ts = told_by step start (world_event step start s.world true e).0 es in
-          let left : call_in e t ++ begun_by (party_of e) es ts ≡ drop (progress_of s (party_of e)).begun (calls_of calls (party_of e)) = sym (begun-own e t es ts) ∙ begins (party_of e) counted in
-          left_over (calls_of calls (party_of e)) (call_in e t) (begun_by (party_of e) es ts) (progress_of s (party_of e)).begun left
+          left_over (calls_of calls (party_of e)) (call_in e t) (begun_by (party_of e) es ts ++ left (party_of e)) (progress_of s (party_of e)).begun (first-begun s e es counted begins)
           ∙ ap (λ (g : Progress T). drop g.begun (calls_of calls (party_of e))) (sym (progress-own step start s e inside))
 
       by_other : (party_of e == q) ≡ false → party_of e ≢ q → Goal q
       by_other unequal other =
-          sym (begun-other e (world_event step start s.world true e).1 es (told_by step start (world_event step start s.world true e).0 es) q unequal)
+          ap (λ l. l ++ left q) (sym (begun-other e (world_event step start s.world true e).1 es (told_by step start (world_event step start s.world true e).0 es) q unequal))
           ∙ begins q h
           ∙ ap (λ (g : Progress T). drop g.begun (calls_of calls q)) (sym (progress-other step start s e q other))
 
@@ -153,9 +163,30 @@ module _ {S R T : Type 0} (step : Bool → S → R → Made S R T) (start : Call
     kind = to.kind;
     world = to.world;
     parties = to.parties;
+    begun = λ q h. elim (eqb_tells (party_of e) q) [ inl same ↦ subst Count same.1 (counted-own (rw same.1 h)) | inr other ↦ counted-other q h other.0 other.1 ];
     replies = λ q h. elim (eqb_tells (party_of e) q) [ inl same ↦ subst Goal same.1 (own (rw same.1 h)) | inr other ↦ by_other q h other.0 other.1 ];
   }
     where
+      Count : ℕ → Type 0
+      Count z = (progress_of end z).begun ≡ (progress_of s z).begun + length (begun_by z (e ∷ es) ((world_event step start s.world true e).1 ∷ told_by step start (world_event step start s.world true e).0 es))
+
+      counted-own : party_of e < length calls → Count (party_of e)
+      counted-own h =
+          let t = (world_event step start s.world true e).1 in
+          let rest = told_by step start (world_event step start s.world true e).0 es in
+          let more : length (begun_by (party_of e) (e ∷ es) (t ∷ rest)) ≡ length (call_in e t) + length (begun_by (party_of e) es rest) = ap (λ l. length l) (begun-own e t es rest) ∙ length-append (call_in e t) (begun_by (party_of e) es rest) in
+          let on : (progress_of (led_by step start s e) (party_of e)).begun ≡ (progress_of s (party_of e)).begun + length (call_in e t) = ap (λ (g : Progress T). g.begun) (progress-own step start s e inside) in
+          let last = to.begun (party_of e) h in
+          omega (arith, last, on, more)
+
+      counted-other : (q : ℕ) → q < length calls → (party_of e == q) ≡ false → party_of e ≢ q → Count q
+      counted-other q h unequal other =
+          let t = (world_event step start s.world true e).1 in
+          let rest = told_by step start (world_event step start s.world true e).0 es in
+          to.begun q h
+          ∙ ap (λ (g : Progress T). g.begun + length (begun_by q es rest)) (progress-other step start s e q other)
+          ∙ ap (λ l. (progress_of s q).begun + length l) (sym (begun-other e t es rest q unequal))
+
       ts : List (Told T)
       ts = told_by step start (world_event step start s.world true e).0 es
 
@@ -181,14 +212,14 @@ module _ {S R T : Type 0} (step : Bool → S → R → Made S R T) (start : Call
 
   -- wherever a run comes, the table has it
   pub reaches : (refuses : Bool) (table : List (Configuration S R T)) → All (StaysForAll (led_by step start) refuses calls table) table
-      → (es : List (Event T)) (s : Configuration S R T) → Contains table s → HasParties calls s → (refuses ≡ false → All IsGranted es) → Begins step start calls s es
+      → (es : List (Event T)) (s : Configuration S R T) → Contains table s → HasParties calls s → (refuses ≡ false → All IsGranted es) → Begins step start calls left s es
       → (end : Configuration S R T) × Contains table end × Arrives step start calls s es end
   reaches refuses table closed [] s within has grants begins =
-      (s, within, record { kind = refl; world = refl; parties = has.parties; replies = λ p h. sym (append-nil (progress_of s p).replies) })
+      (s, within, record { kind = refl; world = refl; parties = has.parties; begun = λ p h. omega arith; replies = λ p h. sym (append-nil (progress_of s p).replies) })
   reaches refuses table closed (e ∷ es) s within has grants begins =
-      by_event (λ (x : Configuration S R T) (in_table : Contains table x) (has_x : HasParties calls x) (begins_x : Begins step start calls x es). reaches refuses table closed es x in_table has_x (λ h. All-tail IsGranted e es (grants h)) begins_x) (went_on step start s.world e)
+      by_event (λ (x : Configuration S R T) (in_table : Contains table x) (has_x : HasParties calls x) (begins_x : Begins step start calls left x es). reaches refuses table closed es x in_table has_x (λ h. All-tail IsGranted e es (grants h)) begins_x) (went_on step start s.world e)
     where
-      by_event : ((x : Configuration S R T) → Contains table x → HasParties calls x → Begins step start calls x es → (end : Configuration S R T) × Contains table end × Arrives step start calls x es end)
+      by_event : ((x : Configuration S R T) → Contains table x → HasParties calls x → Begins step start calls left x es → (end : Configuration S R T) × Contains table end × Arrives step start calls x es end)
           → (world_event step start s.world true e ≡ (s.world, Skipped)) ⊎ WentOn s.world e (world_event step start s.world true e) → (end : Configuration S R T) × Contains table end × Arrives step start calls s (e ∷ es) end
       by_event again (inl skips) =
           let r = again s within has (begins-skipped s e es skips begins) in
@@ -196,10 +227,8 @@ module _ {S R T : Type 0} (step : Bool → S → R → Made S R T) (start : Call
       by_event again (inr went) =
           let counted : party_of e < length calls = omega (arith, went.inside, has.calls_are) in
           let inside : party_of e < length s.parties = omega (arith, counted, has.parties) in
-          let t = (world_event step start s.world true e).1 in
           let rest = told_by step start (world_event step start s.world true e).0 es in
-          let left : call_in e t ++ begun_by (party_of e) es rest ≡ drop (progress_of s (party_of e)).begun (calls_of calls (party_of e)) = sym (begun-own e t es rest) ∙ begins (party_of e) counted in
-          let fits = event_fits calls s e (world_event step start s.world true e) (begun_by (party_of e) es rest) went left in
+          let fits = event_fits calls s e (world_event step start s.world true e) (begun_by (party_of e) es rest ++ left (party_of e)) went (first-begun s e es counted begins) in
           let stays = All-contains (StaysForAll (led_by step start) refuses calls table) table s closed within (party_of e) counted (granted_of e) (λ h. granted_if e (All-head IsGranted e es (grants h))) in
           let next = match_some (event_at calls s (party_of e) (granted_of e)) e (λ x. Contains table (led_by step start s x)) fits stays in
           let has_next : HasParties calls (led_by step start s e) = record { parties = length-set s.parties (party_of e) _ ∙ has.parties; calls_are = went.room ∙ has.calls_are } in

@@ -1,5 +1,5 @@
 -- A schedule that goes on move by move is a run of the program.
-use Rattle.std.proofs.Common.{◌≡◌, ◌≢◌, ◌∙◌, ◌+◌, ◌<◌, ◌==◌, ◌++◌, ◌∷◌, [], ℕ, zero, suc, Bool, true, false, if◌then◌else◌, ◌⊎◌, List, Option, Some, None, length, refl, subst, sym, ap, inl, inr, arith, append_assoc, append-nil, take}
+use Rattle.std.proofs.Common.{◌≡◌, ◌≢◌, ◌∙◌, ◌+◌, ◌<◌, ◌==◌, ◌++◌, ◌∷◌, [], ℕ, zero, suc, Bool, true, false, if◌then◌else◌, ◌⊎◌, List, Option, Some, None, length, length-append, refl, subst, sym, ap, inl, inr, arith, append_assoc, append-nil, take}
 use Rattle.std.specs.Prelude.{slice_get, slice_index_or}
 use Rattle.std.specs.List.{All}
 use Rattle.std.proofs.lemmas.Bool.Decides.{eqb_tells}
@@ -120,6 +120,7 @@ under_way-first k refuses before calls s start = record {
   world = refl;
   parties = ap length start.none_begun ∙ length-replicate (length calls) no_progress;
   begins = λ p h. ap (λ (g : Progress ℕ). take g.begun (calls_of calls p)) (sym (none_begun k before (length calls) p s start h));
+  counts = λ p h. ap (λ (g : Progress ℕ). g.begun) (sym (none_begun k before (length calls) p s start h));
   replies = λ p h. ap (λ (g : Progress ℕ). g.replies) (sym (none_begun k before (length calls) p s start h));
 }
 
@@ -137,6 +138,7 @@ under_way-next k refuses calls w schedule seen s m e on may is = record {
   world = ap (λ x. (world_event (step_of x) (start_of x) s.world true e).0) on.kind ∙ ap (λ x. (world_event (step_of k) (start_of k) x true e).0) on.world ∙ sym (world_by-snoc (step_of k) (start_of k) on.rest w e);
   parties = length-set s.parties (party_of e) _ ∙ on.parties;
   begins = λ p h. begun p h;
+  counts = λ p h. counts_more p h;
   replies = λ p h. replied p h;
 }
   where
@@ -192,6 +194,32 @@ under_way-next k refuses calls w schedule seen s m e on may is = record {
         ∙ ap (λ l. take (progress_of s q).begun (calls_of calls q) ++ l) (if-false (party_of e == q) (call_in e t) [] unequal)
         ∙ append-nil (take (progress_of s q).begun (calls_of calls q))
         ∙ ap (λ (g : Progress ℕ). take g.begun (calls_of calls q)) (sym (progress-other (step_of s.kind) (start_of s.kind) s e q other))
+
+    all_counted : (p : ℕ) → p < length calls → length (begun_by p (on.rest ++ e ∷ []) (told_of k w (on.rest ++ e ∷ []))) ≡ (progress_of s p).begun + length (if party_of e == p then call_in e t else [])
+    all_counted p h =
+        ap (λ x. length (begun_by p (on.rest ++ e ∷ []) x)) told_more ∙ ap (λ l. length l) (begun_by-snoc p on.rest (told_of k w on.rest) e t counted)
+        ∙ length-append (begun_by p on.rest (told_of k w on.rest)) (if party_of e == p then call_in e t else []) ∙ ap (λ n. n + length (if party_of e == p then call_in e t else [])) (on.counts p h)
+
+    CountGoal : ℕ → Type 0
+    CountGoal z = length (begun_by z (on.rest ++ e ∷ []) (told_of k w (on.rest ++ e ∷ []))) ≡ (progress_of (led s.kind s e) z).begun
+
+    counts-own_party : party_of e < length calls → CountGoal (party_of e)
+    counts-own_party h =
+        all_counted (party_of e) h
+        ∙ ap (λ l. (progress_of s (party_of e)).begun + length l) (if-true (party_of e == party_of e) (call_in e t) [] (same_party (party_of e)))
+        ∙ ap (λ (g : Progress ℕ). g.begun) (sym (own_progress h))
+
+    counts-other_party : (q : ℕ) → q < length calls → (party_of e == q) ≡ false → party_of e ≢ q → CountGoal q
+    counts-other_party q h unequal other =
+        let none : List (Call ℕ) = [] in
+        let same : (progress_of s q).begun + length none ≡ (progress_of s q).begun = omega arith in
+        all_counted q h
+        ∙ ap (λ l. (progress_of s q).begun + length l) (if-false (party_of e == q) (call_in e t) [] unequal)
+        ∙ same
+        ∙ ap (λ (g : Progress ℕ). g.begun) (sym (progress-other (step_of s.kind) (start_of s.kind) s e q other))
+
+    counts_more : (p : ℕ) → p < length calls → CountGoal p
+    counts_more p h = elim (eqb_tells (party_of e) p) [ inl same ↦ subst CountGoal same.1 (counts-own_party (rw same.1 h)) | inr other ↦ counts-other_party p h other.0 other.1 ]
 
     RepliedGoal : ℕ → Type 0
     RepliedGoal z = replies_by z (on.rest ++ e ∷ []) (told_of k w (on.rest ++ e ∷ [])) ≡ (progress_of (led s.kind s e) z).replies

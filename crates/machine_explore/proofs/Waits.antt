@@ -3,6 +3,7 @@ use Rattle.std.proofs.Common.{◌≡◌, ◌∙◌, ℕ, ◌+◌, ◌<◌, Bool,
 use Rattle.std.specs.Prelude.{replicate, slice_index_or}
 use Rattle.std.proofs.lemmas.List.{replicate_more, take_more}
 use Rattle.queue_steps.specs.declared.model.Call.{Call}
+use Rattle.queue_steps.specs.declared.sizes.TheConstants.{SOLO_STEPS}
 use Rattle.queue_steps.specs.declared.steps.types.Kind.{Kind}
 use Rattle.machine_memory.specs.declared.calls.Running.{Running}
 use Rattle.machine_memory.specs.declared.types.Event.{Event}
@@ -72,5 +73,5 @@ on_more k w p n s later t on told quiet leads =
     }
 
 -- and back
-pub round : (s later : Standing) (p n : ℕ) → IsOn s.kind s.world p (n + 1) later → later ≡ s → GoesRound s.kind s.world p
-round s later p n on same = record { steps = n + 1; some = omega arith; silent = on.silent; back = sym on.world ∙ ap (λ (x : Standing). x.world) same }
+pub round : (s later : Standing) (p n : ℕ) → n < SOLO_STEPS → IsOn s.kind s.world p (n + 1) later → later ≡ s → GoesRound s.kind s.world p
+round s later p n few on same = record { steps = n + 1; some = omega arith; few = omega (arith, few); silent = on.silent; back = sym on.world ∙ ap (λ (x : Standing). x.world) same }

@@ -7,3 +7,4 @@ pub mod Certified
 pub mod Traces
 pub mod Listed
 pub mod Waiting
+pub mod WaitTables

@@ -73,6 +73,7 @@ pub record IsUnderWay (k : Kind) (refuses : Bool) (calls : List (List (Call ℕ)
   pub world : s.world ≡ world_after k w rest
   pub parties : length s.parties ≡ length calls
   pub begins : (p : ℕ) → p < length calls → begun_by p rest (told_of k w rest) ≡ take (progress_of s p).begun (calls_of calls p)
+  pub counts : (p : ℕ) → p < length calls → length (begun_by p rest (told_of k w rest)) ≡ (progress_of s p).begun
   pub replies : (p : ℕ) → p < length calls → replies_by p rest (told_of k w rest) ≡ (progress_of s p).replies
 
 -- by these moves, after the calls that come first, the program comes there, and this is seen of it; the list before the first move is the opening

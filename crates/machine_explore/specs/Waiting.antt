@@ -1,6 +1,7 @@
 -- When a party waits for another at the end of a schedule.
-use Rattle.std.specs.Prelude.{◌≡◌, ◌≢◌, ◌⊎◌, ℕ, ◌-◌, ◌<◌, ◌==◌, Bool, true, false, Option, Some, None, List, [], ◌∷◌, ◌++◌, length, replicate, slice_get}
+use Rattle.std.specs.Prelude.{◌≡◌, ◌≢◌, ◌⊎◌, ℕ, ◌-◌, ◌<◌, ◌≤◌, ◌==◌, Bool, true, false, Option, Some, None, List, [], ◌∷◌, ◌++◌, length, map, replicate, slice_get, Contains}
 use Rattle.queue_steps.specs.declared.model.Call.{Call}
+use Rattle.queue_steps.specs.declared.sizes.TheConstants.{SOLO_STEPS}
 use Rattle.queue_steps.specs.declared.steps.bounded.BoundedLocal.TheVariants as ring
 use Rattle.queue_steps.specs.declared.steps.unbounded.UnboundedLocal.TheVariants as chain
 use Rattle.queue_steps.specs.declared.steps.types.Kind.{Kind}
@@ -10,6 +11,7 @@ use Rattle.machine_memory.specs.declared.calls.Running.{Running}
 use Rattle.machine_memory.specs.declared.types.Event.TheVariants.{Step}
 use Rattle.machine_memory.specs.declared.types.Told.TheVariants.{Ran}
 use Rattle.machine_steps.specs.Machine.{event_of}
+use Rattle.machine_memory.specs.Places.{label_text}
 use Rattle.machine_memory.specs.SharedMemory.{Shared}
 use Rattle.machine_steps.specs.World.{World, call_at}
 use Rattle.machine_replay.specs.Played.{local_in, told_of, world_after}
@@ -21,9 +23,11 @@ use Rattle.machine_explore.specs.Positions.{Standing, calls_of, progress_of}
 use Rattle.machine_explore.specs.Traces.{IsWayOf, Seen}
 
 -- The party goes round: so many steps of its call, taken now and by it alone, have no effect and get no reply, and then all is as it is now. So alone it would go round for ever.
+-- Rounds of more steps than a lone call may have are not looked for.
 pub record GoesRound (k : Kind) (w : World (Shared ℕ) (Running ℕ)) (p : ℕ) : Type 0 where
   pub steps : ℕ
   pub some : 0 < steps
+  pub few : steps ≤ SOLO_STEPS
   pub silent : told_of k w (replicate steps (Step p true)) ≡ replicate steps (Ran None None)
   pub back : world_after k w (replicate steps (Step p true)) ≡ w
 
@@ -76,3 +80,17 @@ pub record IsWaitOf (k : Kind) (refuses : Bool) (before : List (Call ℕ)) (call
   pub half : (r : ℕ) → r < length calls → r ≢ p → is_half_done (standing k (length calls) r (way.starts.prepared.0 ++ way.on.rest)) ≡ (r == q)
   pub waiter : x.waiter ≡ side_at calls at p
   pub other : x.other ≡ side_at calls at q
+
+-- what a wait is told by: of each side the party, its call, and the label of its step
+abbrev pub SideKey : Type 0
+SideKey = ℕ × Option (Call ℕ) × List ℕ
+
+abbrev pub side_key : Side → SideKey
+side_key s = (s.party, s.call, label_text s.local)
+
+abbrev pub wait_key : Waiting → SideKey × SideKey
+wait_key x = (side_key x.waiter, side_key x.other)
+
+-- whatever wait of the program a schedule shows, one of these has its parties, their calls and the labels of their steps
+abbrev pub HasNoOtherWait : Kind → Bool → List (Call ℕ) → List (List (Call ℕ)) → List Waiting → Type 0
+HasNoOtherWait k refuses before calls waits = (schedule : List Move) (x : Waiting) → IsWaitOf k refuses before calls schedule x → Contains (map wait_key waits) (wait_key x)

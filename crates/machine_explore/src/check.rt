@@ -1,11 +1,12 @@
 //! The check that a table of positions has where every run of a program comes, and a list of outcomes what each ends with.
 ghost use Rattle.std.specs.Prelude.{◌≡◌, ◌<◌, true, Contains, IfOk, length};
+ghost use Rattle.std.specs.List.{All};
 ghost use Rattle.machine_replay.specs.Replays.{CanReplay};
 ghost use Rattle.machine_explore.specs.Explored.{HasNoOther};
 ghost use Rattle.machine_explore.specs.Moves.{led};
-ghost use Rattle.machine_explore.specs.Positions.{IsFinal, Standing, outcome_at};
+ghost use Rattle.machine_explore.specs.Positions.{Standing};
 ghost use Rattle.machine_explore.specs.Starts.{IsStart};
-ghost use Rattle.machine_explore.specs.Tables.{Stays, StaysForAll, StaysOnce};
+ghost use Rattle.machine_explore.specs.Tables.{EndsAmong, IsClosed, Stays, StaysForAll, StaysOnce};
 
 use crate::outcome::{Outcome, is_among};
 use crate::position::Position;
@@ -49,6 +50,27 @@ pub fn check<A: Allocator + Copy>(
     requires { CanReplay kind }
     ensures { IfOk result (λ yes. yes ≡ true → HasNoOther kind refuses program.now.before program.now.parties.items outcomes.now) }
 {
+    if !is_closed(alloc, kind, refuses, program, table)? {
+        return Ok(false);
+    }
+    all_end_among(alloc, program, &table.positions, outcomes)
+}
+
+/// Whether the table has where runs of the program start, and where each party leads from each of its positions. Whoever made it is not trusted.
+///
+/// # Errors
+///
+/// As of `check`.
+pub(crate) fn is_closed<A: Allocator + Copy>(
+    alloc: A,
+    kind: Kind,
+    refuses: bool,
+    program: &Program<A>,
+    table: &Table<A>,
+) -> Result<bool, AllocError>
+    requires { CanReplay kind }
+    ensures { IfOk result (λ yes. yes ≡ true → IsClosed kind refuses program.now.before program.now.parties.items table.now.positions.items) }
+{
     if !has_start(alloc, kind, program, &table.positions)? {
         return Ok(false);
     }
@@ -57,9 +79,6 @@ pub fn check<A: Allocator + Copy>(
             return Ok(false);
         }
         if !stays(alloc, refuses, program, table, index, position)? {
-            return Ok(false);
-        }
-        if !ends_among(alloc, program, position, outcomes)? {
             return Ok(false);
         }
     }
@@ -197,6 +216,23 @@ fn leads_to<A: Allocator + Copy>(
     }
 }
 
+// Whether what each position ends with is among these, if it is an end.
+fn all_end_among<A: Allocator + Copy>(
+    alloc: A,
+    program: &Program<A>,
+    positions: &[Position<A>],
+    outcomes: &[Outcome<A>],
+) -> Result<bool, AllocError>
+    ensures { IfOk result (λ yes. yes ≡ true → All (EndsAmong program.now.parties.items outcomes.now) positions.now) }
+{
+    for position in positions {
+        if !ends_among(alloc, program, position, outcomes)? {
+            return Ok(false);
+        }
+    }
+    Ok(true)
+}
+
 // Whether what the position ends with is among these, if it is an end.
 fn ends_among<A: Allocator + Copy>(
     alloc: A,
@@ -204,7 +240,7 @@ fn ends_among<A: Allocator + Copy>(
     position: &Position<A>,
     outcomes: &[Outcome<A>],
 ) -> Result<bool, AllocError>
-    ensures { IfOk result (λ yes. yes ≡ true → IsFinal program.now.parties.items position.now → Contains outcomes.now (outcome_at position.now)) }
+    ensures { IfOk result (λ yes. yes ≡ true → EndsAmong program.now.parties.items outcomes.now position.now) }
 {
     if !position.is_final(program) {
         return Ok(true);

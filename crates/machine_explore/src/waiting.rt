@@ -1,5 +1,5 @@
 //! A schedule at whose end one party waits for another.
-ghost use Rattle.std.specs.Prelude.{◌≡◌, ◌≢◌, ◌==◌, ◌<◌, ℕ, ⊤, None, true, IfOk, MatchOption};
+ghost use Rattle.std.specs.Prelude.{◌≡◌, ◌≢◌, ◌==◌, ◌<◌, ℕ, ⊤, None, false, true, IfOk, MatchOption};
 ghost use Rattle.machine_memory.specs.declared.types.Told.TheVariants.{Ran};
 ghost use Rattle.machine_replay.specs.Progress.{Between, Standing as CallStanding, stands_then};
 ghost use Rattle.machine_replay.specs.Replays.{CanReplay};
@@ -128,9 +128,10 @@ fn goes_round<A: Allocator + Copy>(
     Ok(false)
 }
 
-// Whether this tells neither of an effect nor of a reply.
-fn is_quiet(told: Told<u64>) -> bool
-    ensures { result ≡ true → told ≡ Ran None None }
+/// Whether this tells neither of an effect nor of a reply.
+pub(crate) fn is_quiet(told: Told<u64>) -> bool
+    ensures yes { result ≡ true → told ≡ Ran None None }
+    ensures no { result ≡ false → told ≢ Ran None None }
 {
     match told {
         Told::Ran(None, None) => true,

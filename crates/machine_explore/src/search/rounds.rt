@@ -1,5 +1,6 @@
 //! Where a party goes round for another. Nothing rests on it: `show_wait` shows it to be right.
 use crate::check::Table;
+use crate::check_waits::is_half_done_at;
 use crate::schedule::Move;
 use crate::search::edges::Graph;
 use crate::search::faults::SearchFault;
@@ -7,7 +8,6 @@ use crate::search::paths::Paths;
 use crate::sequence::Sequence;
 use crate::waiting::is_first;
 use queue_steps::sizes::SOLO_STEPS;
-use queue_steps::steps::{BoundedLocal, Local, SingleLocal, UnboundedLocal};
 use std::alloc::{AllocError, Allocator};
 
 /// A position at which one party waits for another.
@@ -127,7 +127,7 @@ fn half_done_beside<A: Allocator + Copy>(
 ) -> Option<usize> {
     let mut found = None;
     for other in 0..graph.parties {
-        if other != party && is_half_done(graph.local(place, other)) {
+        if other != party && is_half_done_at(graph.local(place, other)) {
             if found.is_some() {
                 return None;
             }
@@ -135,37 +135,4 @@ fn half_done_beside<A: Allocator + Copy>(
         }
     }
     found
-}
-
-// Whether a call that stands there has had an effect.
-fn is_half_done(local: Option<Local<usize>>) -> bool {
-    match local {
-        Some(Local::Single(local)) => match local {
-            SingleLocal::Pushed | SingleLocal::Forced(_) | SingleLocal::Popped => true,
-            _ => false,
-        },
-        Some(Local::Bounded(local)) => match local {
-            BoundedLocal::Filling(_)
-            | BoundedLocal::Arriving(_)
-            | BoundedLocal::Swapping
-            | BoundedLocal::Emptying => true,
-            _ => false,
-        },
-        Some(Local::Unbounded(local)) => match local {
-            UnboundedLocal::Laying(_, _, _, _)
-            | UnboundedLocal::Opening(_, _, _, _)
-            | UnboundedLocal::Chaining(_, _, _, _)
-            | UnboundedLocal::Writing(_, _)
-            | UnboundedLocal::Following(_, _)
-            | UnboundedLocal::Peeking(_, _, _)
-            | UnboundedLocal::Passing(_, _, _)
-            | UnboundedLocal::Entering(_, _)
-            | UnboundedLocal::Awaiting(_, _)
-            | UnboundedLocal::Reading(_, _)
-            | UnboundedLocal::Walking(_, _)
-            | UnboundedLocal::Destroying(_, _) => true,
-            _ => false,
-        },
-        _ => false,
-    }
 }

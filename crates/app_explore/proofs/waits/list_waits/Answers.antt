@@ -1,26 +1,12 @@
-use Rattle.std.proofs.Common.{◌≡◌, ◌∙◌, ◌++◌, ◌∷◌, [], List, ap, map, subst, sym}
-use Rattle.std.specs.List.{All}
-use Rattle.std.proofs.lemmas.List.{map-append}
-use Rattle.std.proofs.lemmas.List.Elements.{All-push}
-use Rattle.machine_explore.specs.Waiting.{Waiting, wait_of}
+use Rattle.std.proofs.Common.{◌∙◌, ◌++◌, ap, map}
+use Rattle.machine_explore.specs.Waiting.{wait_of}
 use Rattle.app_explore.specs.WaitLines.{waits_text}
-use Rattle.app_explore.specs.Waits.{IsShownWait}
 use Rattle.app_explore.proofs.waits.list_waits.Goals as goal
-
-pub loop-found-preserved : goal.loop-found-preserved
-loop-found-preserved g c =
-    let t = c.args.problem.now in
-    let P : Waiting → Type 0 = IsShownWait t.kind t.refuses t.program.before t.program.parties.items in
-    let old = c.loop-found.waits.items in
-    let wait = c.in_ok-wait.wait in
-    let more : map wait_of c.push.new.self.items ≡ map wait_of old ++ wait_of wait ∷ [] = ap (map wait_of) c.in_ok-push.ensures.items ∙ map-append wait_of old (wait ∷ []) in
-    let all : List Waiting → Type 0 = λ l. All P l in
-    subst all (sym more) (All-push P (map wait_of old) (wait_of wait) c.loop-found.invariant c.in_ok-wait.ensures)
 
 pub returns : goal.returns
 returns g c =
     record {
-      waits = map wait_of c.loop-found.waits.items;
-      shown = c.loop-found.invariant;
+      waits = map wait_of c.in_ok-waits.waits.items;
+      are = c.in_ok-waits.ensures;
       text_is = c.in_ok-write_waits.ensures ∙ ap (λ l. l ++ waits_text (map wait_of c.deref.result.now)) c.new-text.ensures.bytes ∙ ap (λ l. waits_text (map wait_of l)) c.deref.ensures.value;
     }

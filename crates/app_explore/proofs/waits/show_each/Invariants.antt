@@ -2,7 +2,7 @@ use Rattle.std.proofs.Common.{map}
 use Rattle.std.specs.List.{All}
 use Rattle.machine_explore.specs.Waiting.{wait_of}
 use Rattle.app_explore.specs.Waits.{IsShownWait}
-use Rattle.app_explore.proofs.waits.list_waits.Given as goal
+use Rattle.app_explore.proofs.waits.show_each.Given as goal
 
 -- those so far are shown
 abbrev pub invariant-loop-found : goal.invariant-loop-found

@@ -1,7 +1,0 @@
-use Rattle.std.specs.List.{All}
-use Rattle.std.proofs.Common.{take}
-use Rattle.machine_explore.specs.Tables.{IsChecked}
-use Rattle.machine_explore.proofs.check.check.Given as goal
-
-abbrev pub invariant-loop-index : goal.invariant-loop-index
-invariant-loop-index g l = All (IsChecked l.fn.kind l.fn.refuses l.fn.program.parties.items l.fn.table.positions.items l.fn.outcomes) (take l.index l.fn.table.positions.items)

@@ -1,0 +1,75 @@
+-- What where calls stand tells of waits, of each standing of a table.
+use Rattle.std.specs.Prelude.{◌≡◌, ◌≢◌, ℕ, ◌<◌, ◌==◌, Bool, true, false, Option, Some, None, List, length, Contains}
+use Rattle.queue_steps.specs.declared.model.Call.{Call}
+use Rattle.queue_steps.specs.declared.steps.bounded.BoundedLocal.TheVariants as ring
+use Rattle.queue_steps.specs.declared.steps.single.SingleLocal.TheVariants as slot
+use Rattle.queue_steps.specs.declared.steps.unbounded.UnboundedLocal.TheVariants as chain
+use Rattle.queue_steps.specs.declared.steps.types.Local.{Local}
+use Rattle.queue_steps.specs.declared.steps.types.Local.TheVariants as local
+use Rattle.machine_steps.specs.World.{call_at}
+use Rattle.machine_replay.specs.Played.{local_in}
+use Rattle.machine_explore.specs.Positions.{Standing}
+use Rattle.machine_explore.specs.Waiting.{GoesRound, IsSentBack, SideKey, side_at, side_key}
+
+-- whether a call that stands there has had an effect
+abbrev pub is_half_done_at : Option (Local ℕ) → Bool
+is_half_done_at (Some (local.Single slot.Pushed)) = true
+is_half_done_at (Some (local.Single (slot.Forced w))) = true
+is_half_done_at (Some (local.Single slot.Popped)) = true
+is_half_done_at (Some (local.Bounded (ring.Filling d))) = true
+is_half_done_at (Some (local.Bounded (ring.Arriving t))) = true
+is_half_done_at (Some (local.Bounded ring.Swapping)) = true
+is_half_done_at (Some (local.Bounded ring.Emptying)) = true
+is_half_done_at (Some (local.Unbounded (chain.Laying d t b f))) = true
+is_half_done_at (Some (local.Unbounded (chain.Opening d t b f))) = true
+is_half_done_at (Some (local.Unbounded (chain.Chaining d t b f))) = true
+is_half_done_at (Some (local.Unbounded (chain.Writing d spare))) = true
+is_half_done_at (Some (local.Unbounded (chain.Following h b))) = true
+is_half_done_at (Some (local.Unbounded (chain.Peeking h b a))) = true
+is_half_done_at (Some (local.Unbounded (chain.Passing h b more))) = true
+is_half_done_at (Some (local.Unbounded (chain.Entering h b))) = true
+is_half_done_at (Some (local.Unbounded (chain.Awaiting h b))) = true
+is_half_done_at (Some (local.Unbounded (chain.Reading b i))) = true
+is_half_done_at (Some (local.Unbounded (chain.Walking b i))) = true
+is_half_done_at (Some (local.Unbounded (chain.Destroying b i))) = true
+is_half_done_at _ = false
+
+-- the word that a push or a pop remembers where it may be sent back, and the block or the spare
+abbrev pub remembered : Option (Local ℕ) → ℕ × Option ℕ
+remembered (Some (local.Single (slot.Forcing w))) = (w, None)
+remembered (Some (local.Single (slot.Popping w))) = (w, None)
+remembered (Some (local.Bounded (ring.PushStamp d t))) = (t, None)
+remembered (Some (local.Bounded (ring.Claiming d t))) = (t, None)
+remembered (Some (local.Bounded (ring.PushHead t))) = (t, None)
+remembered (Some (local.Bounded (ring.Displacing t))) = (t, None)
+remembered (Some (local.Bounded (ring.PopStamp h))) = (h, None)
+remembered (Some (local.Bounded (ring.Taking h))) = (h, None)
+remembered (Some (local.Bounded (ring.PopTail h))) = (h, None)
+remembered (Some (local.Unbounded (chain.PushBlock d t spare))) = (t, spare)
+remembered (Some (local.Unbounded (chain.Asking d t b))) = (t, b)
+remembered (Some (local.Unbounded (chain.Installing d t b))) = (t, Some b)
+remembered (Some (local.Unbounded (chain.Claiming d t b spare))) = (t, Some b)
+remembered (Some (local.Unbounded (chain.PopBlock h))) = (h, None)
+remembered (Some (local.Unbounded (chain.PopTail h b))) = (h, b)
+remembered (Some (local.Unbounded (chain.Taking h b))) = (h, Some b)
+remembered _ = (0, None)
+
+-- party p waits there for party q, as `IsWaitOf` has it, by where the calls stand
+pub record WaitsThere (calls : List (List (Call ℕ))) (s : Standing) (p q : ℕ) : Type 0 where
+  pub round : GoesRound s.kind s.world p
+  pub back : IsSentBack s.kind s.world p
+  pub there : q < length calls
+  pub apart : p ≢ q
+  pub half : (r : ℕ) → r < length calls → r ≢ p → is_half_done_at (local_in (call_at s.world r)) ≡ (r == q)
+
+-- what that wait is told by
+abbrev pub key_there : List (List (Call ℕ)) → Standing → ℕ → ℕ → SideKey × SideKey
+key_there calls s p q = (side_key (side_at calls s p), side_key (side_at calls s q))
+
+-- whoever party p waits for there, the wait is one of these
+abbrev pub HasWaitsOf : List (List (Call ℕ)) → List (SideKey × SideKey) → Standing → ℕ → Type 0
+HasWaitsOf calls keys s p = (q : ℕ) → WaitsThere calls s p q → Contains keys (key_there calls s p q)
+
+-- so it is of each party
+abbrev pub HasWaitsAt : List (List (Call ℕ)) → List (SideKey × SideKey) → Standing → Type 0
+HasWaitsAt calls keys s = (p : ℕ) → p < length calls → HasWaitsOf calls keys s p
