@@ -26,6 +26,17 @@ fn sum_all<R: Wait>(rt: &R, receiver: Receiver<u64>) -> u64 {
     sum
 }
 
+/// Two threads send the numbers below 1000 each.
+fn both_send<R: Threads + Wait + Sync>(rt: &R, one: Sender<u64>, two: Sender<u64>) {
+    join(rt, || send_all(rt, one, 1000), || send_all(rt, two, 1000));
+}
+
+/// Adds up what two threads receive.
+fn both_sum<R: Threads + Wait + Sync>(rt: &R, one: Receiver<u64>, two: Receiver<u64>) -> u64 {
+    let (here, there) = join(rt, || sum_all(rt, one), || sum_all(rt, two));
+    here.wrapping_add(there)
+}
+
 /// The sum of what two threads receive that two others send.
 fn two_and_two<R: Threads + Wait + Abort + Sync>(
     rt: &R,
@@ -37,12 +48,12 @@ fn two_and_two<R: Threads + Wait + Abort + Sync>(
     let Ok(second) = first.split() else {
         panic!(rt; "no second receiver")
     };
-    let (_, (here, there)) = join(
+    let (_, sum) = join(
         rt,
-        || join(rt, || send_all(rt, one, 1000), || send_all(rt, two, 1000)),
-        || join(rt, || sum_all(rt, first), || sum_all(rt, second)),
+        || both_send(rt, one, two),
+        || both_sum(rt, first, second),
     );
-    here.wrapping_add(there)
+    sum
 }
 
 #[test]
