@@ -34,7 +34,7 @@ is_half_done_at (Some (local.Unbounded (chain.Walking b i))) = true
 is_half_done_at (Some (local.Unbounded (chain.Destroying b i))) = true
 is_half_done_at _ = false
 
--- the word that a push or a pop remembers where it may be sent back, and the block or the spare
+-- the word or the slot that a push or a pop remembers where it may be sent back or walks a block, and the block or the spare
 abbrev pub remembered : Option (Local ℕ) → ℕ × Option ℕ
 remembered (Some (local.Single (slot.Forcing w))) = (w, None)
 remembered (Some (local.Single (slot.Popping w))) = (w, None)
@@ -52,6 +52,9 @@ remembered (Some (local.Unbounded (chain.Claiming d t b spare))) = (t, Some b)
 remembered (Some (local.Unbounded (chain.PopBlock h))) = (h, None)
 remembered (Some (local.Unbounded (chain.PopTail h b))) = (h, b)
 remembered (Some (local.Unbounded (chain.Taking h b))) = (h, Some b)
+remembered (Some (local.Unbounded (chain.Reading b i))) = (i, Some b)
+remembered (Some (local.Unbounded (chain.Walking b i))) = (i, Some b)
+remembered (Some (local.Unbounded (chain.Destroying b i))) = (i, Some b)
 remembered _ = (0, None)
 
 -- party p waits there for party q, as `IsWaitOf` has it, by where the calls stand

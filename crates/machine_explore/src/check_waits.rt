@@ -236,7 +236,7 @@ fn stand_apart(local: Option<Local<usize>>, other: Option<Local<usize>>) -> bool
     word != other_word || block != other_block
 }
 
-// The word that a push or a pop remembers where it may be sent back, and the block or the spare.
+// The word or the slot that a push or a pop remembers where it may be sent back or walks a block, and the block or the spare.
 fn remembered(local: Option<Local<usize>>) -> (u64, Option<usize>)
     ensures { result ≡ remembered local }
 {
@@ -262,7 +262,10 @@ fn remembered(local: Option<Local<usize>>) -> (u64, Option<usize>)
             | UnboundedLocal::PopTail(word, block) => (word, block),
             UnboundedLocal::Installing(_, word, block)
             | UnboundedLocal::Claiming(_, word, block, _)
-            | UnboundedLocal::Taking(word, block) => (word, Some(block)),
+            | UnboundedLocal::Taking(word, block)
+            | UnboundedLocal::Reading(block, word)
+            | UnboundedLocal::Walking(block, word)
+            | UnboundedLocal::Destroying(block, word) => (word, Some(block)),
             _ => (0, None),
         },
         _ => (0, None),
