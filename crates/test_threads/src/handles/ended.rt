@@ -1,7 +1,7 @@
 //! Ends that become one again, and what is left of a channel whose ends have ended.
 use crate::asserts::{is, is_in};
 use crate::handles::opening::{one_more, opened_surely};
-use channel_handle::{Ended, Unfinished};
+use channel_handle::{Ended, Receiver, Sender, Unfinished};
 use std::alloc::Global;
 use std::process::Abort;
 use std::sync::Wait;
@@ -71,7 +71,7 @@ fn a_channel_is_finished_by_all_ends(rt: HostRuntime) {
 
 /// Whether an end of two senders is the last, and then the other.
 fn in_turn<R: Wait + Abort>(rt: &R, alloc: Global, cap: Option<usize>) -> ([bool; 2], [bool; 2]) {
-    let (mut one, mut receiver) = opened_surely(rt, alloc, cap);
+    let (mut one, receiver): (Sender<u64>, Receiver<u64>) = opened_surely(rt, alloc, cap);
     let two = one_more(rt, &mut one);
     let (_, first) = one.end();
     let early = receiver.is_closed();

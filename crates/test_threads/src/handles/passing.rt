@@ -26,9 +26,10 @@ fn sum_all<R: Wait>(rt: &R, receiver: Receiver<u64>) -> u64 {
     sum
 }
 
-/// Two threads send the numbers below 1000 each.
-fn both_send<R: Threads + Wait + Sync>(rt: &R, one: Sender<u64>, two: Sender<u64>) {
-    join(rt, || send_all(rt, one, 1000), || send_all(rt, two, 1000));
+/// Two threads send the numbers below 1000 each. Gives whether they could.
+fn both_send<R: Threads + Wait + Sync>(rt: &R, one: Sender<u64>, two: Sender<u64>) -> bool {
+    let (here, there) = join(rt, || send_all(rt, one, 1000), || send_all(rt, two, 1000));
+    here.is_ok() && there.is_ok()
 }
 
 /// Adds up what two threads receive.
@@ -37,29 +38,28 @@ fn both_sum<R: Threads + Wait + Sync>(rt: &R, one: Receiver<u64>, two: Receiver<
     here.wrapping_add(there)
 }
 
-/// The sum of what two threads receive that two others send.
+/// Whether two threads could send, and the sum of what two others receive.
 fn two_and_two<R: Threads + Wait + Abort + Sync>(
     rt: &R,
     host: &HostRuntime,
     cap: Option<usize>,
-) -> u64 {
+) -> (bool, u64) {
     let (mut one, mut first) = opened_surely(rt, host.alloc(), cap);
     let two = one_more(rt, &mut one);
     let Ok(second) = first.split() else {
         panic!(rt; "no second receiver")
     };
-    let (_, sum) = join(
+    join(
         rt,
         || both_send(rt, one, two),
         || both_sum(rt, first, second),
-    );
-    sum
+    )
 }
 
 #[test]
 fn each_item_comes_once(rt: HostRuntime) {
     for cap in [Some(1), Some(3), None] {
-        is_in(&rt, cap, two_and_two(&rt, &rt, cap), 999_000);
+        is_in(&rt, cap, two_and_two(&rt, &rt, cap), (true, 999_000));
     }
 }
 
