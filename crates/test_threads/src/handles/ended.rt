@@ -71,7 +71,7 @@ fn a_channel_is_finished_by_all_ends(rt: HostRuntime) {
 
 /// Whether an end of two senders is the last, and then the other.
 fn in_turn<R: Wait + Abort>(rt: &R, alloc: Global, cap: Option<usize>) -> ([bool; 2], [bool; 2]) {
-    let (mut one, receiver): (Sender<u64>, Receiver<u64>) = opened_surely(rt, alloc, cap);
+    let (mut one, mut receiver): (Sender<u64>, Receiver<u64>) = opened_surely(rt, alloc, cap);
     let two = one_more(rt, &mut one);
     let (_, first) = one.end();
     let early = receiver.is_closed();
