@@ -1,67 +1,12 @@
-//! Items between many threads, and what each call is answered.
+//! What each call is answered.
 use crate::asserts::{is, is_in};
-use crate::handles::opening::{one_more, opened_surely};
-use channel_handle::{Disconnected, Receiver, SendError, Sender};
+use crate::handles::opening::opened_surely;
+use channel_handle::{Disconnected, SendError};
 use std::alloc::Global;
 use std::io;
 use std::io::ErrorKind;
 use std::process::Abort;
 use std::sync::Wait;
-use std::thread::{Threads, join};
-
-/// Sends the numbers below `count`.
-fn send_all<R: Wait>(rt: &R, mut sender: Sender<u64>, count: u64) -> io::Result<()> {
-    for item in 0..count {
-        sender.send(rt, item)?;
-    }
-    Ok(())
-}
-
-/// Adds up what comes.
-fn sum_all<R: Wait>(rt: &R, receiver: Receiver<u64>) -> u64 {
-    let mut sum: u64 = 0;
-    for item in receiver.into_iter(rt) {
-        sum = sum.wrapping_add(item);
-    }
-    sum
-}
-
-/// Two threads send the numbers below 1000 each. Gives whether they could.
-fn both_send<R: Threads + Wait + Sync>(rt: &R, one: Sender<u64>, two: Sender<u64>) -> bool {
-    let (here, there) = join(rt, || send_all(rt, one, 1000), || send_all(rt, two, 1000));
-    here.is_ok() && there.is_ok()
-}
-
-/// Adds up what two threads receive.
-fn both_sum<R: Threads + Wait + Sync>(rt: &R, one: Receiver<u64>, two: Receiver<u64>) -> u64 {
-    let (here, there) = join(rt, || sum_all(rt, one), || sum_all(rt, two));
-    here.wrapping_add(there)
-}
-
-/// Whether two threads could send, and the sum of what two others receive.
-fn two_and_two<R: Threads + Wait + Abort + Sync>(
-    rt: &R,
-    host: &HostRuntime,
-    cap: Option<usize>,
-) -> (bool, u64) {
-    let (mut one, mut first) = opened_surely(rt, host.alloc(), cap);
-    let two = one_more(rt, &mut one);
-    let Ok(second) = first.split() else {
-        panic!(rt; "no second receiver")
-    };
-    join(
-        rt,
-        || both_send(rt, one, two),
-        || both_sum(rt, first, second),
-    )
-}
-
-#[test]
-fn each_item_comes_once(rt: HostRuntime) {
-    for cap in [Some(1), Some(3), None] {
-        is_in(&rt, cap, two_and_two(&rt, &rt, cap), (true, 999_000));
-    }
-}
 
 /// What an iterator of a receiver gives, of three numbers that were sent.
 fn collected<R: Wait + Abort>(rt: &R, alloc: Global, cap: Option<usize>) -> Option<[u64; 3]> {
