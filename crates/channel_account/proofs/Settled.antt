@@ -12,16 +12,10 @@ use Rattle.queue_steps.specs.Parties.{IsView}
 use Rattle.law_histories.specs.Histories.{handed_in, handed_out}
 use Rattle.law_parties.specs.Doings.{passes, done_by, hands_in_such, hands_out_such}
 use Rattle.law_parties.proofs.Drained.{is_drained}
-use Rattle.law_parties.proofs.Whole.{all_kept}
+use Rattle.law_parties.proofs.Whole.{all_kept, ins, outs, one_more}
 use Rattle.concurrent_queue.specs.Shared.{PartyView, Finishes}
 use Rattle.channel_account.specs.Own.{found_before, at_places, own}
 use Rattle.channel_account.specs.Told.{told, SameItems, SawEnd}
-
-one_more : (b : Bool) (n m : ℕ) → n ≡ m → cond b 1 0 + n ≡ cond b 1 0 + m
-one_more b n m e = ap (λ k. cond b 1 0 + k) e
-
-none_more : (n m : ℕ) → n ≡ m → 0 + n ≡ m
-none_more n m e = omega arith
 
 module _ {T : Type 0} where
   found_counted : (test : Effect T → Bool) (o : mathlib.Core.Option.Option (Effect T)) (es : List (Effect T)) → cond (passes test o) 1 0 + count_by test es ≡ count_by test (found_before o es)
@@ -34,27 +28,6 @@ module _ {T : Type 0} where
   counted test t (p ∷ ps) =
       sum_by-cons (λ q. cond (passes test (get_elem? t q)) 1 0) p ps
       ∙ (one_more (passes test (get_elem? t p)) _ _ (counted test t ps) ∙ found_counted test (get_elem? t p) (at_places t ps))
-
-  -- how many such items were handed in, and handed out
-  ins : (such : T → Bool) (es : List (Effect T)) → count_by (hands_in_such such) es ≡ count_by such (handed_in es)
-  ins such [] = refl
-  ins such (Effect.Append v ∷ es) = sum_by-cons (λ e. cond (hands_in_such such e) 1 0) (Effect.Append v) es ∙ (one_more (such v) _ _ (ins such es) ∙ sym (sum_by-cons (λ y. cond (such y) 1 0) v (handed_in es)))
-  ins such (Effect.Take v ∷ es) = sum_by-cons (λ e. cond (hands_in_such such e) 1 0) (Effect.Take v) es ∙ none_more (count_by (hands_in_such such) es) (count_by such (handed_in es)) (ins such es)
-  ins such (Effect.Replace old v ∷ es) = sum_by-cons (λ e. cond (hands_in_such such e) 1 0) (Effect.Replace old v) es ∙ (one_more (such v) _ _ (ins such es) ∙ sym (sum_by-cons (λ y. cond (such y) 1 0) v (handed_in es)))
-  ins such (Effect.Front old v ∷ es) = sum_by-cons (λ e. cond (hands_in_such such e) 1 0) (Effect.Front old v) es ∙ (one_more (such v) _ _ (ins such es) ∙ sym (sum_by-cons (λ y. cond (such y) 1 0) v (handed_in es)))
-  ins such (Effect.Arrive ∷ es) = sum_by-cons (λ e. cond (hands_in_such such e) 1 0) Effect.Arrive es ∙ none_more (count_by (hands_in_such such) es) (count_by such (handed_in es)) (ins such es)
-  ins such (Effect.Close ∷ es) = sum_by-cons (λ e. cond (hands_in_such such e) 1 0) Effect.Close es ∙ none_more (count_by (hands_in_such such) es) (count_by such (handed_in es)) (ins such es)
-  ins such (Effect.SelfClose ∷ es) = sum_by-cons (λ e. cond (hands_in_such such e) 1 0) Effect.SelfClose es ∙ none_more (count_by (hands_in_such such) es) (count_by such (handed_in es)) (ins such es)
-
-  outs : (such : T → Bool) (es : List (Effect T)) → count_by (hands_out_such such) es ≡ count_by such (handed_out es)
-  outs such [] = refl
-  outs such (Effect.Append v ∷ es) = sum_by-cons (λ e. cond (hands_out_such such e) 1 0) (Effect.Append v) es ∙ none_more (count_by (hands_out_such such) es) (count_by such (handed_out es)) (outs such es)
-  outs such (Effect.Take v ∷ es) = sum_by-cons (λ e. cond (hands_out_such such e) 1 0) (Effect.Take v) es ∙ (one_more (such v) _ _ (outs such es) ∙ sym (sum_by-cons (λ y. cond (such y) 1 0) v (handed_out es)))
-  outs such (Effect.Replace old v ∷ es) = sum_by-cons (λ e. cond (hands_out_such such e) 1 0) (Effect.Replace old v) es ∙ (one_more (such old) _ _ (outs such es) ∙ sym (sum_by-cons (λ y. cond (such y) 1 0) old (handed_out es)))
-  outs such (Effect.Front old v ∷ es) = sum_by-cons (λ e. cond (hands_out_such such e) 1 0) (Effect.Front old v) es ∙ (one_more (such old) _ _ (outs such es) ∙ sym (sum_by-cons (λ y. cond (such y) 1 0) old (handed_out es)))
-  outs such (Effect.Arrive ∷ es) = sum_by-cons (λ e. cond (hands_out_such such e) 1 0) Effect.Arrive es ∙ none_more (count_by (hands_out_such such) es) (count_by such (handed_out es)) (outs such es)
-  outs such (Effect.Close ∷ es) = sum_by-cons (λ e. cond (hands_out_such such e) 1 0) Effect.Close es ∙ none_more (count_by (hands_out_such such) es) (count_by such (handed_out es)) (outs such es)
-  outs such (Effect.SelfClose ∷ es) = sum_by-cons (λ e. cond (hands_out_such such e) 1 0) Effect.SelfClose es ∙ none_more (count_by (hands_out_such such) es) (count_by such (handed_out es)) (outs such es)
 
   -- what the only party of a queue that has ended has sent was received, or is left
   pub settled : (p : PartyView T) (left : Owned T) → IsView p.queue.cap p.view → Finishes p left → IsSoundOwned left → SameItems (told p).sent ((told p).came ++ left.queue.items)

@@ -24,7 +24,7 @@ module _ {T : Type 0} where
   pub done_by_whole : (test : Effect T → Bool) (cap : Option ℕ) (v : View T) → IsView cap v → IsWhole v → done_by test v ≡ count_by test v.seen
   done_by_whole test cap v is whole = sum_covering (λ p. cond (passes test (get_elem? v.seen p)) 1 0) (length v.seen) v.mine is.inside is.once whole ∙ at_all test v.seen
 
-one_more : (b : Bool) (n m : ℕ) → n ≡ m → cond b 1 0 + n ≡ cond b 1 0 + m
+pub one_more : (b : Bool) (n m : ℕ) → n ≡ m → cond b 1 0 + n ≡ cond b 1 0 + m
 one_more b n m e = ap (λ k. cond b 1 0 + k) e
 
 none_more : (n m : ℕ) → n ≡ m → 0 + n ≡ m
@@ -32,7 +32,7 @@ none_more n m e = omega arith
 
 module _ {T : Type 0} where
   -- how many such items were handed in, and handed out
-  ins : (such : T → Bool) (es : List (Effect T)) → count_by (hands_in_such such) es ≡ count_by such (handed_in es)
+  pub ins : (such : T → Bool) (es : List (Effect T)) → count_by (hands_in_such such) es ≡ count_by such (handed_in es)
   ins such [] = refl
   ins such (effect.Append v ∷ es) = sum_by-cons (λ e. cond (hands_in_such such e) 1 0) (effect.Append v) es ∙ (one_more (such v) _ _ (ins such es) ∙ sym (sum_by-cons (λ y. cond (such y) 1 0) v (handed_in es)))
   ins such (effect.Take v ∷ es) = sum_by-cons (λ e. cond (hands_in_such such e) 1 0) (effect.Take v) es ∙ none_more (count_by (hands_in_such such) es) (count_by such (handed_in es)) (ins such es)
@@ -42,7 +42,7 @@ module _ {T : Type 0} where
   ins such (effect.Close ∷ es) = sum_by-cons (λ e. cond (hands_in_such such e) 1 0) effect.Close es ∙ none_more (count_by (hands_in_such such) es) (count_by such (handed_in es)) (ins such es)
   ins such (effect.SelfClose ∷ es) = sum_by-cons (λ e. cond (hands_in_such such e) 1 0) effect.SelfClose es ∙ none_more (count_by (hands_in_such such) es) (count_by such (handed_in es)) (ins such es)
 
-  outs : (such : T → Bool) (es : List (Effect T)) → count_by (hands_out_such such) es ≡ count_by such (handed_out es)
+  pub outs : (such : T → Bool) (es : List (Effect T)) → count_by (hands_out_such such) es ≡ count_by such (handed_out es)
   outs such [] = refl
   outs such (effect.Append v ∷ es) = sum_by-cons (λ e. cond (hands_out_such such e) 1 0) (effect.Append v) es ∙ none_more (count_by (hands_out_such such) es) (count_by such (handed_out es)) (outs such es)
   outs such (effect.Take v ∷ es) = sum_by-cons (λ e. cond (hands_out_such such e) 1 0) (effect.Take v) es ∙ (one_more (such v) _ _ (outs such es) ∙ sym (sum_by-cons (λ y. cond (such y) 1 0) v (handed_out es)))
