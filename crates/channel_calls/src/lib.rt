@@ -2,7 +2,11 @@
 #![tactic(auto)]
 
 mod errors;
+mod polled;
 mod waited;
+mod waiters;
 
 pub use errors::{Disconnected, SendError};
+pub use polled::{At, PolledPop, PolledPush};
 pub use waited::{ForcePushed, Items, OwesEnd, Popped, Pushed, Room, WaitedQueue};
+pub use waiters::{OwesAll, OwesOne, Waiters};

@@ -9,10 +9,11 @@ ghost use Rattle.concurrent_queue.specs.Shared.{Calls, IsPartyOf, Parts, Joins, 
 ghost use Rattle.channel_calls.specs.Calls.{Ends, HasSeenClosed, pushed, force_pushed, popped};
 ghost use Rattle.channel_calls.specs.Looks.{FullKeepsTicket, EmptyKeepsTicket};
 
+use crate::waiters::{OwesAll, OwesOne};
 use concurrent_queue::{
     ConcurrentQueue, Exclusive, ForcePushError, NullTestable, Party, PopError, PushError,
 };
-use event_count::{Look, OwesAll, OwesOne, Vain};
+use event_count::{Look, Vain};
 use std::alloc::{Allocator, Global};
 use std::marker::Model;
 use std::sync::Wait;
@@ -20,13 +21,13 @@ use std::sync::Wait;
 /// What receivers wait for.
 #[derive(Drop)]
 pub struct Items {
-    made: (),
+    pub(crate) made: (),
 }
 
 /// What senders wait for.
 #[derive(Drop)]
 pub struct Room {
-    made: (),
+    pub(crate) made: (),
 }
 
 /// The queue is closed, and neither those that wait for items nor those that wait for room were notified yet.
@@ -69,7 +70,7 @@ pub enum Popped<'a, T> {
 /// A queue at which ends wait. A contract sees which queue it is.
 #[derive(Drop)]
 pub struct WaitedQueue<T, A: Allocator = Global> {
-    queue: ConcurrentQueue<T, A>,
+    pub(crate) queue: ConcurrentQueue<T, A>,
 }
 
 impl<T, A: Allocator> Model for WaitedQueue<T, A> {
@@ -82,13 +83,13 @@ impl<T, A: Allocator> Model for WaitedQueue<T, A> {
 
 /// What is owed where a party has seen the queue closed.
 #[inline(always)]
-fn owes_end<T>(party: &Party<T>) -> OwesEnd
+pub(crate) fn owes_end<T>(party: &Party<T>) -> OwesEnd
     requires seen { HasSeenClosed party.now }
 {
     let _ = party;
     OwesEnd {
-        items: OwesAll::by(Items { made: () }),
-        room: OwesAll::by(Room { made: () }),
+        items: OwesAll::by(Items { made: () }, Items { made: () }),
+        room: OwesAll::by(Room { made: () }, Room { made: () }),
     }
 }
 
@@ -117,7 +118,7 @@ impl<T, A: Allocator> WaitedQueue<T, A> {
         match self.queue.push(rt, party, value) {
             Ok(()) => {
                 look.found();
-                Pushed::Done(OwesOne::by(Items { made: () }))
+                Pushed::Done(OwesOne::by(Items { made: () }, Items { made: () }))
             }
             Err(PushError::Full(back)) => Pushed::Full(back, look.in_vain(Room { made: () })),
             Err(PushError::Closed(back)) => {
@@ -140,7 +141,10 @@ impl<T, A: Allocator> WaitedQueue<T, A> {
         ensures { Calls party.old (call.ForcePush value) (force_pushed result) party.new }
     {
         match self.queue.force_push(rt, party, value) {
-            Ok(displaced) => ForcePushed::Done(displaced, OwesOne::by(Items { made: () })),
+            Ok(displaced) => ForcePushed::Done(
+                displaced,
+                OwesOne::by(Items { made: () }, Items { made: () }),
+            ),
             Err(ForcePushError::Closed(back)) => ForcePushed::Closed(back, owes_end(party)),
             Err(ForcePushError::NoMemory(back)) => ForcePushed::NoMemory(back),
         }
@@ -161,7 +165,7 @@ impl<T, A: Allocator> WaitedQueue<T, A> {
         match self.queue.pop(rt, party) {
             Ok(item) => {
                 look.found();
-                Popped::Item(item, OwesOne::by(Room { made: () }))
+                Popped::Item(item, OwesOne::by(Room { made: () }, Room { made: () }))
             }
             Err(PopError::Empty) => Popped::Empty(look.in_vain(Items { made: () })),
             Err(PopError::Closed) => {

@@ -47,6 +47,27 @@ impl<E: ChannelEnd<T>, T: Drop, A: Allocator> Drop for Handle<E, T, A> {
 }
 
 impl<E: ChannelEnd<T>, T, A: Allocator> Handle<E, T, A> {
+    /// The end by hand, which is not ended when it is dropped, and its channel.
+    pub fn into_parts(self) -> (Arc<Channel<T, A>, A>, E)
+        ensures end { E.end result.1 ≡ self }
+        ensures of { IsEndOf self (arc_value result.0) }
+    {
+        let Self { channel, owed } = self;
+        let Owed { end } = owed;
+        (channel, end)
+    }
+
+    /// The end by hand, and its channel, in one value.
+    pub fn from_parts(channel: Arc<Channel<T, A>, A>, end: E) -> Self
+        requires { IsEndOf (E.end end) (arc_value channel) }
+        ensures { result ≡ E.end end }
+    {
+        Handle {
+            channel,
+            owed: Owed { end },
+        }
+    }
+
     /// Does nothing. Its contract tells of the end's party what `Party::show_view` tells of every party.
     pub fn show_view(&self)
         ensures { IsView self.now.party.queue.cap self.now.party.view }

@@ -9,6 +9,7 @@ use counted_channel::Disconnected;
 use std::alloc::Allocator;
 use std::fmt;
 use std::sync::Wait;
+use std::time::{Clock, Duration};
 
 impl<T: Drop, A: Allocator> Receiver<T, A> {
     /// Takes the front off. It waits while the channel is open and empty.
@@ -20,6 +21,21 @@ impl<T: Drop, A: Allocator> Receiver<T, A> {
         ensures { ChannelCall self.old call.Pop (received result) self.new }
     {
         self.channel.recv(rt, &mut self.owed.end)
+    }
+
+    /// Takes the front off. It waits while the channel is open and empty, but for so long at most, by the clock of `rt`. A clock that cannot be read ends the wait.
+    ///
+    /// # Errors
+    ///
+    /// Those of `try_recv`: `Empty` where nothing came in that time.
+    pub fn recv_timeout<R: Wait + Clock>(
+        &mut self,
+        rt: &R,
+        timeout: Duration,
+    ) -> Result<T, PopError>
+        ensures { ChannelCall self.old call.Pop (reply.Pop result) self.new }
+    {
+        self.channel.recv_timeout(rt, &mut self.owed.end, timeout)
     }
 
     /// Takes the front off where there is one.

@@ -8,6 +8,7 @@ use concurrent_queue::{NullTestable, PushError};
 use counted_channel::SendError;
 use std::fmt;
 use std::sync::Wait;
+use std::time::{Clock, Duration};
 
 impl<T: Drop, A: NullTestable> Sender<T, A> {
     /// Appends `value`. It waits while the channel is full.
@@ -19,6 +20,23 @@ impl<T: Drop, A: NullTestable> Sender<T, A> {
         ensures { ChannelCall self.old (call.Push value) (sent result) self.new }
     {
         self.channel.send(rt, &mut self.owed.end, value)
+    }
+
+    /// Appends `value`. It waits while the channel is full, but for so long at most, by the clock of `rt`. A clock that cannot be read ends the wait.
+    ///
+    /// # Errors
+    ///
+    /// Those of `try_send`: `Full` where there was no room in that time.
+    pub fn send_timeout<R: Wait + Clock>(
+        &mut self,
+        rt: &R,
+        value: T,
+        timeout: Duration,
+    ) -> Result<(), PushError<T>>
+        ensures { ChannelCall self.old (call.Push value) (reply.Push result) self.new }
+    {
+        self.channel
+            .send_timeout(rt, &mut self.owed.end, value, timeout)
     }
 
     /// Appends `value` where there is room.

@@ -23,15 +23,15 @@ use Rattle.shared_tables.specs.TableRule.{TableOf}
 use Rattle.shared_chain.specs.declared.web.ChainWeb.{ChainWeb}
 use Rattle.shared_chain.specs.ChainCalls.{chain_calls}
 use Rattle.shared_chain.specs.Quitting.{HasQuit as HasQuitIn}
-use Rattle.shared_site.specs.declared.chain.Asking.{Asking}
-use Rattle.shared_site.specs.declared.left.Left.{Left}
+use Rattle.shared_calls.specs.declared.chain.Asking.{Asking}
+use Rattle.shared_calls.specs.declared.left.Left.{Left}
 use Rattle.concurrent_queue.specs.declared.party.SeatPlace.TheVariants as place
 use Rattle.concurrent_queue.specs.Begun.{Begun}
 use Rattle.concurrent_queue.specs.SawMore.{SawMore}
 use Rattle.concurrent_queue.specs.Shared.{PartyView, IsHeld, Calls, party_view_of}
-use Rattle.concurrent_queue.specs.Pending.{StopsHere}
+use Rattle.concurrent_queue.specs.Pending.{StopsHere, StopsInside}
 use Rattle.concurrent_queue.proofs.Stops.{first_seat, comes_back}
-use Rattle.concurrent_queue.proofs.StopsIn.{first_asking, StopsInside, comes_back_in}
+use Rattle.concurrent_queue.proofs.StopsIn.{first_asking, comes_back_in}
 
 module _ {T : Type 0} where
   told_none : (r : Reply T) (es : List (Effect T)) → Tells call.Capacity r es → es ≡ []

@@ -1,5 +1,5 @@
 -- A call of a party at a table that stands before one of its steps: how it comes to stand there, and how it is taken up.
-use Rattle.std.proofs.Common.{◌≡◌, ℕ, ◌≤◌, [], Option, Some, refl, sym, ap, subst, ◌∙◌, arith}
+use Rattle.std.proofs.Common.{◌≡◌, ℕ, [], Option, refl, sym, ap, subst, ◌∙◌}
 use Rattle.atomic_table.specs.Seated.{TableId}
 use Rattle.atomic_table.specs.declared.shared.Seat.{Seat}
 use Rattle.queue_steps.specs.declared.model.Call.{Call}
@@ -20,7 +20,7 @@ use Rattle.shared_tables.specs.AtTable.{TableSeat, Ended}
 use Rattle.shared_tables.specs.Seats.{view_at}
 use Rattle.shared_tables.specs.TableRule.{TableOf}
 use Rattle.shared_tables.specs.TableTurns.{After, TableStands}
-use Rattle.shared_site.specs.declared.left.Left.{Left}
+use Rattle.shared_calls.specs.declared.left.Left.{Left}
 use Rattle.concurrent_queue.specs.declared.party.SeatPlace.{SeatPlace}
 use Rattle.concurrent_queue.specs.declared.party.SeatPlace.TheVariants as place
 use Rattle.concurrent_queue.specs.Shared.{QueueId, QueueName, at_table, PartyView, party_view, IsHeld, Calls, party_view_of}
@@ -29,10 +29,6 @@ use Rattle.shared_calls.specs.Pausing.{IsStep}
 use Rattle.concurrent_queue.specs.Pending.{begun_by, IsStoppedAt, StopsHere}
 use Rattle.concurrent_queue.proofs.TableCalls.{table_ends}
 use Rattle.shared_calls.proofs.Steps.{at_step, at_its}
-
--- a ring is no queue of one slot
-pub not_one : (n : ℕ) → 2 ≤ n → Some 1 ≡ Some n → ⊥
-not_one n wide is = let one : 1 ≡ n = cc in omega (arith, wide, one)
 
 module _ {T : Type 0} where
   -- the call that a seat is at, seen as contracts see it

@@ -1,6 +1,5 @@
 -- A call of a party of a shared chain that stands before one of its steps: how it comes to stand there, and how it is taken up.
 use Rattle.std.proofs.Common.{◌≡◌, ℕ, true, None, Option, refl, sym, ap, subst, ◌∙◌}
-use Rattle.mem_blocks.specs.Laid.{WebId}
 use Rattle.mem_blocks.specs.Web.{Sitter, sitter}
 use Rattle.mem_blocks.specs.declared.block.BlockPtr.{BlockPtr as Link}
 use Rattle.mem_blocks.specs.declared.web.Rested.{Rested}
@@ -24,38 +23,30 @@ use Rattle.shared_chain.specs.Steps as chain
 use Rattle.shared_chain.specs.Turning.{SitsAt, ChainStands, ChainEnded}
 use Rattle.shared_chain.specs.declared.web.ChainWeb.{ChainWeb}
 use Rattle.shared_chain.proofs.Frames.Renamed.{next_of_map}
-use Rattle.shared_site.specs.declared.chain.Asking.{Asking}
-use Rattle.shared_site.specs.declared.left.Left.{Left}
+use Rattle.shared_calls.specs.declared.chain.Asking.{Asking}
+use Rattle.shared_calls.specs.declared.left.Left.{Left}
 use Rattle.concurrent_queue.specs.declared.party.SeatPlace.{SeatPlace}
 use Rattle.concurrent_queue.specs.declared.party.SeatPlace.TheVariants as place
 use Rattle.concurrent_queue.specs.Shared.{QueueId, in_web, PartyView, party_view, IsHeld, Calls, party_view_of}
 use Rattle.concurrent_queue.specs.Begun.{Begun}
 use Rattle.shared_calls.specs.InWeb.{EndedAt}
 use Rattle.shared_calls.specs.Pausing.{IsStep}
-use Rattle.concurrent_queue.specs.Pending.{begun_by, IsStoppedIn}
+use Rattle.concurrent_queue.specs.Pending.{IsStoppedIn, StopsInside}
 use Rattle.concurrent_queue.proofs.Stops.{begun_is}
 use Rattle.concurrent_queue.proofs.WebParties.{web_ends}
 use Rattle.shared_calls.proofs.Steps.{in_step, step_named}
-
--- a web is told by its name
-pub same_web : (a b : WebId) → in_web a ≡ in_web b → a ≡ b
-same_web a b e = let h : in_web a ≡ in_web b = e in cc
 
 module _ {T A Q : Type 0} (w : ChainWeb T A) where
   -- the seat with which the call of this seat began
   abbrev pub first_asking : Asking T A Q → Asking T A Q
   first_asking s = let c = its_call s.seat.sitter.view in record s { seat = record s.seat { sitter = sitter (idle (party None c.since c.before c.share)) None None } }
 
-  -- the seat's call stands in this web, and is that of v
-  abbrev pub StopsInside : Asking T A Q → Left T (Link T) → Begun T → Type 0
-  StopsInside s l v = SitsAt w s.seat × IsStoppedIn s l × (begun_by (in_web s.seat.web) None s.seat.sitter.view ≡ v)
-
   -- its next step is one
-  pub own_step_in : (s : Asking T A Q) (l : Left T (Link T)) (v : Begun T) → StopsInside s l v → IsStep (next_of l.kind l.progress.local l.progress.answer)
+  pub own_step_in : (s : Asking T A Q) (l : Left T (Link T)) (v : Begun T) → StopsInside w s l v → IsStep (next_of l.kind l.progress.local l.progress.answer)
   own_step_in s l v h = subst (λ (k : Kind). IsStep (next_of k l.progress.local l.progress.answer)) (sym h.1.kind) h.1.step
 
   -- where a call stands, it may be taken up
-  pub taken_up_in : (s : Asking T A Q) (l : Left T (Link T)) (v : Begun T) → StopsInside s l v
+  pub taken_up_in : (s : Asking T A Q) (l : Left T (Link T)) (v : Begun T) → StopsInside w s l v
       → ChainStands w (first_asking s).seat (its_call s.seat.sitter.view).call l.progress.local l.progress.answer s.seat l.carried
   taken_up_in s l v h = (h.0, (its_call s.seat.sitter.view, refl, refl, (h.1.local, h.1.answer, h.1.local_is, h.1.answer_is, h.1.can, h.1.after)))
 
@@ -92,7 +83,7 @@ module _ {T A Q : Type 0} (w : ChainWeb T A) where
   -- so does one that the party v began
   pub started_in : (r : Rested (CallState T)) (a : SeatPlace T) (p q : Asking T A Q) (l : Left T (Link T)) (v : PartyView T) (c : Call T) → a ≡ place.Web r → IsHeld a → party_view_of a ≡ v → v.queue ≡ record { name = in_web w.web.id; cap = None }
       → p.seat.sitter ≡ sitter r.view None None → l.kind ≡ queue.Unbounded → l.call ≡ call_kind c → ChainStands w p.seat c l.progress.local l.progress.answer q.seat l.carried → IsStep (next_of l.kind l.progress.local l.progress.answer)
-      → StopsInside q l (record { party = v; call = c })
+      → StopsInside w q l (record { party = v; call = c })
   started_in r a p q l v c sits is is_v queue woke kind call stands step =
       let is_v' : party_view_of (place.Web r) ≡ v = subst (λ (z : SeatPlace T). party_view_of z ≡ v) sits is_v in
       let cap_is : r.view.known.cap ≡ None = ap (λ (z : PartyView T). z.queue.cap) is_v' ∙ ap (λ (z : QueueId). z.cap) queue in
@@ -101,15 +92,15 @@ module _ {T A Q : Type 0} (w : ChainWeb T A) where
       (h.0, h.1, begun_is (in_web q.seat.web) None q.seat.sitter.view v c (queue ∙ (λ i. record { name = in_web (sym h.0.0 i); cap = None })) (h.2 ∙ (view_is ∙ ap (λ (z : PartyView T). z.view) is_v')) h.3)
 
   -- and one that was taken up
-  pub went_on_in : (s q : Asking T A Q) (l m : Left T (Link T)) (v : Begun T) → StopsInside s l v → m.kind ≡ queue.Unbounded → m.call ≡ call_kind (its_call s.seat.sitter.view).call
-      → ChainStands w (first_asking s).seat (its_call s.seat.sitter.view).call m.progress.local m.progress.answer q.seat m.carried → IsStep (next_of m.kind m.progress.local m.progress.answer) → StopsInside q m v
+  pub went_on_in : (s q : Asking T A Q) (l m : Left T (Link T)) (v : Begun T) → StopsInside w s l v → m.kind ≡ queue.Unbounded → m.call ≡ call_kind (its_call s.seat.sitter.view).call
+      → ChainStands w (first_asking s).seat (its_call s.seat.sitter.view).call m.progress.local m.progress.answer q.seat m.carried → IsStep (next_of m.kind m.progress.local m.progress.answer) → StopsInside w q m v
   went_on_in s q l m v old kind call stands step =
       let h = stops_in (first_asking s) q (its_call s.seat.sitter.view).call m old.1.view kind call stands step in
       let web : q.seat.web ≡ s.seat.web = h.0.0 ∙ sym old.0.0 in
       (h.0, h.1, (λ i. record { party = record { queue = record { name = in_web (web i); cap = None }; view = h.2 i }; call = h.3 i }) ∙ old.2)
 
   -- a call of its party that has ended
-  pub comes_back_in : (s q : Asking T A Q) (l : Left T (Link T)) (v : Begun T) (k : Call T) (y : Reply T) (r : Rested (CallState T)) → StopsInside s l v → ChainEnded w (first_asking s).seat k y q.seat
+  pub comes_back_in : (s q : Asking T A Q) (l : Left T (Link T)) (v : Begun T) (k : Call T) (y : Reply T) (r : Rested (CallState T)) → StopsInside w s l v → ChainEnded w (first_asking s).seat k y q.seat
       → r.asleep ≡ true → r.web ≡ q.seat.web → r.view ≡ q.seat.sitter.view → IsHeld (place.Web r) × Calls v.party k y (party_view_of (place.Web r))
   comes_back_in s q l v k y r old e asleep web view =
       let c = its_call s.seat.sitter.view in
@@ -127,7 +118,7 @@ module _ {T A Q : Type 0} (w : ChainWeb T A) where
       web_ends (place.Web first) (place.Web r) first r v.party k y y refl ((refl, old.1.view), asleep) refl refl is_v (ap (λ (z : Begun T). z.party.queue.cap) (sym old.2)) ends
 
   -- a call that was taken up and has ended
-  pub ended_in : (s q : Asking T A Q) (l : Left T (Link T)) (v : Begun T) (y : Reply T) (r : Rested (CallState T)) → StopsInside s l v → ChainEnded w (first_asking s).seat (its_call s.seat.sitter.view).call y q.seat
+  pub ended_in : (s q : Asking T A Q) (l : Left T (Link T)) (v : Begun T) (y : Reply T) (r : Rested (CallState T)) → StopsInside w s l v → ChainEnded w (first_asking s).seat (its_call s.seat.sitter.view).call y q.seat
       → r.asleep ≡ true → r.web ≡ q.seat.web → r.view ≡ q.seat.sitter.view → IsHeld (place.Web r) × Calls v.party v.call y (party_view_of (place.Web r))
   ended_in s q l v y r old e asleep web view =
       let h = comes_back_in s q l v (its_call s.seat.sitter.view).call y r old e asleep web view in

@@ -37,13 +37,6 @@ module _ {T : Type 0} (a : SeatPlace T) (s : Seat (Option T) (CallState T)) (cap
     subst (λ p. Calls v c z (party_view_of p)) (sym sat) (subst (λ y. Calls v c y (party_view_of (place.Table q))) (sym same) (ended_calls cap t (at s) (at q) v c r (subst (λ p. party_view_of p ≡ v) sits is_v) one here held.0 e)),
   )
 
--- the same of a call that a seat's own function has ended
-pub ends_where : {T : Type 0} (a s b q : SeatPlace T) (v : PartyView T) (c : Call T) (r z : Reply T) → a ≡ s → party_view_of a ≡ v → b ≡ q → z ≡ r → IsHeld q × Calls (party_view_of s) c r (party_view_of q) → IsHeld b × Calls v c z (party_view_of b)
-ends_where a s b q v c r z sits is_v sat same h = (
-  subst IsHeld (sym sat) h.0,
-  subst (λ p. Calls v c z (party_view_of p)) (sym sat) (subst (λ y. Calls v c y (party_view_of q)) (sym same) (subst (λ p. Calls p c r (party_view_of q)) (ap party_view_of (sym sits) ∙ is_v) h.1)),
-)
-
 abbrev pub queue_at : TableId → Option ℕ → QueueId
 queue_at t cap = record { name = at_table t; cap = cap }
 

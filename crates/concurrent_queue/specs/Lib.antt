@@ -3,6 +3,7 @@ pub mod OneHeap
 pub mod Calling
 pub mod Begun
 pub mod Pending
+pub mod Standing
 pub mod Comes
 pub mod SawMore
 pub mod TryErrors

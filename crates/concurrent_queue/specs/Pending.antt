@@ -2,7 +2,6 @@
 use Rattle.std.specs.Prelude.{◌≡◌, ◌≤◌, ℕ, Option, Some, None}
 use Rattle.atomic_table.specs.declared.shared.Seat.{Seat}
 use Rattle.mem_blocks.specs.declared.block.BlockPtr.{BlockPtr as Link}
-use Rattle.queue_steps.specs.declared.model.Call.{Call}
 use Rattle.queue_steps.specs.declared.steps.types.Answer.{Answer}
 use Rattle.queue_steps.specs.declared.steps.types.Kind.TheVariants as queue
 use Rattle.queue_steps.specs.declared.steps.types.Local.{Local}
@@ -16,17 +15,18 @@ use Rattle.shared_parties.specs.Calling.{cap_of}
 use Rattle.shared_parties.specs.CallsAt.{begun_at}
 use Rattle.shared_tables.specs.TableRule.{TableOf}
 use Rattle.shared_tables.specs.TableTurns.{After}
-use Rattle.table_kinds.specs.SlotTable.{slot_table}
-use Rattle.table_kinds.specs.RingTable.{ring_table}
+use Rattle.shared_tables.specs.SlotTable.{slot_table}
+use Rattle.shared_tables.specs.RingTable.{ring_table}
 use Rattle.shared_chain.specs.Names.{link_of, local_map, answer_map}
 use Rattle.shared_chain.specs.Steps as chain
-use Rattle.shared_site.specs.declared.chain.Asking.{Asking}
-use Rattle.shared_site.specs.declared.left.Left.{Left}
+use Rattle.shared_chain.specs.Turning.{SitsAt}
+use Rattle.shared_chain.specs.declared.web.ChainWeb.{ChainWeb}
+use Rattle.shared_calls.specs.declared.chain.Asking.{Asking}
+use Rattle.shared_calls.specs.declared.left.Left.{Left}
 use Rattle.concurrent_queue.specs.declared.shared.pending.CallPlace.{CallPlace}
 use Rattle.concurrent_queue.specs.declared.shared.pending.CallPlace.TheVariants as place
 use Rattle.atomic_table.specs.Seated.{TableId}
-use Rattle.concurrent_queue.specs.declared.party.SeatPlace.TheVariants as seat
-use Rattle.concurrent_queue.specs.Shared.{QueueName, at_table, in_web, party_view_of}
+use Rattle.concurrent_queue.specs.Shared.{QueueName, at_table, in_web}
 use Rattle.concurrent_queue.specs.Begun.{Begun}
 use Rattle.shared_calls.specs.Pausing.{IsStep}
 
@@ -58,13 +58,13 @@ pub record IsStoppedIn {T A Q : Type 0} (s : Asking T A Q) (l : Left T (Link T))
   pub after : chain.After (its_call s.seat.sitter.view) l.carried (next_of queue.Unbounded local answer) s.seat.sitter
   pub step : IsStep (next_of queue.Unbounded l.progress.local l.progress.answer)
 
--- the call c of the party with this seat at a table
-abbrev pub begun_with : {T : Type 0} → Seat (Option T) (CallState T) → Call T → Begun T
-begun_with s c = record { party = party_view_of (seat.Table s); call = c }
-
 -- the seat's call stands at this table, and is that of v
 abbrev pub StopsHere : {T : Type 0} → (ℕ → TableOf T) → TableId → Seat (Option T) (CallState T) → Left T ℕ → Begun T → Type 0
 StopsHere K t s l v = (s.table_id ≡ t) × IsStoppedAt (K t.slots) s l × (begun_by (at_table t) (cap_of (K t.slots).calls) s.me.0 ≡ v)
+
+-- the same in this web
+abbrev pub StopsInside : {T A Q : Type 0} → ChainWeb T A → Asking T A Q → Left T (Link T) → Begun T → Type 0
+StopsInside w s l v = SitsAt w s.seat × IsStoppedIn s l × (begun_by (in_web s.seat.web) None s.seat.sitter.view ≡ v)
 
 module _ {T A : Type 0} where
   abbrev pub begun_of : CallPlace T A → Begun T

@@ -4,11 +4,12 @@
 pub mod one_heap;
 mod party;
 pub mod shared;
+pub mod steps;
 pub mod try_errors;
 
 pub use exclusive_queue::{Exclusive, Store, exclusive as exclusive, run};
 pub use mem_blocks::null_testable::NullTestable as NullTestable;
 pub use queue_steps::errors::{ForcePushError, PopError, PushError};
-pub use queue_steps::{errors as errors, model as model, steps as steps};
+pub use queue_steps::{errors as errors, model as model};
 pub use shared::{ConcurrentQueue, Outcome, Party, Pending, TryIter};
 pub use try_errors::{TryForcePushError, TryPopError, TryPushError};

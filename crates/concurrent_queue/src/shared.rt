@@ -19,20 +19,21 @@ use mem_blocks::null_testable::NullTestable;
 use queue_steps::errors::{ForcePushError, PopError, PushError};
 use queue_steps::model::{Call, Reply};
 use queue_steps::steps::Kind;
+use shared_calls::allocated_chain::AllocatedChain;
 use shared_calls::beginning::{FastSteps, OnRing, OnSlot};
 use shared_calls::chain;
+use shared_calls::running::Waits;
 use shared_calls::waiting::{Waiting, run_slow};
 use shared_chain::source::{Granting, Refusing, Source};
 use shared_chain::web::ChainWeb;
-use shared_site::allocated_chain::AllocatedChain;
+use shared_tables::ring::{self, Rings, open_ring};
+use shared_tables::slot::{self, Slots, open_slot};
 use shared_tables::table::SharedTable;
 use std::alloc::{AllocError, Allocator, Global};
 use std::fmt;
-use std::marker::Model;
+use std::marker::{Model, PhantomData};
 use std::ops::ControlFlow;
 use std::sync::Wait;
-use table_kinds::ring::{self, Rings, open_ring};
-use table_kinds::slot::{self, Slots, open_slot};
 
 mod calling;
 mod count;
@@ -40,6 +41,7 @@ mod giving_up;
 mod iter;
 mod parting;
 pub mod pending;
+mod standing;
 mod trying;
 mod wait_free;
 
@@ -143,6 +145,44 @@ impl<T, A: Allocator> fmt::Debug for ConcurrentQueue<T, A> {
     }
 }
 
+/// Runs a call at a table to its end: the fast steps of its row, which do not wait, and then the others.
+macro_rules! at_table {
+    ($kind:ty, $row:ty, $steps:expr, $table:ident, $rt:ident, $seat:ident, $calls:ty, $call:ident) => {{
+        let begun = <$row as FastSteps<SharedTable<T, $kind, A>>>::run::<Open, $calls>(
+            $steps, $table, &Open, $seat, $call,
+        );
+        match begun {
+            ControlFlow::Break(reply) => reply,
+            ControlFlow::Continue(left) => run_slow::<SharedTable<T, $kind, A>, Open, _>(
+                $table,
+                &Open,
+                Waiting { rt: $rt },
+                $seat,
+                left,
+            ),
+        }
+    }};
+}
+
+/// Runs a call to its end in the text of the function that makes it: each function between that may wait costs a test after its call. And by form, so that
+/// what a ring leaves is put together for a ring. `$calls` tells the calls apart; blocks come from `$source`.
+macro_rules! in_place {
+    ($queue:ident, $rt:ident, $party:ident, $source:ty, $calls:ty, $call:ident) => {
+        match (&$queue.form, &mut $party.place) {
+            (Form::Single(slot), SeatPlace::Table(seat)) => {
+                at_table!(Slots, OnSlot, OnSlot, slot, $rt, seat, $calls, $call)
+            }
+            (Form::Ring(ring), SeatPlace::Table(seat)) => {
+                at_table!(Rings, OnRing, on_ring(ring), ring, $rt, seat, $calls, $call)
+            }
+            (Form::Chain(chain), SeatPlace::Web(rested)) => {
+                chain::answer::<T, A, $source, Open, R, $calls>(chain, $rt, &Open, rested, $call)
+            }
+            _ => unreachable!(),
+        }
+    };
+}
+
 impl<T, A: Allocator + Clone> ConcurrentQueue<T, A> {
     /// An empty open queue of this capacity, and its only party, which has seen nothing and has all of the share.
     ///
@@ -202,19 +242,9 @@ impl<T, A: Allocator> ConcurrentQueue<T, A> {
         requires is_party { IsPartyOf party.old self.now }
         ensures { Calls party.old call result party.new }
     {
-        match &mut party.place {
-            SeatPlace::Table(seat) => match self.form.begin_at::<G, W>(gate, seat, call) {
-                ControlFlow::Break(reply) => reply,
-                ControlFlow::Continue(left) => self.form.end_at(rt, gate, seat, left),
-            },
-            SeatPlace::Web(rested) => match &self.form {
-                Form::Chain(chain) => {
-                    chain::answer::<T, A, Q, G, R, W>(chain, rt, gate, rested, call)
-                }
-                _ => unreachable!(),
-            },
-            SeatPlace::Away => unreachable!(),
-        }
+        let of = PhantomData::<W>;
+        self.form
+            .run::<Q, _>(&mut party.place, Waits { rt, gate, call, of })
     }
 
     /// Appends `value`. It waits while another call has the place that it needs.
@@ -229,47 +259,7 @@ impl<T, A: Allocator> ConcurrentQueue<T, A> {
         ensures { Calls party.old (call.Push value) (reply.Push result) party.new }
     {
         let call = Call::Push(value);
-        // In place, as in `pop`: each function that may wait costs a test behind its call. And by form, so that what a ring leaves is put together for a ring.
-        let reply = match (&self.form, &mut party.place) {
-            (Form::Single(slot), SeatPlace::Table(seat)) => {
-                let begun = <OnSlot as FastSteps<SharedTable<T, Slots, A>>>::run::<Open, Pushes>(
-                    OnSlot, slot, &Open, seat, call,
-                );
-                match begun {
-                    ControlFlow::Break(reply) => reply,
-                    ControlFlow::Continue(left) => run_slow::<SharedTable<T, Slots, A>, Open, _>(
-                        slot,
-                        &Open,
-                        Waiting { rt },
-                        seat,
-                        left,
-                    ),
-                }
-            }
-            (Form::Ring(ring), SeatPlace::Table(seat)) => {
-                let begun = <OnRing as FastSteps<SharedTable<T, Rings, A>>>::run::<Open, Pushes>(
-                    on_ring(ring),
-                    ring,
-                    &Open,
-                    seat,
-                    call,
-                );
-                match begun {
-                    ControlFlow::Break(reply) => reply,
-                    ControlFlow::Continue(left) => run_slow::<SharedTable<T, Rings, A>, Open, _>(
-                        ring,
-                        &Open,
-                        Waiting { rt },
-                        seat,
-                        left,
-                    ),
-                }
-            }
-            (Form::Chain(chain), SeatPlace::Web(rested)) => {
-                chain::answer::<T, A, Granting, Open, R, Pushes>(chain, rt, &Open, rested, call)
-            }
-            _ => unreachable!(),
-        };
+        let reply = in_place!(self, rt, party, Granting, Pushes, call);
         match reply {
             Reply::Push(result) => result,
             _ => unreachable!(),
@@ -313,46 +303,7 @@ impl<T, A: Allocator> ConcurrentQueue<T, A> {
         ensures { Calls party.old call.Pop (reply.Pop result) party.new }
     {
         let call = Call::Pop;
-        let reply = match (&self.form, &mut party.place) {
-            (Form::Single(slot), SeatPlace::Table(seat)) => {
-                let begun = <OnSlot as FastSteps<SharedTable<T, Slots, A>>>::run::<Open, Pops>(
-                    OnSlot, slot, &Open, seat, call,
-                );
-                match begun {
-                    ControlFlow::Break(reply) => reply,
-                    ControlFlow::Continue(left) => run_slow::<SharedTable<T, Slots, A>, Open, _>(
-                        slot,
-                        &Open,
-                        Waiting { rt },
-                        seat,
-                        left,
-                    ),
-                }
-            }
-            (Form::Ring(ring), SeatPlace::Table(seat)) => {
-                let begun = <OnRing as FastSteps<SharedTable<T, Rings, A>>>::run::<Open, Pops>(
-                    on_ring(ring),
-                    ring,
-                    &Open,
-                    seat,
-                    call,
-                );
-                match begun {
-                    ControlFlow::Break(reply) => reply,
-                    ControlFlow::Continue(left) => run_slow::<SharedTable<T, Rings, A>, Open, _>(
-                        ring,
-                        &Open,
-                        Waiting { rt },
-                        seat,
-                        left,
-                    ),
-                }
-            }
-            (Form::Chain(chain), SeatPlace::Web(rested)) => {
-                chain::answer::<T, A, Refusing, Open, R, Pops>(chain, rt, &Open, rested, call)
-            }
-            _ => unreachable!(),
-        };
+        let reply = in_place!(self, rt, party, Refusing, Pops, call);
         match reply {
             Reply::Pop(result) => result,
             _ => unreachable!(),

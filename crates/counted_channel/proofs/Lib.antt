@@ -3,3 +3,4 @@ pub mod Parting
 pub mod OneSide
 pub mod Trying
 mod EndViews
+pub mod Polls

@@ -15,6 +15,7 @@ use crate::waiting::Awaited;
 use crate::waking::{force_push, pop, push};
 use channel_calls::{Disconnected, SendError, WaitedQueue};
 use concurrent_queue::{Exclusive, NullTestable, Party, PopError, PushError};
+use event_count::Never;
 use std::alloc::{Allocator, Global};
 use std::marker::Model;
 use std::sync::Wait;
@@ -178,7 +179,13 @@ impl<T, A: Allocator> Channel<T, A> {
         requires is_end { IsEndOf sender.old self.now }
         ensures { ChannelCall sender.old (call.Push value) (sent result) sender.new }
     {
-        push_until(&self.queue, &self.awaited, rt, &mut sender.end.party, value)
+        let party = &mut sender.end.party;
+        match push_until(&self.queue, &self.awaited, rt, party, value, &Never) {
+            Ok(()) => Ok(()),
+            Err(PushError::Closed(back)) => Err(SendError::Closed(back)),
+            Err(PushError::NoMemory(back)) => Err(SendError::NoMemory(back)),
+            Err(PushError::Full(_)) => unreachable!(),
+        }
     }
 
     /// Appends `value` where there is room. It is one push.
@@ -228,7 +235,12 @@ impl<T, A: Allocator> Channel<T, A> {
         requires is_end { IsEndOf receiver.old self.now }
         ensures { ChannelCall receiver.old call.Pop (received result) receiver.new }
     {
-        pop_until(&self.queue, &self.awaited, rt, &mut receiver.end.party)
+        let party = &mut receiver.end.party;
+        match pop_until(&self.queue, &self.awaited, rt, party, &Never) {
+            Ok(item) => Ok(item),
+            Err(PopError::Closed) => Err(Disconnected),
+            Err(PopError::Empty) => unreachable!(),
+        }
     }
 
     /// Takes the front off where there is one. It is one pop.

@@ -9,7 +9,7 @@ use crate::sides::SideEnd;
 use crate::waiting::Awaited;
 use channel_calls::WaitedQueue;
 use concurrent_queue::{ConcurrentQueue, Party};
-use std::alloc::Allocator;
+use std::alloc::{Allocator, Global};
 
 /// A channel over this queue, with one sender and one receiver, which part the party between them. It asks for memory for the two counts.
 ///
@@ -20,6 +20,38 @@ pub fn channel<T, A: Allocator>(
     alloc: A,
     queue: ConcurrentQueue<T, A>,
     party: Party<T>,
+) -> Result<(Channel<T, A>, Sender<T>, Receiver<T>), (ConcurrentQueue<T, A>, Party<T>)>
+    requires is_party { IsPartyOf party queue }
+    ensures { MatchResult result (λ r. Opens queue party r.0 r.1 r.2) (λ r. (r.0 ≡ queue) × (r.1 ≡ party)) }
+{
+    open_over(alloc, queue, party, Awaited::new())
+}
+
+/// The same, with lists of those that wait in futures. It asks for memory for these too.
+///
+/// # Errors
+///
+/// As `channel`.
+pub fn channel_with_futures<T>(
+    alloc: Global,
+    queue: ConcurrentQueue<T>,
+    party: Party<T>,
+) -> Result<(Channel<T>, Sender<T>, Receiver<T>), (ConcurrentQueue<T>, Party<T>)>
+    requires is_party { IsPartyOf party queue }
+    ensures { MatchResult result (λ r. Opens queue party r.0 r.1 r.2) (λ r. (r.0 ≡ queue) × (r.1 ≡ party)) }
+{
+    match Awaited::with_futures(alloc) {
+        Ok(awaited) => open_over(alloc, queue, party, awaited),
+        Err(_) => Err((queue, party)),
+    }
+}
+
+/// A channel over this queue, whose ends wait so.
+fn open_over<T, A: Allocator>(
+    alloc: A,
+    queue: ConcurrentQueue<T, A>,
+    party: Party<T>,
+    awaited: Awaited,
 ) -> Result<(Channel<T, A>, Sender<T>, Receiver<T>), (ConcurrentQueue<T, A>, Party<T>)>
     requires is_party { IsPartyOf party queue }
     ensures { MatchResult result (λ r. Opens queue party r.0 r.1 r.2) (λ r. (r.0 ≡ queue) × (r.1 ≡ party)) }
@@ -44,7 +76,7 @@ pub fn channel<T, A: Allocator>(
             let channel = Channel {
                 queue: WaitedQueue::new(queue),
                 counts,
-                awaited: Awaited::new(),
+                awaited,
             };
             Ok((channel, sender, receiver))
         }

@@ -1,31 +1,36 @@
 //! Calls of the queue that are tried again: to the party they are one call.
+ghost use Rattle.std.specs.Prelude.{◌≡◌, Err};
+ghost use Rattle.queue_steps.specs.declared.errors.PopError.TheVariants as pop;
+ghost use Rattle.queue_steps.specs.declared.errors.PushError.TheVariants as push;
 ghost use Rattle.queue_steps.specs.declared.model.Call.TheVariants as call;
+ghost use Rattle.queue_steps.specs.declared.model.Reply.TheVariants as reply;
 ghost use Rattle.concurrent_queue.specs.Shared.{IsPartyOf, Calls};
-ghost use Rattle.counted_channel.specs.Channel.{sent, received};
 
 use crate::waiting::Awaited;
-use channel_calls::{Disconnected, Popped, Pushed, SendError, WaitedQueue};
-use concurrent_queue::{NullTestable, Party};
-use event_count::Patience;
+use channel_calls::{Popped, Pushed, WaitedQueue};
+use concurrent_queue::{NullTestable, Party, PopError, PushError};
+use event_count::Deadline;
 use std::alloc::Allocator;
 use std::sync::Wait;
 
-/// Pushes `value`, again and again while the queue is full. After a few tries it sleeps between them, until there may be room.
+/// Pushes `value`, again and again while the queue is full, until the deadline at most. After a few tries it sleeps between them, until there may be room.
 ///
 /// # Errors
 ///
-/// `Closed` with the value on a closed queue, `NoMemory` with the value where a block was asked for and refused.
-pub(crate) fn push_until<T, A: NullTestable, R: Wait>(
+/// Those of a push, each with the value: `Full` only after the deadline.
+pub(crate) fn push_until<T, A: NullTestable, R: Wait, D: Deadline>(
     queue: &WaitedQueue<T, A>,
     awaited: &Awaited,
     rt: &R,
     party: &mut Party<T>,
     value: T,
-) -> Result<(), SendError<T>>
+    until: &D,
+) -> Result<(), PushError<T>>
     requires { IsPartyOf party.old queue.now }
-    ensures { Calls party.old (call.Push value) (sent result) party.new }
+    ensures called { Calls party.old (call.Push value) (reply.Push result) party.new }
+    ensures late { (back : T) → result ≡ Err (push.Full back) → D.can_pass until.now }
 {
-    let mut patience = Patience::new(&awaited.room);
+    let mut patience = awaited.room.patience();
     let mut value = value;
     for _ in rt.forever() {
         match queue.push(rt, party, value, patience.look()) {
@@ -34,42 +39,50 @@ pub(crate) fn push_until<T, A: NullTestable, R: Wait>(
                 return Ok(());
             }
             Pushed::Full(back, vain) => {
+                if patience.wait_until(rt, vain, until) {
+                    return Err(PushError::Full(back));
+                }
                 value = back;
-                patience.wait(rt, vain);
             }
             Pushed::Closed(back, owed) => {
                 awaited.notify_all(owed);
-                return Err(SendError::Closed(back));
+                return Err(PushError::Closed(back));
             }
-            Pushed::NoMemory(back) => return Err(SendError::NoMemory(back)),
+            Pushed::NoMemory(back) => return Err(PushError::NoMemory(back)),
         }
     }
     unreachable!()
 }
 
-/// Pops, again and again while the queue is open and empty. After a few tries it sleeps between them, until there may be an item.
+/// Pops, again and again while the queue is open and empty, until the deadline at most. After a few tries it sleeps between them, until there may be an item.
 ///
 /// # Errors
 ///
-/// On a closed and empty queue.
-pub(crate) fn pop_until<T, A: Allocator, R: Wait>(
+/// Those of a pop: `Empty` only after the deadline.
+pub(crate) fn pop_until<T, A: Allocator, R: Wait, D: Deadline>(
     queue: &WaitedQueue<T, A>,
     awaited: &Awaited,
     rt: &R,
     party: &mut Party<T>,
-) -> Result<T, Disconnected>
+    until: &D,
+) -> Result<T, PopError>
     requires { IsPartyOf party.old queue.now }
-    ensures { Calls party.old call.Pop (received result) party.new }
+    ensures called { Calls party.old call.Pop (reply.Pop result) party.new }
+    ensures late { result ≡ Err pop.Empty → D.can_pass until.now }
 {
-    let mut patience = Patience::new(&awaited.items);
+    let mut patience = awaited.items.patience();
     for _ in rt.forever() {
         match queue.pop(rt, party, patience.look()) {
             Popped::Item(item, owed) => {
                 awaited.room.notify_one(owed);
                 return Ok(item);
             }
-            Popped::Empty(vain) => patience.wait(rt, vain),
-            Popped::Closed => return Err(Disconnected),
+            Popped::Empty(vain) => {
+                if patience.wait_until(rt, vain, until) {
+                    return Err(PopError::Empty);
+                }
+            }
+            Popped::Closed => return Err(PopError::Closed),
         }
     }
     unreachable!()

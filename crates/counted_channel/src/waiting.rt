@@ -1,20 +1,32 @@
 //! What the ends of a channel wait for.
-use channel_calls::{Items, OwesEnd, Room};
-use event_count::EventCount;
+use channel_calls::{Items, OwesEnd, Room, Waiters};
+use std::alloc::{AllocError, Global};
 
 /// What the ends of a channel wait for: receivers for items, senders for room. No other crate can name it.
 #[derive(Drop)]
 pub struct Awaited {
-    pub(crate) items: EventCount<Items>,
-    pub(crate) room: EventCount<Room>,
+    pub(crate) items: Waiters<Items>,
+    pub(crate) room: Waiters<Room>,
 }
 
 impl Awaited {
     pub(crate) fn new() -> Awaited {
         Awaited {
-            items: EventCount::new(),
-            room: EventCount::new(),
+            items: Waiters::of_threads(),
+            room: Waiters::of_threads(),
         }
+    }
+
+    /// For ends in threads and in futures.
+    ///
+    /// # Errors
+    ///
+    /// There is no memory.
+    pub(crate) fn with_futures(alloc: Global) -> Result<Awaited, AllocError> {
+        Ok(Awaited {
+            items: Waiters::with_futures(alloc)?,
+            room: Waiters::with_futures(alloc)?,
+        })
     }
 
     /// Wakes every end that sleeps.

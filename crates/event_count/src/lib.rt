@@ -14,11 +14,13 @@ ghost use Rattle.law_wakes.specs.Steps.{step_of, after_of};
 ghost use Rattle.event_count.specs.Cursors.{IsTaking, IsOnWords, IsPark, is_prepared, is_missed};
 
 mod cursor;
+mod deadline;
 mod patience;
 mod words;
 
 use crate::cursor::Cursor;
 use crate::words::Words;
+pub use deadline::{Deadline, Never, Until};
 use law_wakes::{Phase, Step};
 pub use patience::{Look, Patience, Vain};
 use std::marker::PhantomData;
@@ -67,15 +69,15 @@ fn take_step(words: &Words, cursor: Cursor) -> Cursor
     cursor.after(done)
 }
 
-/// Takes the next step of a call, which sleeps.
-fn park<R: Wait>(rt: &R, words: &Words, cursor: Cursor) -> Cursor
+/// Takes the next step of a call, which sleeps until the deadline at most.
+fn park<R: Wait, D: Deadline>(rt: &R, words: &Words, cursor: Cursor, until: &D) -> Cursor
     requires { IsPark (step_of cursor.phase) }
     ensures { (found : ℕ) × (result.phase ≡ after_of cursor.phase found) }
 {
     let Step::Park(events) = cursor.step() else {
         unreachable!()
     };
-    let done = words.park(rt, events);
+    let done = words.park(rt, events, until);
     cursor.after(done)
 }
 
@@ -195,11 +197,16 @@ impl<'a, C> Ticket<'a, C> {
 impl<C> Missed<'_, C> {
     /// Sleeps until a notify, if there was none since the ticket was taken. It may return for no reason, so the caller looks at the condition again.
     pub fn wait<R: Wait>(self, rt: &R) {
+        self.wait_until(rt, &Never);
+    }
+
+    /// Waits so until the deadline at most. The caller looks at the condition again after that too, since a notify may have taken it for a sleeper.
+    pub fn wait_until<R: Wait, D: Deadline>(self, rt: &R, until: &D) {
         let Missed {
             words,
             cursor,
             condition: _,
         } = self;
-        park(rt, words, cursor).end();
+        park(rt, words, cursor, until).end();
     }
 }

@@ -1,7 +1,8 @@
 //! How a thread waits between two looks: it gives way to others a few times, and then it sleeps.
+ghost use Rattle.std.specs.Prelude.{IsTrue};
 ghost use Rattle.event_count.specs.Looks.{IsAwake, IsInVain};
 
-use crate::{EventCount, Missed, Ticket};
+use crate::{Deadline, EventCount, Missed, Never, Ticket};
 use std::sync::Wait;
 use std::thread::yield_now;
 
@@ -86,15 +87,28 @@ impl<'a, C> Patience<'a, C> {
     }
 
     /// Waits after a look in vain.
+    #[inline]
     pub fn wait<R: Wait>(&mut self, rt: &R, vain: Vain<'a, C>) {
+        self.wait_until(rt, vain, &Never);
+    }
+
+    /// Waits so until the deadline at most. Returns whether the wait is over: then the deadline had passed at a look that was made without a ticket, after all sleeps.
+    pub fn wait_until<R: Wait, D: Deadline>(&mut self, rt: &R, vain: Vain<'a, C>, until: &D) -> bool
+        ensures { IsTrue result → D.can_pass until.now }
+    {
         match vain {
             Vain::Missed(missed) => {
-                missed.wait(rt);
+                missed.wait_until(rt, until);
                 self.yields = YIELDS;
+                false
             }
             Vain::Awake => {
+                if until.is_past() {
+                    return true;
+                }
                 self.yields = self.yields.saturating_sub(1);
                 yield_now();
+                false
             }
         }
     }

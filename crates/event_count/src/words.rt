@@ -6,6 +6,7 @@ ghost use Rattle.event_count.specs.Cursors.{IsOnWords};
 #[cfg(test)]
 mod tests;
 
+use crate::deadline::Deadline;
 use crossbeam_utils::CachePadded;
 use law_wakes::{Step, Whom, Word};
 use std::sync::Wait;
@@ -80,11 +81,14 @@ impl Words {
         Done { step, found }
     }
 
-    /// Sleeps if the low half of `EVENTS` is this.
-    pub(crate) fn park<R: Wait>(&self, rt: &R, events: u32) -> Done
+    /// Sleeps if the low half of `EVENTS` is this, until the deadline at most.
+    pub(crate) fn park<R: Wait, D: Deadline>(&self, rt: &R, events: u32, until: &D) -> Done
         ensures { result.step ≡ step.Park events }
     {
-        self.events.park(rt, events);
+        match until.left() {
+            Some(left) => self.events.park_timeout(rt, events, left),
+            None => self.events.park(rt, events),
+        }
         Done {
             step: Step::Park(events),
             found: 0,

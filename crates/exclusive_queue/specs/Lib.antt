@@ -2,3 +2,4 @@ pub mod Exclusive
 pub mod QueueText
 pub mod Iterating
 pub mod Reading
+pub mod Collecting

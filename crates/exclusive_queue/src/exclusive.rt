@@ -38,6 +38,7 @@ use std::alloc::{AllocError, Allocator, Global};
 use std::fmt;
 use std::marker::Model;
 
+mod collecting;
 mod form;
 mod iter;
 mod reading;

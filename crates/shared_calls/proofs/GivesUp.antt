@@ -32,12 +32,12 @@ use Rattle.shared_chain.specs.Quitting.{HasQuit as HasQuitIn, ShowsPlace}
 use Rattle.shared_chain.specs.Steps as chain
 use Rattle.shared_chain.specs.Turning.{IsFree, ChainStands, ChainEnded}
 use Rattle.shared_chain.proofs.Frames.Renamed.{next_of_map}
-use Rattle.shared_site.specs.declared.chain.Asking.{Asking}
-use Rattle.shared_site.specs.declared.left.Left.{Left}
-use Rattle.shared_site.specs.Halts.{Halts, HaltsIn, next_at, is_early_step}
+use Rattle.shared_calls.specs.declared.chain.Asking.{Asking}
+use Rattle.shared_calls.specs.declared.left.Left.{Left}
+use Rattle.shared_calls.specs.Halts.{Halts, HaltsIn, next_at, is_early_step}
 use Rattle.shared_calls.specs.Pausing.{IsStep}
 use Rattle.shared_calls.specs.Settling.{MayWait}
-use Rattle.shared_site.proofs.Quits.{bound_named}
+use Rattle.shared_calls.proofs.Quits.{bound_named}
 use Rattle.shared_calls.proofs.Steps.{at_step, at_its, in_step, step_named}
 
 is_step : {B : Type 0} (n : Next B) → is_early_step n ≡ true → IsStep n

@@ -3,3 +3,4 @@ pub mod GivesUp
 pub mod Settling
 pub mod Steps
 pub mod Wakes
+pub mod Quits

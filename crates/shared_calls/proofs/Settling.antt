@@ -10,9 +10,9 @@ use Rattle.queue_steps.specs.UnboundedNext.{unbounded_next, FitsChain}
 use Rattle.law_slot.specs.SlotEarly as slots
 use Rattle.law_ring.specs.RingEarly as rings
 use Rattle.law_chain.specs.ChainEarly as chains
-use Rattle.shared_site.specs.Early.{is_early}
+use Rattle.shared_calls.specs.Early.{is_early}
 use Rattle.shared_calls.specs.Settling.{ring_left, chain_left, steps_left, left_at, MayWait}
-use Rattle.shared_site.specs.Halts.{is_early_step}
+use Rattle.shared_calls.specs.Halts.{is_early_step}
 
 module _ {B : Type 0} where
   -- no more than m steps are left, and no more than 4

@@ -3,7 +3,7 @@ use Rattle.std.specs.Prelude.{◌-◌}
 use Rattle.law_common.specs.Vocabulary.{Call, SOLO_STEPS}
 use Rattle.call_driver.specs.OnWay.{OnWay}
 use Rattle.call_driver.specs.declared.site.Site.{Ghosts}
-use Rattle.shared_site.specs.declared.left.Left.{Left}
+use Rattle.shared_calls.specs.declared.left.Left.{Left}
 
 -- the call c, begun by the seat `first`, stands there, and ends within the steps that a call takes at most which runs alone
 abbrev pub IsLeft : {O M T B S K : Type 0} → Ghosts O M T B S K → M → S → Call T → Left T B → S → Type 0

@@ -3,3 +3,7 @@ pub mod Leaving
 pub mod Pausing
 pub mod Settling
 pub mod Trying
+pub mod ChainSite
+pub mod Early
+pub mod Halts
+pub mod Laws

@@ -4,7 +4,7 @@ use Rattle.law_common.specs.Vocabulary.{Call, Next, SOLO_STEPS}
 use Rattle.queue_steps.specs.Next.{next_of}
 use Rattle.call_driver.specs.OnWay.{Stood}
 use Rattle.call_driver.specs.declared.site.Site.{Ghosts}
-use Rattle.shared_site.specs.declared.left.Left.{Left}
+use Rattle.shared_calls.specs.declared.left.Left.{Left}
 
 -- a step is to be done, and no reply is due
 abbrev pub IsStep : {B : Type 0} → Next B → Type 0

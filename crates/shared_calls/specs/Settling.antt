@@ -4,7 +4,7 @@ use Rattle.law_common.specs.Vocabulary.{Kind, Local, Next, BoundedLocal, Unbound
 use Rattle.queue_steps.specs.declared.steps.bounded.BoundedLocal.TheVariants as ring
 use Rattle.queue_steps.specs.declared.steps.unbounded.UnboundedLocal.TheVariants as chain
 use Rattle.law_chain.specs.ChainEarly.{IsBound}
-use Rattle.shared_site.specs.Early.{is_early}
+use Rattle.shared_calls.specs.Early.{is_early}
 
 -- of a call on a ring that has had its effect: how many steps it takes at most until it replies
 abbrev pub ring_left : BoundedLocal → ℕ

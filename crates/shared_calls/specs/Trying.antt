@@ -6,7 +6,7 @@ use Rattle.law_common.specs.Vocabulary.{Call, Reply}
 use Rattle.queue_steps.specs.Kinds.{call_value}
 use Rattle.call_driver.specs.declared.site.Site.{Ghosts}
 use Rattle.shared_calls.specs.Leaving.{IsLeft}
-use Rattle.shared_site.specs.declared.left.Left.{Left}
+use Rattle.shared_calls.specs.declared.left.Left.{Left}
 
 module _ {O M T B S K : Type 0} (m : Ghosts O M T B S K) where
   -- some call that is one of these stands there

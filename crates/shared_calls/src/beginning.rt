@@ -4,12 +4,12 @@
 ghost use Rattle.std.specs.ControlFlow.{MatchControlFlow};
 ghost use Rattle.shared_calls.specs.Leaving.{IsLeft};
 
+use crate::left::Left;
 use crate::waiting::run_fast;
 use call_driver::fast::{OfRing, Short, Usual};
 use call_driver::gate::Gate;
 use call_driver::site::Site;
 use queue_steps::model::{Call, Reply};
-use shared_site::left::Left;
 use std::marker::PhantomData;
 use std::ops::ControlFlow;
 

@@ -1,26 +1,28 @@
 //! A party's call that does not wait: it takes steps until its reply, or until it has met another call half done, and then stands where it is.
-ghost use Rattle.std.specs.Prelude.{◌≡◌, ◌≤◌, ◌-◌, true};
-ghost use Rattle.std.specs.ControlFlow.{MatchControlFlow};
-ghost use Rattle.queue_steps.specs.declared.model.Call.{Call as SpecCall};
-ghost use Rattle.queue_steps.specs.declared.sizes.TheConstants.{SOLO_STEPS};
 ghost use Rattle.call_driver.specs.Leads.{MayGive, Gave};
 ghost use Rattle.call_driver.specs.OnWay.{Stood};
+ghost use Rattle.queue_steps.specs.declared.model.Call.{Call as SpecCall};
+ghost use Rattle.queue_steps.specs.declared.sizes.TheConstants.{SOLO_STEPS};
+ghost use Rattle.shared_calls.specs.Halts.{next_at, is_early_step};
 ghost use Rattle.shared_calls.specs.Leaving.{IsLeft};
 ghost use Rattle.shared_calls.specs.Pausing.{IsStood, IsPaused};
 ghost use Rattle.shared_calls.specs.Settling.{left_at, MayWait};
-ghost use Rattle.shared_site.specs.Halts.{next_at, is_early_step};
+ghost use Rattle.std.specs.ControlFlow.{MatchControlFlow};
+ghost use Rattle.std.specs.Prelude.{◌≡◌, ◌≤◌, ◌-◌, true};
 
+use crate::attempts::retold;
+use crate::beginning::FastSteps;
+use crate::early::is_early;
+use crate::left::Left;
 use crate::waiting::must_give_way;
 use call_driver::gate::Gate;
 use call_driver::progress::Progress;
 use call_driver::retry::retry;
 use call_driver::site::Site;
 use call_steps::KindSteps;
-use queue_steps::model::{CallKind, Reply};
+use queue_steps::model::{Call, CallKind, Reply};
 use queue_steps::sizes::SOLO_STEPS;
 use queue_steps::steps::{Kind, Next};
-use shared_site::early::is_early;
-use shared_site::left::Left;
 use std::ops::ControlFlow;
 
 /// How many steps a call takes at most from its effect on, its reply with them, but for a pop on a chain.
@@ -166,4 +168,67 @@ pub fn settle<M: Site, G: Gate>(
         }
     }
     ControlFlow::Continue(left)
+}
+
+/// Takes a call up where it stands, until its reply, or until it has met another call half done.
+pub fn take_up<M: Site, G: Gate>(
+    site: &M::Shared,
+    gate: &G,
+    seat: &mut M::Seat,
+    left: Left<M::Item, M::Block>,
+) -> ControlFlow<Reply<M::Item>, Left<M::Item, M::Block>>
+    requires kind { M.Steps.has_kind left.kind }
+    requires paused { (c : SpecCall M.Item) × (first : M.Seat) × IsPaused M.Site site.now first c left seat.old }
+    ensures { (c : SpecCall M.Item) (first : M.Seat) → IsPaused M.Site site.now first c left seat.old → MatchControlFlow result (λ paused. IsPaused M.Site site.now first c paused seat.new) (λ reply. M.ended site.now first c reply seat.new) }
+{
+    carry_on::<M, G>(site, gate, seat, left)
+}
+
+/// Goes on with a call that has left its fast steps.
+#[cold]
+#[inline(never)]
+fn go_on<M: Site, G: Gate>(
+    site: &M::Shared,
+    gate: &G,
+    seat: &mut M::Seat,
+    from: Left<M::Item, M::Block>,
+) -> ControlFlow<Reply<M::Item>, Left<M::Item, M::Block>>
+    requires kind { M.Steps.has_kind from.kind }
+    requires left { (c : SpecCall M.Item) × (first : M.Seat) × IsLeft M.Site site.now first c from seat.old }
+    ensures { (c : SpecCall M.Item) (first : M.Seat) → IsLeft M.Site site.now first c from seat.old → MatchControlFlow result (λ paused. IsPaused M.Site site.now first c paused seat.new) (λ reply. M.ended site.now first c reply seat.new) }
+{
+    carry_on::<M, G>(site, gate, seat, from)
+}
+
+/// The same. What is lent there is this function's own, so that the fast steps clear none of it.
+#[inline(always)]
+fn go_on_apart<M: Site, G: Gate>(
+    site: &M::Shared,
+    gate: &G,
+    seat: &mut M::Seat,
+    left: Left<M::Item, M::Block>,
+) -> ControlFlow<Reply<M::Item>, Left<M::Item, M::Block>>
+    requires kind { M.Steps.has_kind left.kind }
+    requires left { (c : SpecCall M.Item) × (first : M.Seat) × IsLeft M.Site site.now first c left seat.old }
+    ensures { (c : SpecCall M.Item) (first : M.Seat) → IsLeft M.Site site.now first c left seat.old → MatchControlFlow result (λ paused. IsPaused M.Site site.now first c paused seat.new) (λ reply. M.ended site.now first c reply seat.new) }
+{
+    retold(go_on::<M, G>(site, gate, seat, left.apart()))
+}
+
+/// Sets out on a call, with its fast steps first: until its reply, or until it has met another call half done.
+#[inline(always)]
+pub fn set_out<M: Site, G: Gate, F: FastSteps<M> + Drop, W>(
+    steps: F,
+    site: &M::Shared,
+    gate: &G,
+    seat: &mut M::Seat,
+    call: Call<M::Item>,
+) -> ControlFlow<Reply<M::Item>, Left<M::Item, M::Block>>
+    requires rests { M.rests site.now seat.old }
+    ensures { MatchControlFlow result (λ paused. IsPaused M.Site site.now seat.old call paused seat.new) (λ reply. M.ended site.now seat.old call reply seat.new) }
+{
+    match steps.run::<G, W>(site, gate, seat, call) {
+        ControlFlow::Break(reply) => ControlFlow::Break(reply),
+        ControlFlow::Continue(left) => go_on_apart::<M, G>(site, gate, seat, left),
+    }
 }

@@ -4,6 +4,7 @@ ghost use Rattle.queue_steps.specs.declared.model.Call.{Call as SpecCall};
 ghost use Rattle.call_driver.specs.OnWay.{CanEnd, EndsRightly};
 ghost use Rattle.shared_calls.specs.Leaving.{IsLeft};
 
+use crate::left::Left;
 use call_driver::driver::{begin, leave};
 use call_driver::fast::Row;
 use call_driver::gate::Gate;
@@ -12,7 +13,6 @@ use call_driver::retry::{End, retry};
 use call_driver::site::Site;
 use queue_steps::model::{Call, CallKind, Reply, ReplyKind};
 use queue_steps::steps::{BoundedLocal, Kind, Local, UnboundedLocal};
-use shared_site::left::Left;
 use std::ops::ControlFlow;
 use std::sync::Wait;
 use std::thread::yield_now;

@@ -5,3 +5,6 @@ mod TableAllows
 mod TableOperations
 mod TableTouches
 pub mod TableRests
+mod RingEnding
+mod RingFinish
+mod SlotFinish

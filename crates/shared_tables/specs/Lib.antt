@@ -5,3 +5,6 @@ pub mod TableRule
 pub mod TableTurns
 pub mod Quitting
 pub mod Laws
+pub mod RingOpening
+pub mod RingTable
+pub mod SlotTable

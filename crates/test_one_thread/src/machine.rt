@@ -1,11 +1,7 @@
-//! The machine's runs of queues.
-pub mod chains;
-pub mod displacements;
+//! The machine's runs of queues, where no stored case shows them: want of memory, blocks that are counted, copies, and words.
 pub mod items;
-pub mod left_on_three;
 pub mod limits;
 pub mod memory;
 pub mod refusals;
-pub mod runs;
 pub mod script;
-pub mod single;
+pub mod words;

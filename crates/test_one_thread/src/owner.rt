@@ -1,12 +1,9 @@
-//! Queues with one owner.
-pub mod chains;
+//! Queues with one owner, where no script shows them.
+pub mod collecting;
 pub mod drops;
 pub mod errors;
 pub mod iterators;
-pub mod looks;
-pub mod one_slot;
 pub mod reading;
-pub mod rings;
 pub mod rows;
 pub mod runs;
-pub mod tables;
+pub mod stories;

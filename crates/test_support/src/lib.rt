@@ -2,9 +2,12 @@
 #![tactic(auto)]
 
 pub mod allocators;
+pub mod asserts;
 pub mod closing;
 pub mod closing_rule;
 pub mod items;
+pub mod programs;
+pub mod refusals;
 pub mod runs;
 pub mod signs;
 pub mod streams;

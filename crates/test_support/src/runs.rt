@@ -71,6 +71,11 @@ impl Outcome {
             faults: self.faults.taken(),
         }
     }
+
+    /// Whether the run flushed all of its output, if it ended well.
+    pub fn is_flushed(&self) -> bool {
+        self.status != 0 || self.output.flushed() == self.output.taken().len()
+    }
 }
 
 /// The words of a line of arguments.

@@ -5,3 +5,4 @@ pub mod left;
 pub mod memory;
 pub mod opening;
 pub mod passing;
+pub mod timed;

@@ -1,5 +1,6 @@
 //! Threads that sleep: on an eventcount, and on ends of channels.
 pub mod asleep;
+pub mod deadlines;
 pub mod falling;
 pub mod idle;
 pub mod tickets;

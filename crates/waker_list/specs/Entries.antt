@@ -1,7 +1,7 @@
 -- What a future has that has entered a list.
 use Rattle.std.specs.Prelude.{◌≡◌, ◌⊎◌, true}
 use Rattle.futures.specs.declared.task.context.Context.{Context}
-use Rattle.law_wakes.specs.declared.seats.Seat.TheVariants.{Asleep}
+use Rattle.law_wakes.specs.declared.seats.Seat.TheVariants.{Looking, Asleep}
 use Rattle.waker_list.specs.declared.place.entering.Entry.{Entry}
 use Rattle.waker_list.specs.declared.place.entering.Entry.TheVariants.{Look, Wait}
 use Rattle.waker_list.specs.declared.place.Place.{Place}
@@ -12,7 +12,7 @@ module _ {C : Type 0} where
   HasPlace (Look again) P = P again.place
   HasPlace (Wait place) P = P place
 
-  -- who is pending without another look is asleep on the list, or has asked for another poll
-  abbrev pub IsPendingAt : Context → Entry C → Type 0
-  IsPendingAt cx (Look again) = Unit {0}
-  IsPendingAt cx (Wait place) = (place.sitting.seat ≡ Asleep) ⊎ (cx.is_woken ≡ true)
+  -- who looks once more is on the list; who is pending without another look is asleep there, or has asked for another poll
+  abbrev pub IsEnteredAt : Context → Entry C → Type 0
+  IsEnteredAt cx (Look again) = again.place.sitting.seat ≡ Looking
+  IsEnteredAt cx (Wait place) = (place.sitting.seat ≡ Asleep) ⊎ (cx.is_woken ≡ true)

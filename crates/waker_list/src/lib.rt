@@ -1,7 +1,7 @@
 //! A list of wakers: futures that wait for a condition are pending, and who makes it true wakes them. It knows nothing of the condition.
 //!
 //! The order of a poll, and of a notify, is in the types. A poll begins a [`Look`], looks at the condition with it in hand, and says what it found. If it looked in vain it enters the list,
-//! which gives a [`LookAgain`]: it looks once more, and is pending if it finds nothing. Who makes the condition true is given an [`OwesOne`] or an [`OwesAll`]: a notify takes it and
+//! which gives a second look: it looks once more, and is pending if it finds nothing. Who makes the condition true is given an [`OwesOne`] or an [`OwesAll`]: a notify takes it and
 //! nothing else does. A future that was taken off the list, and ends before it looks again, hands its wake on.
 //!
 //! `C` is the condition, a type of which only the code that looks at the condition, or makes it true, can make a value. That code hands one in for each look, and for each notify that it
@@ -26,7 +26,7 @@ use crate::sitting::Sitting;
 use crate::state::State;
 use futures::spin::lock_or_give_up;
 use futures::task::Source;
-pub use place::{Entry, Look, LookAgain, Missed, Place};
+pub use place::{Entry, Look, Missed, Place, Spot};
 pub use sitting::{OwesAll, OwesOne};
 use std::alloc::{AllocError, Global};
 use std::marker::PhantomData;

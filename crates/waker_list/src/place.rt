@@ -1,7 +1,7 @@
 //! Where a future is with a list, and its looks.
 ghost use Rattle.std.specs.Prelude.{◌≡◌, ℕ, false, true, IsTrue, is_some};
 ghost use Rattle.futures.specs.Task.{IsArmed, Hears, Keeps};
-ghost use Rattle.law_wakes.specs.declared.seats.Seat.TheVariants.{Away, Looking, Asleep};
+ghost use Rattle.law_wakes.specs.declared.seats.Seat.TheVariants.{Away, Asleep};
 ghost use Rattle.law_wakes.specs.Seats.{looked_of};
 ghost use Rattle.waker_list.specs.Places.{Fits, HasEntry, ComesOff, Rises, is_missed};
 
@@ -11,8 +11,9 @@ use crate::WakerList;
 use crate::sitting::Sitting;
 pub use entering::Entry;
 use futures::spin::lock_or_give_up;
-use futures::task::{Context, Poll};
+use futures::task::{Context, Poll, Source};
 use futures::util::wait_list::Ticket;
+use std::snapshot::Snapshot;
 
 /// A future between two polls, at one list. It is not dropped: [`Place::leave`] ends it.
 pub struct Place<'a, C> {
@@ -34,10 +35,13 @@ pub struct Missed<'a, C> {
     ghost missed: { IsTrue (is_missed place.sitting.seat) },
 }
 
-/// The look that is to be made once a future is on the list.
-pub struct LookAgain<'a, C> {
-    place: Place<'a, C>,
-    ghost looking: { place.sitting.seat ≡ Looking },
+/// A future between two polls, apart from its list. It is not dropped: [`Place::at`] takes it.
+pub struct Spot<C> {
+    /// What contracts call its list.
+    source: Snapshot<Source>,
+    sitting: Sitting<C>,
+    ticket: Option<Ticket>,
+    ghost fits: { Fits sitting.seat ticket },
 }
 
 /// Takes a future off the list, if it is on it.
@@ -72,6 +76,42 @@ impl<'a, C> Place<'a, C> {
             list,
             sitting: Sitting::away(),
             ticket: None,
+        }
+    }
+
+    /// That of a future which was apart from this list.
+    #[inline]
+    pub fn at(list: &'a WakerList<C>, spot: Spot<C>) -> Place<'a, C>
+        requires { spot.source.value.id ≡ list.now.source.id }
+        ensures { result.list.now ≡ list.now }
+    {
+        let Spot {
+            source: _,
+            sitting,
+            ticket,
+        } = spot;
+        Place {
+            list,
+            sitting,
+            ticket,
+        }
+    }
+
+    /// The future, apart from its list.
+    #[inline]
+    pub fn apart(self) -> Spot<C>
+        ensures source { result.source.value.id ≡ self.entry.list.now.source.id }
+        ensures seat { result.sitting.seat ≡ self.entry.sitting.seat }
+    {
+        let Place {
+            list,
+            sitting,
+            ticket,
+        } = self;
+        Spot {
+            source: Snapshot::of(&list.source),
+            sitting,
+            ticket,
         }
     }
 
@@ -184,39 +224,39 @@ impl<'a, C> Look<'a, C> {
     }
 }
 
-impl<'a, C> LookAgain<'a, C> {
-    /// The condition is true, as its own code says. The future comes off the list; if a notify had taken it off, that wake goes on to the next.
-    pub fn found(self, condition: C) -> Place<'a, C>
-    where
-        C: Drop,
-        ensures list { result.list.now ≡ self.entry.place.list.now }
-        ensures away { result.sitting.seat ≡ Away }
-    {
-        let LookAgain { place } = self;
-        Look { place }.found(condition)
-    }
-
-    /// The condition is not true, as its own code says. The future is pending.
+impl<'a, C> Missed<'a, C> {
+    /// The look was the one that a future makes once it is on the list. The future is pending.
     #[inline]
-    pub fn in_vain(self, condition: C) -> Place<'a, C>
-    where
-        C: Drop,
-        ensures list { result.list.now ≡ self.entry.place.list.now }
-        ensures asleep { result.sitting.seat ≡ Asleep }
+    pub fn rest(self) -> Place<'a, C>
+        requires { self.place.sitting.seat ≡ Asleep }
+        ensures { result ≡ self.entry.place }
     {
-        let LookAgain { place } = self;
-        let Missed { place } = Look { place }.in_vain(condition);
+        let Missed { place } = self;
         place
     }
+}
 
-    /// The look cannot be made now. The future asks for another poll.
-    pub fn put_off(self, cx: &mut Context<'_>) -> Place<'a, C>
-        ensures place { result ≡ self.entry.place }
-        ensures armed { IsArmed cx.new }
-        ensures heard { (s : ℕ) → Hears cx.new s }
-        ensures kept { Keeps cx.old cx.new }
+impl<C> Spot<C> {
+    /// That of a future which is not on the list.
+    #[inline]
+    pub fn new(list: &WakerList<C>) -> Spot<C>
+        ensures source { result.source.value.id ≡ list.now.source.id }
+        ensures away { result.sitting.seat ≡ Away }
     {
-        let LookAgain { place } = self;
-        Look { place }.put_off(cx)
+        Place::new(list).apart()
+    }
+
+    /// Ends that of a future which is not on the list.
+    #[inline]
+    pub fn end(self)
+        requires { self.sitting.seat ≡ Away }
+    {
+        let Spot {
+            source: _,
+            sitting,
+            ticket,
+        } = self;
+        let None = ticket else { unreachable!() };
+        sitting.end();
     }
 }

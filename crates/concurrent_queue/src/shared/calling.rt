@@ -1,29 +1,18 @@
-//! A call of a party at a table in two parts: its fast steps, which do not wait, and what comes behind them.
-ghost use Rattle.std.specs.ControlFlow.{MatchControlFlow};
-ghost use Rattle.queue_steps.specs.declared.model.Call.{Call as SpecCall};
-ghost use Rattle.std.specs.Prelude.{Option as SpecOption};
-ghost use Rattle.atomic_table.specs.declared.shared.Seat.{Seat as SpecSeat};
-ghost use Rattle.shared_parties.specs.declared.known.CallState.{CallState as SpecState};
-ghost use Rattle.concurrent_queue.specs.declared.party.SeatPlace.TheVariants as place;
-ghost use Rattle.concurrent_queue.specs.declared.shared.Form.TheVariants as form;
+//! Where a party's call is made: what tells the forms of a queue apart for calls that leave the seat in its place.
+ghost use Rattle.concurrent_queue.specs.Calling.{IsHeldIn};
 ghost use Rattle.concurrent_queue.specs.Shared.{Calls, IsHeld, party_view_of};
-ghost use Rattle.concurrent_queue.specs.Calling.{IsHeldIn, HasLeft};
 
 use super::Form;
-use atomic_table::Seat;
-use call_driver::gate::Gate;
-use call_driver::site::Site;
-use queue_steps::model::{Call, Reply};
-use shared_calls::beginning::{FastSteps, OnRing, OnSlot};
-use shared_calls::waiting::{Waiting, run_slow};
-use shared_parties::known::CallState;
-use shared_site::left::Left;
+use crate::party::SeatPlace;
+use queue_steps::model::Reply;
+use shared_calls::beginning::{OnRing, OnSlot};
+use shared_calls::chain;
+use shared_calls::running::Runs;
+use shared_chain::source::Source;
+use shared_tables::ring::Rings;
+use shared_tables::slot::Slots;
 use shared_tables::table::SharedTable;
 use std::alloc::Allocator;
-use std::ops::ControlFlow;
-use std::sync::Wait;
-use table_kinds::ring::Rings;
-use table_kinds::slot::Slots;
 
 /// The row of a call on this ring.
 #[inline(always)]
@@ -34,64 +23,28 @@ pub(crate) fn on_ring<T, A: Allocator>(ring: &SharedTable<T, Rings, A>) -> OnRin
 }
 
 impl<T, A: Allocator> Form<T, A> {
-    /// Begins a call at a table and takes its fast steps. It does not wait.
+    /// Makes a call of the party whose seat is there. The blocks that it asks for come from `Q`.
     #[inline(always)]
-    pub(crate) fn begin_at<G: Gate, W>(
+    pub(crate) fn run<Q: Source<T, A>, V: Runs<T>>(
         &self,
-        gate: &G,
-        seat: &mut Seat<Option<T>, CallState<T>>,
-        call: Call<T>,
-    ) -> ControlFlow<Reply<T>, Left<T, usize>>
-        requires { IsHeldIn self.now (place.Table seat.old) }
-        ensures { MatchControlFlow result (λ left. HasLeft ⟦<SharedTable<T, Slots, A> as Site>⟧ ⟦<SharedTable<T, Rings, A> as Site>⟧ form.Single form.Ring self.now seat.old call left seat.new) (λ reply. IsHeld (place.Table seat.new) × Calls (party_view_of (place.Table seat.old)) call reply (party_view_of (place.Table seat.new))) }
-    {
-        match self {
-            Form::Single(slot) => {
-                <OnSlot as FastSteps<SharedTable<T, Slots, A>>>::run::<G, W>(
-                    OnSlot, slot, gate, seat, call,
-                )
-            }
-            Form::Ring(ring) => {
-                <OnRing as FastSteps<SharedTable<T, Rings, A>>>::run::<G, W>(
-                    on_ring(ring),
-                    ring,
-                    gate,
-                    seat,
-                    call,
-                )
-            }
-            Form::Chain(_) => unreachable!(),
-        }
-    }
-
-    /// Runs a call at a table to its end that has left its fast steps.
-    #[inline(always)]
-    pub(crate) fn end_at<R: Wait, G: Gate>(
-        &self,
-        rt: &R,
-        gate: &G,
-        seat: &mut Seat<Option<T>, CallState<T>>,
-        left: Left<T, usize>,
+        place: &mut SeatPlace<T>,
+        run: V,
     ) -> Reply<T>
-        requires left { (call : SpecCall T) × (first : SpecSeat (SpecOption T) (SpecState T)) × HasLeft ⟦<SharedTable<T, Slots, A> as Site>⟧ ⟦<SharedTable<T, Rings, A> as Site>⟧ form.Single form.Ring self.now first call left seat.old }
-        ensures { (call : SpecCall T) (first : SpecSeat (SpecOption T) (SpecState T)) → HasLeft ⟦<SharedTable<T, Slots, A> as Site>⟧ ⟦<SharedTable<T, Rings, A> as Site>⟧ form.Single form.Ring self.now first call left seat.old → IsHeld (place.Table seat.new) × Calls (party_view_of (place.Table first)) call result (party_view_of (place.Table seat.new)) }
+        requires held { IsHeldIn self.now place.old }
+        requires may { V.may run }
+        ensures { IsHeld place.new × Calls (party_view_of place.old) (V.call run) result (party_view_of place.new) }
     {
-        match self {
-            Form::Single(slot) => run_slow::<SharedTable<T, Slots, A>, G, _>(
-                slot,
-                gate,
-                Waiting { rt },
-                seat,
-                left,
-            ),
-            Form::Ring(ring) => run_slow::<SharedTable<T, Rings, A>, G, _>(
-                ring,
-                gate,
-                Waiting { rt },
-                seat,
-                left,
-            ),
-            Form::Chain(_) => unreachable!(),
+        match (self, place) {
+            (Form::Single(slot), SeatPlace::Table(seat)) => {
+                run.run::<SharedTable<T, Slots, A>, OnSlot>(OnSlot, slot, seat)
+            }
+            (Form::Ring(ring), SeatPlace::Table(seat)) => {
+                run.run::<SharedTable<T, Rings, A>, OnRing>(on_ring(ring), ring, seat)
+            }
+            (Form::Chain(queue), SeatPlace::Web(rested)) => {
+                chain::run_in::<T, A, Q, V>(queue, rested, run)
+            }
+            _ => unreachable!(),
         }
     }
 }

@@ -5,11 +5,10 @@ ghost use Rattle.concurrent_queue.specs.OneHeap.{IsOneHeap};
 ghost use Rattle.concurrent_queue.specs.SawMore.{SawMore};
 ghost use Rattle.concurrent_queue.specs.Shared.{IsPartyOf};
 
-use super::Form;
-use super::pending::{CallPlace, Pending};
-use crate::party::{Party, SeatPlace};
+use super::pending::Pending;
+use super::standing::{Standing, quit_here, quit_inside};
+use crate::party::Party;
 use crate::shared::ConcurrentQueue;
-use shared_site::quitting::{quit_at, quit_in};
 use std::alloc::Allocator;
 
 impl<T, A: Allocator> ConcurrentQueue<T, A> {
@@ -23,32 +22,10 @@ impl<T, A: Allocator> ConcurrentQueue<T, A> {
         requires heap { self.now.cap ≡ None → IsOneHeap A }
         ensures { MatchResult result (λ r. SawMore pending.party r.0 × (r.1 ≡ call_value pending.call)) (λ same. same ≡ pending) }
     {
-        let place = pending.into_place();
-        match place {
-            CallPlace::Slot(mut seat, left) => match &self.form {
-                Form::Single(slot) => match quit_at(slot, &mut seat, left) {
-                    Ok(value) => Ok((Party::at(SeatPlace::Table(seat)), value)),
-                    Err(left) => Err(Pending::at(CallPlace::Slot(seat, left))),
-                },
-                Form::Ring(_) => unreachable!(),
-                Form::Chain(_) => unreachable!(),
-            },
-            CallPlace::Ring(mut seat, left) => match &self.form {
-                Form::Ring(ring) => match quit_at(ring, &mut seat, left) {
-                    Ok(value) => Ok((Party::at(SeatPlace::Table(seat)), value)),
-                    Err(left) => Err(Pending::at(CallPlace::Ring(seat, left))),
-                },
-                Form::Single(_) => unreachable!(),
-                Form::Chain(_) => unreachable!(),
-            },
-            CallPlace::Chain(mut asking, left) => match &self.form {
-                Form::Chain(queue) => match quit_in(queue, &mut asking, left) {
-                    Ok(value) => Ok((Party::at(SeatPlace::Web(asking.rests())), value)),
-                    Err(left) => Err(Pending::at(CallPlace::Chain(asking, left))),
-                },
-                Form::Single(_) => unreachable!(),
-                Form::Ring(_) => unreachable!(),
-            },
+        match self.standing(pending) {
+            Standing::Slot(table, seat, left) => quit_here(table, seat, left),
+            Standing::Ring(table, seat, left) => quit_here(table, seat, left),
+            Standing::Chain(queue, asking, left) => quit_inside(queue, asking, left),
         }
     }
 }

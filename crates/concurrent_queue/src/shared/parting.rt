@@ -7,12 +7,12 @@ use super::Form;
 use crate::party::{Party, SeatPlace};
 use crate::shared::ConcurrentQueue;
 use exclusive_queue::Exclusive;
+use shared_calls::allocated_chain::AllocatedChain;
 use shared_parties::count::{is_only, join, meet, split};
-use shared_site::allocated_chain::AllocatedChain;
+use shared_tables::ring::end_ring;
+use shared_tables::slot::end_slot;
 use std::alloc::Allocator;
 use std::mem;
-use table_kinds::ring::end_ring;
-use table_kinds::slot::end_slot;
 
 impl<T, A: Allocator> ConcurrentQueue<T, A> {
     /// Parts a party in two. The first keeps what the party has done, both have seen what it has, and each has half of its share.

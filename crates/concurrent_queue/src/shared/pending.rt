@@ -1,30 +1,33 @@
 //! Calls that never wait: one that meets another call half done is handed back as it stands, and taken up again later.
 ghost use Rattle.std.specs.Prelude.{◌≡◌, None};
-ghost use Rattle.std.specs.ControlFlow.{MatchControlFlow};
 ghost use Rattle.concurrent_queue.specs.declared.party.SeatPlace.TheVariants as place;
 ghost use Rattle.concurrent_queue.specs.Begun.{Begun as SpecBegun};
-ghost use Rattle.concurrent_queue.specs.Calling.{HasEnded, queue_at};
-ghost use Rattle.concurrent_queue.specs.Pending.{StopsHere, begun_with};
+ghost use Rattle.concurrent_queue.specs.declared.shared.Form.TheVariants as form;
+ghost use Rattle.concurrent_queue.specs.Calling.{IsHeldAt, IsHeldIn};
+ghost use Rattle.concurrent_queue.specs.Comes.{Comes};
+ghost use Rattle.concurrent_queue.specs.Pending.{StopsHere, StopsInside};
 ghost use Rattle.concurrent_queue.specs.OneHeap.{IsOneHeap};
-ghost use Rattle.concurrent_queue.specs.Shared.{IsHeld, IsPartyOf, party_view_of};
+ghost use Rattle.concurrent_queue.specs.Shared.{IsPartyOf, party_view_of};
 
+use super::Begins;
 use super::calling::on_ring;
-use super::{Begins, Form};
+use super::standing::{Seated, Standing, Stopping};
 use crate::party::{Party, SeatPlace};
 use crate::shared::ConcurrentQueue;
 use atomic_table::Seat;
 use call_driver::gate::Open;
-use call_driver::site::Site;
 use mem_blocks::item::Place;
 use mem_blocks::null_testable::NullTestable;
+use mem_blocks::web::Rested;
 use queue_steps::model::{Call, Reply};
+use shared_calls::allocated_chain::AllocatedChain;
 use shared_calls::beginning::{FastSteps, OnChain, OnSlot};
+use shared_calls::chain::Asking;
+use shared_calls::left::Left;
+use shared_calls::pausing::{set_out, take_up};
 use shared_chain::source::Granting;
 use shared_parties::known::CallState;
-use shared_pauses::parts::{set_out, take_up};
-use shared_site::chain::Asking;
-use shared_site::left::Left;
-use shared_tables::table::{SharedTable, TableSteps};
+use shared_tables::table::SharedTable;
 use std::alloc::{Allocator, Global};
 use std::marker::Model;
 use std::ops::ControlFlow;
@@ -109,35 +112,88 @@ impl<T, A: Allocator> Pending<T, A> {
 
 /// Sets out on a call at a table of any kind.
 #[inline(always)]
-fn set_out_at<T, K: TableSteps<T>, A: Allocator, F: FastSteps<SharedTable<T, K, A>> + Drop, W>(
+fn begin_here<T, K: Stopping<T>, A: Allocator, F: FastSteps<SharedTable<T, K, A>> + Drop, W>(
     steps: F,
     table: &SharedTable<T, K, A>,
-    seat: &mut Seat<Option<T>, CallState<T>>,
+    seat: Seat<Option<T>, CallState<T>>,
     call: Call<T>,
-) -> ControlFlow<Reply<T>, Left<T, usize>>
-    requires held { IsHeld (place.Table seat.old) }
-    requires is_party { IsPartyOf (party_view_of (place.Table seat.old)) (queue_at K.layout table.now.table.shared.table_id) }
-    ensures { MatchControlFlow result (λ left. StopsHere K.layout table.now.table.shared.table_id seat.new left (begun_with seat.old call)) (λ reply. HasEnded (begun_with seat.old call) reply seat.new) }
+) -> Outcome<T, A>
+    requires held { IsHeldAt K.layout table.now.table.shared.table_id seat }
+    ensures { Comes (party_view_of (place.Table seat)) call result }
 {
-    set_out::<SharedTable<T, K, A>, Open, F, W>(steps, table, &Open, seat, call)
+    let mut seat = seat;
+    match set_out::<SharedTable<T, K, A>, Open, F, W>(steps, table, &Open, &mut seat, call) {
+        ControlFlow::Break(reply) => Outcome::Done(Party::at(SeatPlace::Table(seat)), reply),
+        ControlFlow::Continue(left) => Outcome::Pending(K::stopped(seat, left)),
+    }
+}
+
+/// The same in a chain.
+#[inline(always)]
+fn begin_inside<T, A: NullTestable, W>(
+    queue: &AllocatedChain<T, A>,
+    rested: Rested<CallState<T>>,
+    call: Call<T>,
+) -> Outcome<T, A>
+    requires held { IsHeldIn (form.Chain queue.now) (place.Web rested) }
+    ensures { Comes (party_view_of (place.Web rested)) call result }
+{
+    let mut rested = rested;
+    let mut asking: Asking<T, A, Granting> = Asking::wake(&queue.chain, &mut rested);
+    let begun = set_out::<Asking<T, A, Granting>, Open, OnChain, W>(
+        OnChain,
+        queue,
+        &Open,
+        &mut asking,
+        call,
+    );
+    match begun {
+        ControlFlow::Break(reply) => {
+            Outcome::Done(Party::at(SeatPlace::Web(asking.rests())), reply)
+        }
+        ControlFlow::Continue(left) => {
+            Outcome::Pending(Pending::at(CallPlace::Chain(asking, left)))
+        }
+    }
 }
 
 /// Takes up a call at a table of any kind.
-#[inline(always)]
-fn take_up_at<T, K: TableSteps<T>, A: Allocator>(
+fn resume_here<T, K: Stopping<T>, A: Allocator>(
     table: &SharedTable<T, K, A>,
-    seat: &mut Seat<Option<T>, CallState<T>>,
+    seat: Seat<Option<T>, CallState<T>>,
     left: Left<T, usize>,
-) -> ControlFlow<Reply<T>, Left<T, usize>>
-    requires { (v : SpecBegun T) × StopsHere K.layout table.now.table.shared.table_id seat.old left v }
-    ensures { (v : SpecBegun T) → StopsHere K.layout table.now.table.shared.table_id seat.old left v → MatchControlFlow result (λ paused. StopsHere K.layout table.now.table.shared.table_id seat.new paused v) (λ reply. HasEnded v reply seat.new) }
+) -> Outcome<T, A>
+    requires stands { (v : SpecBegun T) × StopsHere K.layout table.now.table.shared.table_id seat left v }
+    ensures { (v : SpecBegun T) → StopsHere K.layout table.now.table.shared.table_id seat left v → Comes v.party v.call result }
 {
-    take_up::<SharedTable<T, K, A>, Open>(table, &Open, seat, left)
+    let mut seat = seat;
+    match take_up::<SharedTable<T, K, A>, Open>(table, &Open, &mut seat, left) {
+        ControlFlow::Break(reply) => Outcome::Done(Party::at(SeatPlace::Table(seat)), reply),
+        ControlFlow::Continue(left) => Outcome::Pending(K::stopped(seat, left)),
+    }
+}
+
+/// The same in a chain.
+fn resume_inside<T, A: NullTestable>(
+    queue: &AllocatedChain<T, A>,
+    asking: Asking<T, A, Granting>,
+    left: Left<T, Place<T>>,
+) -> Outcome<T, A>
+    requires stands { (v : SpecBegun T) × StopsInside queue.now.chain asking left v }
+    ensures { (v : SpecBegun T) → StopsInside queue.now.chain asking left v → Comes v.party v.call result }
+{
+    let mut asking = asking;
+    match take_up::<Asking<T, A, Granting>, Open>(queue, &Open, &mut asking, left) {
+        ControlFlow::Break(reply) => {
+            Outcome::Done(Party::at(SeatPlace::Web(asking.rests())), reply)
+        }
+        ControlFlow::Continue(left) => {
+            Outcome::Pending(Pending::at(CallPlace::Chain(asking, left)))
+        }
+    }
 }
 
 impl<T, A: NullTestable> ConcurrentQueue<T, A> {
-    ghost use Rattle.concurrent_queue.specs.Comes.{Comes};
-
     /// Begins a call, which takes steps until its reply or until it has met another call half done. It never waits.
     pub fn begin(&self, party: Party<T>, call: Call<T>) -> Outcome<T, A>
         requires is_party { IsPartyOf party self.now }
@@ -152,46 +208,12 @@ impl<T, A: NullTestable> ConcurrentQueue<T, A> {
         requires is_party { IsPartyOf party self.now }
         ensures { Comes party call result }
     {
-        match (&self.form, party.place) {
-            (Form::Single(slot), SeatPlace::Table(mut seat)) => {
-                match set_out_at::<_, _, _, _, W>(OnSlot, slot, &mut seat, call) {
-                    ControlFlow::Break(reply) => {
-                        Outcome::Done(Party::at(SeatPlace::Table(seat)), reply)
-                    }
-                    ControlFlow::Continue(left) => {
-                        Outcome::Pending(Pending::at(CallPlace::Slot(seat, left)))
-                    }
-                }
+        match self.form.seated(party.place) {
+            Seated::Slot(table, seat) => { begin_here::<_, _, _, _, W>(OnSlot, table, seat, call) }
+            Seated::Ring(table, seat) => {
+                begin_here::<_, _, _, _, W>(on_ring(table), table, seat, call)
             }
-            (Form::Ring(ring), SeatPlace::Table(mut seat)) => {
-                match set_out_at::<_, _, _, _, W>(on_ring(ring), ring, &mut seat, call) {
-                    ControlFlow::Break(reply) => {
-                        Outcome::Done(Party::at(SeatPlace::Table(seat)), reply)
-                    }
-                    ControlFlow::Continue(left) => {
-                        Outcome::Pending(Pending::at(CallPlace::Ring(seat, left)))
-                    }
-                }
-            }
-            (Form::Chain(queue), SeatPlace::Web(mut rested)) => {
-                let mut asking: Asking<T, A, Granting> = Asking::wake(&queue.chain, &mut rested);
-                let begun = set_out::<Asking<T, A, Granting>, Open, OnChain, W>(
-                    OnChain,
-                    queue,
-                    &Open,
-                    &mut asking,
-                    call,
-                );
-                match begun {
-                    ControlFlow::Break(reply) => {
-                        Outcome::Done(Party::at(SeatPlace::Web(asking.rests())), reply)
-                    }
-                    ControlFlow::Continue(left) => {
-                        Outcome::Pending(Pending::at(CallPlace::Chain(asking, left)))
-                    }
-                }
-            }
-            _ => unreachable!(),
+            Seated::Chain(queue, rested) => begin_inside::<_, _, W>(queue, rested, call),
         }
     }
 
@@ -202,49 +224,10 @@ impl<T, A: NullTestable> ConcurrentQueue<T, A> {
         requires heap { self.now.cap ≡ None → IsOneHeap A }
         ensures { Comes pending.party pending.call result }
     {
-        let place = pending.into_place();
-        match place {
-            CallPlace::Slot(mut seat, left) => match &self.form {
-                Form::Single(slot) => match take_up_at(slot, &mut seat, left) {
-                    ControlFlow::Break(reply) => {
-                        Outcome::Done(Party::at(SeatPlace::Table(seat)), reply)
-                    }
-                    ControlFlow::Continue(left) => {
-                        Outcome::Pending(Pending::at(CallPlace::Slot(seat, left)))
-                    }
-                },
-                Form::Ring(_) => unreachable!(),
-                Form::Chain(_) => unreachable!(),
-            },
-            CallPlace::Ring(mut seat, left) => match &self.form {
-                Form::Ring(ring) => match take_up_at(ring, &mut seat, left) {
-                    ControlFlow::Break(reply) => {
-                        Outcome::Done(Party::at(SeatPlace::Table(seat)), reply)
-                    }
-                    ControlFlow::Continue(left) => {
-                        Outcome::Pending(Pending::at(CallPlace::Ring(seat, left)))
-                    }
-                },
-                Form::Single(_) => unreachable!(),
-                Form::Chain(_) => unreachable!(),
-            },
-            CallPlace::Chain(mut asking, left) => match &self.form {
-                Form::Chain(queue) => match take_up::<Asking<T, A, Granting>, Open>(
-                    queue,
-                    &Open,
-                    &mut asking,
-                    left,
-                ) {
-                    ControlFlow::Break(reply) => {
-                        Outcome::Done(Party::at(SeatPlace::Web(asking.rests())), reply)
-                    }
-                    ControlFlow::Continue(left) => {
-                        Outcome::Pending(Pending::at(CallPlace::Chain(asking, left)))
-                    }
-                },
-                Form::Single(_) => unreachable!(),
-                Form::Ring(_) => unreachable!(),
-            },
+        match self.standing(pending) {
+            Standing::Slot(table, seat, left) => resume_here(table, seat, left),
+            Standing::Ring(table, seat, left) => resume_here(table, seat, left),
+            Standing::Chain(queue, asking, left) => resume_inside(queue, asking, left),
         }
     }
 }

@@ -25,13 +25,13 @@ use queue_steps::errors::{ForcePushError, PopError, PushError};
 use queue_steps::model::{Call, Reply};
 use shared_calls::attempts::{attempt_in, end_or_quit_at, retold};
 use shared_calls::beginning::{FastSteps, OnRing, OnSlot};
+use shared_calls::left::Left;
 use shared_parties::known::CallState;
-use shared_site::left::Left;
+use shared_tables::ring::Rings;
+use shared_tables::slot::Slots;
 use shared_tables::table::{SharedTable, TableSteps};
 use std::alloc::Allocator;
 use std::ops::ControlFlow;
-use table_kinds::ring::Rings;
-use table_kinds::slot::Slots;
 
 /// A call which gives up where it would wait, for the driver: each has fast steps of its own, also beside those that wait.
 pub(crate) trait Attempt<T> {

@@ -5,17 +5,13 @@ ghost use Rattle.queue_steps.specs.declared.model.Reply.TheVariants as reply;
 ghost use Rattle.queue_steps.specs.WaitFree.{is_wait_free};
 ghost use Rattle.concurrent_queue.specs.Shared.{IsPartyOf, Calls};
 
-use super::Form;
-use crate::party::{Party, SeatPlace};
+use crate::party::Party;
 use crate::shared::ConcurrentQueue;
-use call_driver::driver::drive_wait_free;
 use call_driver::gate::{Gate, Open};
 use queue_steps::model::{Call, Reply};
-use shared_calls::chain;
-use shared_tables::table::SharedTable;
+use shared_calls::running::WaitFree;
+use shared_chain::source::Refusing;
 use std::alloc::Allocator;
-use table_kinds::ring::Rings;
-use table_kinds::slot::Slots;
 
 impl<T, A: Allocator> ConcurrentQueue<T, A> {
     /// Runs a wait-free call to its end, each of its steps at the gate.
@@ -30,18 +26,8 @@ impl<T, A: Allocator> ConcurrentQueue<T, A> {
         requires wait_free { is_wait_free call ≡ true }
         ensures { Calls party.old call result party.new }
     {
-        match (&self.form, &mut party.place) {
-            (Form::Single(slot), SeatPlace::Table(seat)) => {
-                drive_wait_free::<SharedTable<T, Slots, A>, G>(slot, gate, seat, call)
-            }
-            (Form::Ring(ring), SeatPlace::Table(seat)) => {
-                drive_wait_free::<SharedTable<T, Rings, A>, G>(ring, gate, seat, call)
-            }
-            (Form::Chain(chain), SeatPlace::Web(rested)) => {
-                chain::answer_wait_free(chain, gate, rested, call)
-            }
-            _ => unreachable!(),
-        }
+        self.form
+            .run::<Refusing, _>(&mut party.place, WaitFree { gate, call })
     }
 
     /// Closes the queue, and tells whether this call did it. The items stay.

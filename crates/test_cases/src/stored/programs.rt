@@ -1,41 +1,27 @@
 //! Stored programs, which the explorer runs.
 use crate::stored::replays::{is_held_up, is_replayed, text_of};
-use app_explore::command::command;
+use crate::stored::runs::explore;
 use std::alloc::{AllocError, Global};
 use std::sync::Wait;
 use std::thread::Threads;
-use test_support::runs::words;
+use test_support::runs::Outcome;
 
-/// Whether the explorer ends well with these arguments on this program. What it prints goes to the output.
-fn explore(
-    alloc: Global,
-    args: &str,
-    program: &str,
-    output: &mut Vec<u8>,
-) -> Result<bool, AllocError> {
-    let words = words(alloc, args)?;
-    let mut input = program.as_bytes();
-    let mut faults = Vec::new(alloc);
-    Ok(command(&alloc, &words, &mut input, output, &mut faults) == 0)
+/// What the explorer writes with these arguments on this program, where it ends well.
+fn explored(alloc: Global, args: &str, program: &str) -> Result<Option<Outcome>, AllocError> {
+    let outcome = explore(alloc, args, &mut program.as_bytes())?;
+    Ok(if outcome.status == 0 {
+        Some(outcome)
+    } else {
+        None
+    })
 }
 
 /// Whether the explorer prints this output with these arguments on this program.
 fn prints(alloc: Global, args: &str, program: &str, wanted: &str) -> Result<bool, AllocError> {
-    let mut output = Vec::new(alloc);
-    let ends_well = explore(alloc, args, program, &mut output)?;
-    Ok(ends_well && output.as_slice() == wanted.as_bytes())
-}
-
-/// Whether the explorer finds a schedule of the outcome of this number. It goes to the output.
-fn find_schedule(
-    alloc: Global,
-    args: &str,
-    program: &str,
-    number: usize,
-    output: &mut Vec<u8>,
-) -> Result<bool, AllocError> {
-    let request = format!(in alloc; "{args} schedule {number}")?;
-    explore(alloc, request.as_str(), program, output)
+    match explored(alloc, args, program)? {
+        Some(outcome) => Ok(outcome.output.taken() == wanted.as_bytes()),
+        None => Ok(false),
+    }
 }
 
 /// Whether the outcome of this number is what its schedule leads to.
@@ -46,11 +32,10 @@ fn is_shown<R: Threads + Wait + Sync + AllocGlobal>(
     number: usize,
     outcome: &str,
 ) -> Result<bool, AllocError> {
-    let mut schedule = Vec::new(rt.alloc());
-    if find_schedule(rt.alloc(), args, program, number, &mut schedule)? {
-        is_replayed(rt, args, program, &schedule, outcome)
-    } else {
-        Ok(false)
+    let request = format!(in rt.alloc(); "{args} schedule {number}")?;
+    match explored(rt.alloc(), request.as_str(), program)? {
+        Some(schedule) => is_replayed(rt, args, program, schedule.output.taken(), outcome),
+        None => Ok(false),
     }
 }
 
@@ -63,10 +48,12 @@ fn is_wait_shown<R: Threads + Wait + Sync + AllocGlobal>(
     line: &str,
 ) -> Result<bool, AllocError> {
     let request = format!(in rt.alloc(); "{args} {number}")?;
-    let mut schedule = Vec::new(rt.alloc());
-    match sides_in(line) {
-        Some((waiter, other)) if explore(rt.alloc(), request.as_str(), program, &mut schedule)? => {
-            is_held_up(rt, args, program, &schedule, waiter, other)
+    match (
+        sides_in(line),
+        explored(rt.alloc(), request.as_str(), program)?,
+    ) {
+        (Some((waiter, other)), Some(schedule)) => {
+            is_held_up(rt, args, program, schedule.output.taken(), waiter, other)
         }
         _ => Ok(false),
     }

@@ -5,10 +5,10 @@ use std::sync::Wait;
 use std::thread::Threads;
 
 /// The arguments of a replay that is refused: no queue may have so many slots.
-const REFUSED: &str = "replay bounded:576460752303423489 1";
+const REFUSED: &str = "queue_run replay bounded:576460752303423489 1";
 
 /// The status with which that replay ends.
 pub fn status_of_refused<R: Threads + Wait + Sync + AllocGlobal>(rt: &R) -> Result<u8, AllocError> {
-    let mut output = Vec::new(rt.alloc());
-    queue_run(rt, REFUSED, b"0 push 1\n", &mut output)
+    let outcome = queue_run(rt, REFUSED, &mut &b"0 push 1\n"[..])?;
+    Ok(outcome.status)
 }

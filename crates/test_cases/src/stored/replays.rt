@@ -4,6 +4,7 @@ use std::alloc::AllocError;
 use std::str;
 use std::sync::Wait;
 use std::thread::Threads;
+use test_support::runs::Outcome;
 
 /// Whether a replay of the schedule ends with this outcome of the program.
 pub fn is_replayed<R: Threads + Wait + Sync + AllocGlobal>(
@@ -13,10 +14,9 @@ pub fn is_replayed<R: Threads + Wait + Sync + AllocGlobal>(
     schedule: &[u8],
     outcome: &str,
 ) -> Result<bool, AllocError> {
-    let mut told = Vec::new(rt.alloc());
-    replay(rt, kind_in(args), party_count(program), schedule, &mut told)?;
+    let told = replay(rt, kind_in(args), party_count(program), schedule)?;
     let mut ends = String::new(rt.alloc());
-    write_ends(program, text_of(&told), &mut ends)?;
+    write_ends(program, text_of(told.output.taken()), &mut ends)?;
     Ok(ends.as_str() == outcome)
 }
 
@@ -31,15 +31,8 @@ pub fn is_held_up<R: Threads + Wait + Sync + AllocGlobal>(
 ) -> Result<bool, AllocError> {
     let lines = text_of(schedule);
     let goes_on = format!(in rt.alloc(); "{lines}{waiter} run\n{other} run\n{waiter} run\n")?;
-    let mut told = Vec::new(rt.alloc());
-    replay(
-        rt,
-        kind_in(args),
-        party_count(program),
-        goes_on.as_bytes(),
-        &mut told,
-    )?;
-    let told = text_of(&told);
+    let told = replay(rt, kind_in(args), party_count(program), goes_on.as_bytes())?;
+    let told = text_of(told.output.taken());
     let count = lines.lines().count();
     Ok(
         !is_answered(told, waiter, count)
@@ -60,17 +53,15 @@ fn is_answered(told: &str, party: &str, before: usize) -> bool {
     false
 }
 
-// Replays the schedule on a queue of this kind. What is told of it goes to the output.
+// Replays the schedule on a queue of this kind.
 fn replay<R: Threads + Wait + Sync + AllocGlobal>(
     rt: &R,
     kind: &str,
     parties: usize,
-    schedule: &[u8],
-    output: &mut Vec<u8>,
-) -> Result<(), AllocError> {
-    let line = format!(in rt.alloc(); "replay {kind} {parties}")?;
-    let _status = queue_run(rt, line.as_str(), schedule, output)?;
-    Ok(())
+    mut schedule: &[u8],
+) -> Result<Outcome, AllocError> {
+    let line = format!(in rt.alloc(); "queue_run replay {kind} {parties}")?;
+    queue_run(rt, line.as_str(), &mut schedule)
 }
 
 // The kind of queue that the explorer's arguments name.

@@ -1,27 +1,46 @@
-//! Runs of `queue_run`.
+//! Runs of the two programs.
 use app_command::program::program;
-use std::alloc::AllocError;
+use app_explore::command::command;
+use std::alloc::{AllocError, Global};
+use std::io::Read;
 use std::sync::Wait;
 use std::thread::Threads;
-use test_support::runs::words;
+use test_support::runs::{Outcome, words};
+use test_support::streams::{WHOLE, Writer};
 
-/// The status with which the program ends on the words of this line and this input. What it prints goes to the output.
-pub fn queue_run<R: Threads + Wait + Sync + AllocGlobal>(
+/// Runs `queue_run` on the words of this line, of which the first is its name.
+pub fn queue_run<R: Threads + Wait + Sync + AllocGlobal, I: Read>(
     rt: &R,
     line: &str,
-    mut input: &[u8],
-    output: &mut Vec<u8>,
-) -> Result<u8, AllocError> {
-    let line = format!(in rt.alloc(); "queue_run {line}")?;
-    let args = words(rt.alloc(), line.as_str())?;
-    let mut faults = Vec::new(rt.alloc());
+    input: &mut I,
+) -> Result<Outcome, AllocError> {
+    let args = words(rt.alloc(), line)?;
+    let mut output = Writer::new(rt.alloc(), WHOLE);
+    let mut faults = Writer::new(rt.alloc(), WHOLE);
     let ended = program(
         rt,
         &rt.alloc(),
         Ok(args.into_iter()),
-        &mut input,
-        output,
+        input,
+        &mut output,
         &mut faults,
     );
-    Ok(ended.status)
+    Ok(Outcome {
+        status: ended.status,
+        output,
+        faults,
+    })
+}
+
+/// Runs `queue_explore` on these arguments.
+pub fn explore<I: Read>(alloc: Global, args: &str, input: &mut I) -> Result<Outcome, AllocError> {
+    let words = words(alloc, args)?;
+    let mut output = Writer::new(alloc, WHOLE);
+    let mut faults = Writer::new(alloc, WHOLE);
+    let status = command(&alloc, &words, input, &mut output, &mut faults);
+    Ok(Outcome {
+        status,
+        output,
+        faults,
+    })
 }

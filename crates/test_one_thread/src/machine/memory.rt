@@ -1,5 +1,4 @@
 //! The blocks of runs on a chain, by an allocator that tells them from lists by their layout.
-use crate::asserts::is_in;
 use crate::machine::refusals::run;
 use crate::machine::script::{StoryLine, events_of};
 use machine_replay::blocks::BlockPlace;
@@ -10,6 +9,7 @@ use queue_steps::steps::Kind;
 use std::alloc::{Global, Layout};
 use std::process::Abort;
 use test_support::allocators::{Heap, Refusal};
+use test_support::asserts::is_in;
 
 /// The lists of a machine: its calls and its blocks.
 const MACHINE_LISTS: u64 = 2;
@@ -37,7 +37,7 @@ struct Row<'a> {
 
 /// Asserts what is counted of a run: nothing but the lists and the blocks is asked for, and nothing stays allocated.
 fn is_counted(rt: &impl Abort, alloc: Global, row: &Row<'_>) {
-    let events = events_of(rt, alloc, row.lines, 0);
+    let events = events_of(rt, alloc, row.lines);
     let heap = counting(rt, alloc);
     let (_, peak) = run(&heap, Kind::Unbounded, 3, &events).expect(rt, "memory");
     let most = [peak.blocks as u64, heap.most_watched(), heap.most()];
@@ -196,7 +196,7 @@ fn blocks_are_those_that_are_allocated(rt: HostRuntime) {
 
 /// How many blocks live in the machine after these lines, and how many allocations in all; and how many once it is dropped.
 fn lives_after(rt: &impl Abort, alloc: Global, lines: &[StoryLine]) -> (u64, u64, u64) {
-    let events = events_of(rt, alloc, lines, 0);
+    let events = events_of(rt, alloc, lines);
     let heap = counting(rt, alloc);
     let events = events.to_vec(&heap).expect(rt, "memory");
     let machine = machine_after(&heap, Kind::Unbounded, 2, events).expect(rt, "memory");

@@ -1,7 +1,6 @@
 //! Requests for room, and for blocks, that are refused.
 ghost use Rattle.machine_replay.specs.Replays.{CanReplay};
 
-use crate::asserts::is_in;
 use crate::machine::script::{StoryLine, events_of};
 use machine_replay::replay;
 use machine_replay::types::{Event, Peak};
@@ -11,6 +10,7 @@ use queue_steps::steps::Kind;
 use std::alloc::Global;
 use std::process::Abort;
 use test_support::allocators::{Heap, Refusal};
+use test_support::asserts::is_in;
 
 /// The run of these events, in memory that is counted. Gives how many items it leaves and what it tells of its blocks, where there is memory for it.
 pub(crate) fn run(
@@ -57,7 +57,7 @@ type Row = (u64, u64, Option<usize>, Option<u64>);
 fn are_refused(rt: &impl Abort, alloc: Global, kind: Kind, lines: &[StoryLine], rows: &[Row])
     requires { CanReplay kind }
 {
-    let events = events_of(rt, alloc, lines, 0);
+    let events = events_of(rt, alloc, lines);
     for (first, end, left, requests) in rows {
         for number in *first..*end {
             let wanted = (*left, requests.unwrap_or(number));

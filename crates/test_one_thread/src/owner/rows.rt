@@ -1,5 +1,4 @@
 //! Stories: how a queue is made, the calls and their replies, and the memory that is held between them.
-use crate::asserts::is_in;
 use exclusive_queue::{Exclusive, PushError};
 use queue_steps::model::{Call, Reply};
 use queue_steps::sizes::LIMIT;
@@ -7,12 +6,13 @@ use std::alloc::{AllocError, Global};
 use std::ops::Range;
 use std::process::Abort;
 use test_support::allocators::{Heap, Refusal};
+use test_support::asserts::is_in;
 
 /// A queue whose requests are counted.
 pub(crate) type Counting<'a> = Exclusive<u64, &'a Heap>;
 
 /// How a queue is made.
-#[derive(Clone, Copy)]
+#[derive(Clone, Copy, Debug)]
 pub(crate) enum Made {
     Bounded(usize),
     BoundedAfter(usize, u64),
@@ -80,8 +80,6 @@ pub(crate) enum StoryLine {
     PopsSome(u64),
     /// Pushes so many numbers from 0 on by force: each is accepted.
     Forces(u64),
-    /// The queue holds so many blocks.
-    Blocks(usize),
     /// So many allocations live, and there were so many requests.
     Allocated(u64, u64),
     /// The queue holds so many blocks, as many allocations live, and there were so many requests.
@@ -161,7 +159,6 @@ impl StoryLine {
             }
             StoryLine::PopsSome(_) => queue.pop().is_ok() && queue.blocks() as u64 == heap.live(),
             StoryLine::Forces(_) => queue.force_push(number).is_ok(),
-            StoryLine::Blocks(blocks) => queue.blocks() == blocks,
             StoryLine::Allocated(live, requests) => heap.live() == live
                 && heap.requests() == requests,
             StoryLine::Holds(blocks, requests) => holds(queue, heap, blocks, requests),
@@ -196,22 +193,12 @@ pub(crate) fn tell(rt: &impl Abort, alloc: Global, story: &Story<'_>) {
     );
 }
 
-/// Tells each of these stories.
-pub(crate) fn tell_all(rt: &impl Abort, alloc: Global, stories: &[Story<'_>]) {
-    for story in stories {
-        tell(rt, alloc, story);
-    }
-}
-
-/// A request that is refused, how a queue is to be made, and how many requests there are then.
-pub(crate) type Refused = (&'static str, Refusal, Made, u64);
-
-/// Asserts that none of these queues is made, after so many requests each, and that nothing stays allocated.
-pub(crate) fn are_refused<T: Drop>(rt: &impl Abort, alloc: Global, rows: &[Refused]) {
-    for (name, refusal, made, requests) in rows {
+/// Asserts that none of these queues is made where these requests are refused, after so many requests each, and that nothing stays allocated.
+pub(crate) fn are_refused<T: Drop>(rt: &impl Abort, alloc: Global, rows: &[(Refusal, Made, u64)]) {
+    for (refusal, made, requests) in rows {
         let heap = Heap::new(alloc, *refusal);
         let refused = made.queue::<T>(rt, &heap).is_err();
         let seen = (refused, heap.requests(), heap.live());
-        is_in(rt, *name, seen, (true, *requests, 0));
+        is_in(rt, *made, seen, (true, *requests, 0));
     }
 }

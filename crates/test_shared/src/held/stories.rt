@@ -1,5 +1,5 @@
 //! The stories of held calls: a slot, a ring and a chain, each between two steps of a call.
-use crate::held::telling::{Story, tell};
+use crate::held::telling::{QUIET, Story, tell};
 use concurrent_queue::{PopError, PushError};
 use queue_steps::model::{Call, Reply};
 use queue_steps::steps::{Op, READ, TAIL_STEP, WRITE, Word};
@@ -8,16 +8,11 @@ static STORIES: [Story; 8] = [
     Story {
         name: "full while a push holds the slot",
         cap: Some(1),
-        pushed: 0,
         held: (Call::Push(1), Reply::Push(Ok(()))),
         at: Op::And(Word::Lock, u64::MAX - 1),
         meanwhile: &[(Call::Push(2), Reply::Push(Err(PushError::Full(2))))],
-        tried: &[],
-        waiting: None,
-        begun: None,
-        then: &[],
         left: &[1],
-        closed: false,
+        ..QUIET
     },
     Story {
         name: "empty while a pop holds the slot",
@@ -26,12 +21,7 @@ static STORIES: [Story; 8] = [
         held: (Call::Pop, Reply::Pop(Ok(1))),
         at: Op::And(Word::Lock, u64::MAX - 1),
         meanwhile: &[(Call::Pop, Reply::Pop(Err(PopError::Empty)))],
-        tried: &[],
-        waiting: None,
-        begun: None,
-        then: &[],
-        left: &[],
-        closed: false,
+        ..QUIET
     },
     Story {
         name: "popped and pushed while a push is not stamped",
@@ -43,12 +33,8 @@ static STORIES: [Story; 8] = [
             (Call::Pop, Reply::Pop(Ok(1))),
             (Call::Push(3), Reply::Push(Ok(()))),
         ],
-        tried: &[],
-        waiting: None,
-        begun: None,
-        then: &[],
         left: &[2, 3],
-        closed: false,
+        ..QUIET
     },
     Story {
         name: "popped while a pop is not stamped",
@@ -57,12 +43,7 @@ static STORIES: [Story; 8] = [
         held: (Call::Pop, Reply::Pop(Ok(1))),
         at: Op::Store(Word::Stamp(0), 3),
         meanwhile: &[(Call::Pop, Reply::Pop(Ok(2)))],
-        tried: &[],
-        waiting: None,
-        begun: None,
-        then: &[],
-        left: &[],
-        closed: false,
+        ..QUIET
     },
     // A displaced front has left and the new item has not arrived: the queue can be closed and popped empty, and the next pop waits for the item.
     Story {
@@ -75,15 +56,13 @@ static STORIES: [Story; 8] = [
             (Call::Close, Reply::Close(true)),
             (Call::Pop, Reply::Pop(Ok(2))),
         ],
-        tried: &[],
         waiting: Some(((Call::Pop, Reply::Pop(Ok(3))), Op::Load(Word::Head))),
-        begun: None,
         then: &[
             (Call::Pop, Reply::Pop(Err(PopError::Closed))),
             (Call::IsClosed, Reply::IsClosed(true)),
         ],
-        left: &[],
         closed: true,
+        ..QUIET
     },
     // No item is appended between the two.
     Story {
@@ -93,19 +72,15 @@ static STORIES: [Story; 8] = [
         held: (Call::ForcePush(3), Reply::ForcePush(Ok(Some(1)))),
         at: Op::Add(Word::Tail, TAIL_STEP),
         meanwhile: &[(Call::Len, Reply::Len(1))],
-        tried: &[],
         waiting: Some((
             (Call::Push(4), Reply::Push(Err(PushError::Full(4)))),
             Op::Load(Word::Tail),
         )),
-        begun: None,
-        then: &[],
         left: &[2, 3],
-        closed: false,
+        ..QUIET
     },
     Story {
         name: "popped and pushed while a push is not written",
-        cap: None,
         pushed: 1,
         held: (Call::Push(2), Reply::Push(Ok(()))),
         at: Op::Or(Word::State((), 1), WRITE),
@@ -113,26 +88,16 @@ static STORIES: [Story; 8] = [
             (Call::Push(3), Reply::Push(Ok(()))),
             (Call::Pop, Reply::Pop(Ok(1))),
         ],
-        tried: &[],
-        waiting: None,
-        begun: None,
-        then: &[],
         left: &[2, 3],
-        closed: false,
+        ..QUIET
     },
     Story {
         name: "popped while a pop has not read",
-        cap: None,
         pushed: 2,
         held: (Call::Pop, Reply::Pop(Ok(1))),
         at: Op::Or(Word::State((), 0), READ),
         meanwhile: &[(Call::Pop, Reply::Pop(Ok(2)))],
-        tried: &[],
-        waiting: None,
-        begun: None,
-        then: &[],
-        left: &[],
-        closed: false,
+        ..QUIET
     },
 ];
 

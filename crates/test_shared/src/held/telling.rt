@@ -3,19 +3,20 @@
 //! The held call is made by the queue's own `answer`, to which a user's calls come too; the other party makes its calls as a user does.
 ghost use Rattle.concurrent_queue.specs.Shared.{IsPartyOf};
 
-use crate::asserts::is_in;
 use crate::calls::{Queue, Row, Try, are_answered, are_tried, is_left};
 use crate::gates::{Meeting, Part, Signs, Told, call_held};
 use crate::opening::{end, open_filled};
 use crate::pending::beside::{Begun, call_beside};
-use concurrent_queue::Party;
-use queue_steps::steps::Op;
+use concurrent_queue::{Party, PopError};
+use queue_steps::model::{Call, Reply};
+use queue_steps::steps::{Op, Word};
 use shared_chain::source::Granting;
 use std::alloc::Global;
 use std::process::Abort;
 use std::sync::Wait;
 use std::sync::atomic::{AtomicBool, Ordering};
 use std::thread::{Threads, join};
+use test_support::asserts::is_in;
 use test_support::signs::wait_for;
 
 /// A call that has to wait, with its reply, and the operation to which it comes again while it waits.
@@ -45,6 +46,22 @@ pub(crate) struct Story {
     /// Whether the queue is closed in the end.
     pub(crate) closed: bool,
 }
+
+/// Nothing else is done, on a queue without a capacity that stays open and is left empty.
+pub(crate) const QUIET: Story = Story {
+    name: "",
+    cap: None,
+    pushed: 0,
+    held: (Call::Pop, Reply::Pop(Err(PopError::Empty))),
+    at: Op::Load(Word::Head),
+    meanwhile: &[],
+    tried: &[],
+    waiting: None,
+    begun: None,
+    then: &[],
+    left: &[],
+    closed: false,
+};
 
 /// Makes a call that has to wait. Gives whether it had its reply, and that once the held call went on.
 fn call_waiting<'a, R: Wait>(

@@ -1,7 +1,6 @@
 //! Calls that answer busy in the place of waiting: their other replies, by the only party, and busy beside a held call.
-use crate::asserts::{is, is_in};
 use crate::calls::{Try, are_tried};
-use crate::held::telling::{Story, tell};
+use crate::held::telling::{QUIET, Story, tell};
 use crate::opening::open_surely;
 use concurrent_queue::{TryForcePushError, TryPopError, TryPushError};
 use queue_steps::model::{Call, Reply};
@@ -10,26 +9,22 @@ use std::alloc::Global;
 use std::fmt::{Debug, Display};
 use std::process::Abort;
 use test_support::allocators::{Heap, Refusal};
+use test_support::asserts::{is, is_in};
 
 /// What a push of 8, one by force of 9 and a pop answer beside a held call; on a chain no pop is tried.
 static BESIDE: [Story; 6] = [
     Story {
         name: "a slot that a push holds",
         cap: Some(1),
-        pushed: 0,
         held: (Call::Push(7), Reply::Push(Ok(()))),
         at: Op::And(Word::Lock, u64::MAX - 1),
-        meanwhile: &[],
         tried: &[
             Try::Push(8, Err(TryPushError::Full(8))),
             Try::ForcePush(9, Err(TryForcePushError::Busy(9))),
             Try::Pop(Err(TryPopError::Busy)),
         ],
-        waiting: None,
-        begun: None,
-        then: &[],
         left: &[7],
-        closed: false,
+        ..QUIET
     },
     Story {
         name: "a slot that a pop holds",
@@ -37,35 +32,25 @@ static BESIDE: [Story; 6] = [
         pushed: 1,
         held: (Call::Pop, Reply::Pop(Ok(1))),
         at: Op::And(Word::Lock, u64::MAX - 1),
-        meanwhile: &[],
         tried: &[
             Try::Push(8, Err(TryPushError::Busy(8))),
             Try::ForcePush(9, Err(TryForcePushError::Busy(9))),
             Try::Pop(Err(TryPopError::Empty)),
         ],
-        waiting: None,
-        begun: None,
-        then: &[],
-        left: &[],
-        closed: false,
+        ..QUIET
     },
     Story {
         name: "a ring whose only item is not stamped",
         cap: Some(2),
-        pushed: 0,
         held: (Call::Push(7), Reply::Push(Ok(()))),
         at: Op::Store(Word::Stamp(0), 1),
-        meanwhile: &[],
         tried: &[
             Try::Push(8, Ok(())),
             Try::ForcePush(9, Err(TryForcePushError::Busy(9))),
             Try::Pop(Err(TryPopError::Busy)),
         ],
-        waiting: None,
-        begun: None,
-        then: &[],
         left: &[7, 8],
-        closed: false,
+        ..QUIET
     },
     Story {
         name: "a ring whose free slot is not stamped",
@@ -73,17 +58,12 @@ static BESIDE: [Story; 6] = [
         pushed: 2,
         held: (Call::Pop, Reply::Pop(Ok(1))),
         at: Op::Store(Word::Stamp(0), 2),
-        meanwhile: &[],
         tried: &[
             Try::Push(8, Err(TryPushError::Busy(8))),
             Try::ForcePush(9, Err(TryForcePushError::Busy(9))),
             Try::Pop(Ok(2)),
         ],
-        waiting: None,
-        begun: None,
-        then: &[],
-        left: &[],
-        closed: false,
+        ..QUIET
     },
     Story {
         name: "a ring that an item comes into",
@@ -91,38 +71,29 @@ static BESIDE: [Story; 6] = [
         pushed: 2,
         held: (Call::ForcePush(7), Reply::ForcePush(Ok(Some(1)))),
         at: Op::Add(Word::Tail, TAIL_STEP),
-        meanwhile: &[],
         tried: &[
             Try::Push(8, Err(TryPushError::Busy(8))),
             Try::ForcePush(9, Err(TryForcePushError::Busy(9))),
             Try::Pop(Ok(2)),
         ],
-        waiting: None,
-        begun: None,
-        then: &[],
         left: &[7],
-        closed: false,
+        ..QUIET
     },
     Story {
         name: "a chain whose next block is not laid",
-        cap: None,
         pushed: 62,
         held: (Call::Push(7), Reply::Push(Ok(()))),
         at: Op::StoreLink(Link::TailBlock, ()),
-        meanwhile: &[],
         tried: &[
             Try::Push(8, Err(TryPushError::Busy(8))),
             Try::ForcePush(9, Err(TryForcePushError::Busy(9))),
         ],
-        waiting: None,
-        begun: None,
-        then: &[],
         left: &[
             1, 2, 3, 4, 5, 6, 7, 8, 9, 10, 11, 12, 13, 14, 15, 16, 17, 18, 19, 20, 21, 22, 23, 24,
             25, 26, 27, 28, 29, 30, 31, 32, 33, 34, 35, 36, 37, 38, 39, 40, 41, 42, 43, 44, 45, 46,
             47, 48, 49, 50, 51, 52, 53, 54, 55, 56, 57, 58, 59, 60, 61, 62, 7,
         ],
-        closed: false,
+        ..QUIET
     },
 ];
 

@@ -4,7 +4,7 @@ use concurrent_queue::{ForcePushError, PopError, PushError};
 use queue_steps::model::{Call, Reply};
 
 /// The calls of the only party, what is left, and whether the queue is closed.
-pub(crate) static ONE_PARTY: [Solo; 4] = [
+pub(crate) static ONE_PARTY: [Solo; 3] = [
     Solo {
         name: "a chain, each call",
         cap: None,
@@ -52,24 +52,6 @@ pub(crate) static ONE_PARTY: [Solo; 4] = [
         ],
         left: &[],
         closed: true,
-    },
-    Solo {
-        name: "a chain, emptied twice",
-        cap: None,
-        rows: &[
-            (Call::Push(1), Reply::Push(Ok(()))),
-            (Call::Push(2), Reply::Push(Ok(()))),
-            (Call::Push(3), Reply::Push(Ok(()))),
-            (Call::Pop, Reply::Pop(Ok(1))),
-            (Call::Pop, Reply::Pop(Ok(2))),
-            (Call::Pop, Reply::Pop(Ok(3))),
-            (Call::Pop, Reply::Pop(Err(PopError::Empty))),
-            (Call::Push(4), Reply::Push(Ok(()))),
-            (Call::Pop, Reply::Pop(Ok(4))),
-            (Call::Pop, Reply::Pop(Err(PopError::Empty))),
-        ],
-        left: &[],
-        closed: false,
     },
     Solo {
         name: "a chain, items are left",

@@ -4,21 +4,7 @@ use concurrent_queue::{ForcePushError, PopError, PushError};
 use queue_steps::model::{Call, Reply};
 
 /// The capacity of a ring, the calls of its only party, what is left, and whether it is closed.
-pub(crate) static ONE_PARTY: [Solo; 15] = [
-    Solo {
-        name: "a ring, filled and emptied",
-        cap: Some(2),
-        rows: &[
-            (Call::Push(1), Reply::Push(Ok(()))),
-            (Call::Push(2), Reply::Push(Ok(()))),
-            (Call::Push(3), Reply::Push(Err(PushError::Full(3)))),
-            (Call::Pop, Reply::Pop(Ok(1))),
-            (Call::Pop, Reply::Pop(Ok(2))),
-            (Call::Pop, Reply::Pop(Err(PopError::Empty))),
-        ],
-        left: &[],
-        closed: false,
-    },
+pub(crate) static ONE_PARTY: [Solo; 3] = [
     Solo {
         name: "a ring, full and not full",
         cap: Some(3),
@@ -35,26 +21,6 @@ pub(crate) static ONE_PARTY: [Solo; 15] = [
         ],
         left: &[2, 3, 4],
         closed: false,
-    },
-    Solo {
-        name: "a ring, pushed to by force, and closed",
-        cap: Some(3),
-        rows: &[
-            (Call::ForcePush(1), Reply::ForcePush(Ok(None))),
-            (Call::ForcePush(2), Reply::ForcePush(Ok(None))),
-            (Call::ForcePush(3), Reply::ForcePush(Ok(None))),
-            (Call::Push(4), Reply::Push(Err(PushError::Full(4)))),
-            (Call::ForcePush(5), Reply::ForcePush(Ok(Some(1)))),
-            (Call::ForcePush(6), Reply::ForcePush(Ok(Some(2)))),
-            (Call::Close, Reply::Close(true)),
-            (
-                Call::ForcePush(7),
-                Reply::ForcePush(Err(ForcePushError::Closed(7))),
-            ),
-            (Call::Pop, Reply::Pop(Ok(3))),
-        ],
-        left: &[5, 6],
-        closed: true,
     },
     Solo {
         name: "a ring, by force past its end",
@@ -111,86 +77,6 @@ pub(crate) static ONE_PARTY: [Solo; 15] = [
         ],
         left: &[],
         closed: true,
-    },
-    Solo {
-        name: "a ring, filled and half emptied",
-        cap: Some(2),
-        rows: &[
-            (Call::Push(1), Reply::Push(Ok(()))),
-            (Call::Push(2), Reply::Push(Ok(()))),
-            (Call::Len, Reply::Len(2)),
-            (Call::IsEmpty, Reply::IsEmpty(false)),
-            (Call::IsFull, Reply::IsFull(true)),
-            (Call::Pop, Reply::Pop(Ok(1))),
-            (Call::Len, Reply::Len(1)),
-            (Call::IsEmpty, Reply::IsEmpty(false)),
-            (Call::IsFull, Reply::IsFull(false)),
-        ],
-        left: &[2],
-        closed: false,
-    },
-    Solo {
-        name: "a capacity that is told",
-        cap: Some(1),
-        rows: &[(Call::Capacity, Reply::Capacity(Some(1)))],
-        left: &[],
-        closed: false,
-    },
-    Solo {
-        name: "a capacity that is told",
-        cap: Some(2),
-        rows: &[(Call::Capacity, Reply::Capacity(Some(2)))],
-        left: &[],
-        closed: false,
-    },
-    Solo {
-        name: "a capacity that is told",
-        cap: Some(3),
-        rows: &[(Call::Capacity, Reply::Capacity(Some(3)))],
-        left: &[],
-        closed: false,
-    },
-    Solo {
-        name: "a capacity that is told",
-        cap: Some(4),
-        rows: &[(Call::Capacity, Reply::Capacity(Some(4)))],
-        left: &[],
-        closed: false,
-    },
-    Solo {
-        name: "a capacity that is told",
-        cap: Some(5),
-        rows: &[(Call::Capacity, Reply::Capacity(Some(5)))],
-        left: &[],
-        closed: false,
-    },
-    Solo {
-        name: "a capacity that is told",
-        cap: Some(6),
-        rows: &[(Call::Capacity, Reply::Capacity(Some(6)))],
-        left: &[],
-        closed: false,
-    },
-    Solo {
-        name: "a capacity that is told",
-        cap: Some(7),
-        rows: &[(Call::Capacity, Reply::Capacity(Some(7)))],
-        left: &[],
-        closed: false,
-    },
-    Solo {
-        name: "a capacity that is told",
-        cap: Some(8),
-        rows: &[(Call::Capacity, Reply::Capacity(Some(8)))],
-        left: &[],
-        closed: false,
-    },
-    Solo {
-        name: "a capacity that is told",
-        cap: Some(9),
-        rows: &[(Call::Capacity, Reply::Capacity(Some(9)))],
-        left: &[],
-        closed: false,
     },
 ];
 

@@ -107,21 +107,7 @@ fn each_of_two_parties<R: Wait + Abort>(rt: &R, alloc: Global, stories: &[Duet])
 }
 
 /// The calls of the only party of a slot, what is left, and whether it is closed.
-pub(crate) static ONE_PARTY: [Solo; 4] = [
-    Solo {
-        name: "a slot, pushed to while it is full, and closed",
-        cap: Some(1),
-        rows: &[
-            (Call::Push(10), Reply::Push(Ok(()))),
-            (Call::Push(20), Reply::Push(Err(PushError::Full(20)))),
-            (Call::Close, Reply::Close(true)),
-            (Call::Push(20), Reply::Push(Err(PushError::Closed(20)))),
-            (Call::Pop, Reply::Pop(Ok(10))),
-            (Call::Push(20), Reply::Push(Err(PushError::Closed(20)))),
-        ],
-        left: &[],
-        closed: true,
-    },
+pub(crate) static ONE_PARTY: [Solo; 3] = [
     Solo {
         name: "a slot, pushed to by force, and closed",
         cap: Some(1),

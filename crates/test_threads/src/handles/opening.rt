@@ -3,7 +3,8 @@ ghost use Rattle.std.specs.Prelude.{IfOk};
 ghost use Rattle.channel_handle.specs.Ends.{IsPair};
 ghost use Rattle.counted_channel.specs.Channel.{EndParts};
 
-use channel_handle::{Receiver, Sender, bounded, unbounded};
+use channel_handle::{Handle, Receiver, Sender, bounded, unbounded};
+use counted_channel::ChannelEnd;
 use mem_blocks::null_testable::NullTestable;
 use std::alloc::AllocError;
 use std::process::Abort;
@@ -41,14 +42,15 @@ pub fn opened_surely<T: Drop, A: NullTestable + Clone>(
 }
 
 /// One more end of this one. Asserts that there is one.
-pub fn one_more<T, A>(rt: &impl Abort, sender: &mut Sender<T, A>) -> Sender<T, A>
+pub fn one_more<E, T, A>(rt: &impl Abort, end: &mut Handle<E, T, A>) -> Handle<E, T, A>
 where
+    E: ChannelEnd<T>,
     T: Drop,
     A: NullTestable,
-    ensures { EndParts sender.old sender.new result }
+    ensures { EndParts end.old end.new result }
 {
-    match sender.split() {
+    match end.split() {
         Ok(other) => other,
-        Err(_) => panic!(rt; "no second sender"),
+        Err(_) => panic!(rt; "no second end"),
     }
 }

@@ -1,4 +1,7 @@
 //! Futures at a list of wakers, polled by hand: each wake reaches one that needs it.
+ghost use Rattle.std.specs.Prelude.{◌≡◌};
+ghost use Rattle.law_wakes.specs.declared.seats.Seat.TheVariants.{Looking};
+
 use crate::asserts::is;
 use futures::task::Context;
 use futures::test::MockTask;
@@ -8,7 +11,7 @@ use std::process::Abort;
 use std::random::RandomSource;
 use std::sync::atomic::AtomicU64;
 use std::sync::atomic::Ordering::SeqCst;
-use waker_list::{Entry, LookAgain, OwesAll, OwesOne, Place, WakerList};
+use waker_list::{Entry, Look, OwesAll, OwesOne, Place, WakerList};
 
 /// What the futures wait for.
 #[derive(Drop)]
@@ -51,11 +54,13 @@ impl Post {
     }
 
     /// Looks once more.
-    fn look<'a>(&self, look: LookAgain<'a, Item>) -> Place<'a, Item> {
+    fn look<'a>(&self, look: Look<'a, Item>) -> Place<'a, Item>
+        requires { look.place.sitting.seat ≡ Looking }
+    {
         if self.try_take() {
             look.found(Item { made: () })
         } else {
-            look.in_vain(Item { made: () })
+            look.in_vain(Item { made: () }).rest()
         }
     }
 

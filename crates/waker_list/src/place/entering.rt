@@ -1,16 +1,16 @@
 //! How a future enters a list.
 ghost use Rattle.std.specs.Prelude.{◌≡◌};
 ghost use Rattle.futures.specs.Task.{Covers, Keeps};
-ghost use Rattle.waker_list.specs.Entries.{HasPlace, IsPendingAt};
+ghost use Rattle.waker_list.specs.Entries.{HasPlace, IsEnteredAt};
 
-use crate::place::{LookAgain, Missed, Place};
+use crate::place::{Look, Missed, Place};
 use futures::spin::lock_or_give_up;
 use futures::task::{Context, Poll};
 
 /// What a future does that has entered the list.
 pub enum Entry<'a, C> {
     /// It looks once more.
-    Look(LookAgain<'a, C>),
+    Look(Look<'a, C>),
     /// It is pending.
     Wait(Place<'a, C>),
 }
@@ -19,7 +19,7 @@ impl<'a, C> Missed<'a, C> {
     /// The future enters the list, or stays on it, and leaves its waker there.
     pub fn enter(self, cx: &mut Context<'_>) -> Entry<'a, C>
         ensures list { HasPlace result (λ p. p.list.now ≡ self.entry.place.list.now) }
-        ensures pending { IsPendingAt cx.new result }
+        ensures seat { IsEnteredAt cx.new result }
         ensures registered { Covers cx.new (λ s. s ≡ self.entry.place.list.now.source.id) }
         ensures kept { Keeps cx.old cx.new }
     {
@@ -68,6 +68,6 @@ impl<'a, C> Missed<'a, C> {
             sitting: sitting.entered(&joined),
             ticket: Some(joined.ticket()),
         };
-        Entry::Look(LookAgain { place })
+        Entry::Look(Look { place })
     }
 }

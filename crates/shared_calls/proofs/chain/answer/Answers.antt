@@ -5,7 +5,7 @@ use Rattle.shared_calls.proofs.chain.answer.Goals.{in-Break, in-Continue}
 use Rattle.shared_calls.proofs.chain.answer.Goals as goal
 
 pub run-begun-requires : goal.run-begun-requires
-run-begun-requires g c = let s = c.wake-asking.ensures.seat in record { rests = (s.0, wakes_free _ c.args.party.now c.wake-asking.result.seat.sitter c.requires s.1) }
+run-begun-requires g c = let s = c.wake-asking.ensures.seat in record { rests = (s.0, wakes_free _ c.args.party.now c.wake-asking.result.seat.sitter c.requires.rests s.1) }
 
 pub returns : goal.returns
 returns g c =
@@ -14,4 +14,4 @@ returns g c =
       | in-Break w ↦ subst (λ r. ChainEnded q p.seat k r m.asking.seat) (sym w.reply-is) (subst (λ a. ChainEnded q p.seat k w.in-Break.reply a.seat) (sym w.asking-is) w.in-Break.ensures)
       | in-Continue w ↦ let r' = w.run_slow-reply in subst (λ r. ChainEnded q p.seat k r m.asking.seat) (sym w.reply-is) (subst (λ a. ChainEnded q p.seat k r'.result a.seat) (sym w.asking-is) (r'.ensures k p w.in-Continue.ensures))
     ] in
-    rests_ended c.args.party.now c.rests.result p.seat.sitter m.asking.seat.sitter k m.reply s.1 d.0.1 d.1 out.0 (out.1 ∙ (d.0.0.0 ∙ sym c.requires.1)) out.2
+    rests_ended c.args.party.now c.rests.result p.seat.sitter m.asking.seat.sitter k m.reply s.1 d.0.1 d.1 out.0 (out.1 ∙ (d.0.0.0 ∙ sym c.requires.rests.1)) out.2

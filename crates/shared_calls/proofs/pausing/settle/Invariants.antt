@@ -2,7 +2,7 @@ use Rattle.std.proofs.Common.{◌-◌, ◌<◌, ◌≤◌}
 use Rattle.law_common.specs.Vocabulary.{Call}
 use Rattle.shared_calls.specs.Pausing.{IsStood}
 use Rattle.shared_calls.specs.Settling.{left_at, MayWait}
-use Rattle.shared_site.specs.Halts.{next_at}
+use Rattle.shared_calls.specs.Halts.{next_at}
 use Rattle.shared_calls.proofs.pausing.settle.Given as goal
 
 -- some call stands there, whichever stood at first; and after each turn it is a step nearer to where it has had no effect

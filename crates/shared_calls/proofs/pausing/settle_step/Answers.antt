@@ -1,9 +1,9 @@
 use Rattle.std.proofs.Common.{◌≡◌, ◌-◌, ◌∙◌, false, sym, ap, subst, arith}
 use Rattle.law_common.specs.Vocabulary.{Next, SOLO_STEPS}
 use Rattle.call_driver.proofs.Going.{replies, again, step}
-use Rattle.shared_site.specs.Early.{is_early}
+use Rattle.shared_calls.specs.Early.{is_early}
 use Rattle.shared_calls.specs.Settling.{left_at, MayWait}
-use Rattle.shared_site.specs.Halts.{next_at}
+use Rattle.shared_calls.specs.Halts.{next_at}
 use Rattle.shared_calls.proofs.Filling.{is_filled, filled_as}
 use Rattle.shared_calls.proofs.Settling.{nearer, left_late, left_early}
 use Rattle.shared_calls.proofs.pausing.settle_step.Goals as goal

@@ -1,8 +1,8 @@
 use Rattle.std.proofs.Common.{refl, ◌∙◌, sym, ap, subst}
 use Rattle.law_chain.specs.ChainEarly.{IsPush}
 use Rattle.queue_steps.specs.declared.model.Call.{Call}
-use Rattle.table_kinds.specs.SlotTable.{slot_table}
-use Rattle.table_kinds.specs.RingTable.{ring_table}
+use Rattle.shared_tables.specs.SlotTable.{slot_table}
+use Rattle.shared_tables.specs.RingTable.{ring_table}
 use Rattle.concurrent_queue.specs.declared.party.SeatPlace.TheVariants as place
 use Rattle.concurrent_queue.specs.Shared.{QueueId, form_id, IsHeld, party_view_of}
 use Rattle.concurrent_queue.specs.Tries.{Tries}

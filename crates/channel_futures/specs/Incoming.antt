@@ -1,0 +1,18 @@
+-- What a contract sees of a receiver in futures.
+use Rattle.std.specs.Prelude.{◌≡◌, ℕ}
+use Rattle.std.specs.Arc.{arc_value}
+use Rattle.counted_channel.specs.Channel.{End}
+use Rattle.channel_futures.specs.declared.incoming.Incoming.{Incoming}
+
+module _ {T : Type 0} where
+  -- the end that receives there
+  abbrev pub end_of : Incoming T → End T
+  end_of i = i.owed.end
+
+  -- the source that it waits for
+  abbrev pub source_of : Incoming T → ℕ
+  source_of i = (arc_value i.list).source.id
+
+  -- it is an end of the same channel, and waits on the same list
+  abbrev pub SameChannel : Incoming T → Incoming T → Type 0
+  SameChannel i j = (j.channel ≡ i.channel) × (j.list ≡ i.list)

@@ -1,0 +1,25 @@
+-- What a contract sees of a sender in futures.
+use Rattle.std.specs.Prelude.{◌≡◌, ℕ, Option, Some, None, Result, Ok}
+use Rattle.std.specs.Arc.{arc_value}
+use Rattle.queue_steps.specs.declared.model.Call.TheVariants as call
+use Rattle.channel_calls.specs.declared.errors.SendError.{SendError}
+use Rattle.counted_channel.specs.Channel.{End, ChannelCall, sent}
+use Rattle.channel_futures.specs.declared.outgoing.Outgoing.{Outgoing}
+
+module _ {T : Type 0} where
+  -- the end that sends there
+  abbrev pub end_of : Outgoing T → End T
+  end_of o = o.owed.end
+
+  -- the source that it waits for
+  abbrev pub source_of : Outgoing T → ℕ
+  source_of o = (arc_value o.list).source.id
+
+  -- it is an end of the same channel, and waits on the same list
+  abbrev pub SameChannel : Outgoing T → Outgoing T → Type 0
+  SameChannel o p = (p.channel ≡ o.channel) × (p.list ≡ o.list)
+
+  -- what was held, if anything, was sent with this answer
+  abbrev pub HeldSent : End T → Option T → Result (Unit {0}) (SendError T) → End T → Type 0
+  HeldSent d (Some x) r e = ChannelCall d (call.Push x) (sent r) e
+  HeldSent d None r e = (r ≡ Ok tt) × (e ≡ d)

@@ -1,0 +1,5 @@
+use Rattle.counted_channel.specs.Channel.{IsEndOf}
+use Rattle.counted_channel.proofs.ends.Channel.end_polling.Given as goal
+
+abbrev pub invariant-loop : goal.invariant-loop
+invariant-loop g l = IsEndOf l.receiver l.self

@@ -1,0 +1,19 @@
+use Rattle.std.proofs.Common.{Ok, Err}
+use Rattle.queue_steps.specs.declared.model.Reply.TheVariants as reply
+use Rattle.queue_steps.specs.declared.errors.PopError.TheVariants as pop
+use Rattle.channel_calls.specs.Polled.{party_at}
+use Rattle.counted_channel.proofs.Polls.{recv_answered, recv_empty, recv_busy, recv_taken}
+use Rattle.counted_channel.proofs.ends.Channel.poll_recv.Goals as goal
+use Rattle.counted_channel.proofs.ends.Channel.poll_recv.Goals.{in-Item, in-Closed, in-Empty, in-Taken, in-Busy}
+
+pub returns-clause-polls : goal.returns-clause-polls
+returns-clause-polls g c =
+    let d = c.args.receiver.now in let v = party_at c.receiver.inside.at in let a = c.poll_pop.new.at in
+    let t = c.receiver.inside.place.table_id in let s = c.receiver.inside.place.me.0 in
+    elim c.match-poll_pop.branch [
+      | in-Item w ↦ rw w.result-is (recv_answered d v t s c.receiver.view_is a (reply.Pop (Ok w.in-Item.item)) w.in-Item.ensures.polls)
+      | in-Closed w ↦ rw w.result-is (recv_answered d v t s c.receiver.view_is a (reply.Pop (Err pop.Closed)) w.in-Closed.ensures.polls)
+      | in-Empty w ↦ rw w.result-is (recv_empty d v t s c.receiver.view_is a w.in-Empty.ensures.polls)
+      | in-Taken w ↦ rw w.result-is (recv_taken d v t s c.receiver.view_is a w.in-Taken.ensures.polls)
+      | in-Busy w ↦ rw w.result-is (recv_busy d v t s c.receiver.view_is a w.in-Busy.ensures.polls)
+    ]

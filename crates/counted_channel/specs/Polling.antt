@@ -1,0 +1,49 @@
+-- What one call of an end in futures comes to.
+use Rattle.std.specs.Prelude.{◌≡◌, Option, Result, Ok, List, [], ◌∷◌}
+use Rattle.std.specs.Result.{result_ok}
+use Rattle.queue_steps.specs.declared.model.Call.TheVariants as call
+use Rattle.queue_steps.specs.declared.model.Reply.TheVariants as reply
+use Rattle.concurrent_queue.specs.SawMore.{SawMore}
+use Rattle.waker_list.specs.declared.place.Look.{Look}
+use Rattle.channel_calls.specs.declared.errors.Disconnected.{Disconnected}
+use Rattle.channel_calls.specs.declared.waited.Items.{Items}
+use Rattle.channel_calls.specs.declared.waited.Room.{Room}
+use Rattle.channel_calls.specs.Polled.{Misses, IsAtList}
+use Rattle.counted_channel.specs.declared.polling.PolledRecv.{PolledRecv}
+use Rattle.counted_channel.specs.declared.polling.PolledRecv.TheVariants as polled
+use Rattle.counted_channel.specs.declared.polling.PolledSend.{PolledSend}
+use Rattle.counted_channel.specs.declared.polling.PolledSend.TheVariants as put
+use Rattle.counted_channel.specs.Channel.{End, ChannelCall, sent, received}
+
+module _ {T : Type 0} where
+  -- the end has done nothing, and may have seen more
+  abbrev pub EndWaited : End T → End T → Type 0
+  EndWaited d e = SawMore d.party e.party × (e.counts ≡ d.counts) × (e.stake ≡ d.stake)
+
+  -- the poll of a receive took the end from d to e
+  abbrev pub PollsRecv : End T → PolledRecv T → End T → Type 0
+  PollsRecv d (polled.Answered r place) e = ChannelCall d call.Pop (received r) e
+  PollsRecv d other e = EndWaited d e
+
+  -- the poll of a send of x did
+  abbrev pub PollsSend : End T → T → PolledSend T → End T → Type 0
+  PollsSend d x (put.Answered r place) e = ChannelCall d (call.Push x) (sent r) e
+  PollsSend d x (put.Full y missed) e = EndWaited d e × (y ≡ x)
+  PollsSend d x (put.Busy y look) e = EndWaited d e × (y ≡ x)
+
+  -- the future is at the list of its look
+  abbrev pub RecvKeeps : Look Items → PolledRecv T → Type 0
+  RecvKeeps look (polled.Answered r place) = IsAtList look place
+  RecvKeeps look (polled.Empty missed) = Misses look missed
+  RecvKeeps look (polled.Taken place) = IsAtList look place
+  RecvKeeps look (polled.Busy same) = same ≡ look
+
+  abbrev pub SendKeeps : Look Room → PolledSend T → Type 0
+  SendKeeps look (put.Answered r place) = IsAtList look place
+  SendKeeps look (put.Full y missed) = Misses look missed
+  SendKeeps look (put.Busy y same) = same ≡ look
+
+  -- receives of the end gave these items in order, and then this answer
+  abbrev pub HasReceived : End T → List T → Option T → Type 0
+  HasReceived d [] o = (r : Result T Disconnected) × (e : End T) × (o ≡ result_ok r) × ChannelCall d call.Pop (received r) e
+  HasReceived d (x ∷ xs) o = (e : End T) × ChannelCall d call.Pop (received (Ok x)) e × HasReceived e xs o

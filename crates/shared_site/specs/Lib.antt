@@ -1,4 +1,0 @@
-pub mod ChainSite
-pub mod Early
-pub mod Halts
-pub mod Laws

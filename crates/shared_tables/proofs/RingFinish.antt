@@ -1,0 +1,56 @@
+-- What is left of a shared ring that its only party ended is a ring with one owner, in the state after the history.
+use Rattle.std.proofs.Common.{◌≡◌, ℕ, ◌<◌, List, ◌∷◌, length, get_or, Option, Some, None, inr, refl, ap, sym, ◌∙◌, subst}
+use mathlib.Core.Option.{some}
+use mathlib.Core.Option as maybe
+use lib.ListN.{get_elem?}
+use Rattle.atomic_table.specs.Table.{Final, Seen}
+use Rattle.queue_steps.specs.State.{State}
+use Rattle.queue_steps.specs.Effect.{after}
+use Rattle.queue_steps.specs.Legal.{IsShown}
+use Rattle.queue_steps.specs.Parties.{IsWhole}
+use Rattle.law_common.proofs.Tests.{none_if}
+use Rattle.law_ring.specs.RingCells.{Ring, queue_of, RingOk, owner}
+use Rattle.law_ring.specs.RingShared.{Shared}
+use Rattle.law_ring.specs.RingWords.{Codes, item_in}
+use Rattle.law_ring.proofs.RingIdle.{NobodyHolds, AtRest, at_rest}
+use Rattle.shared_parties.specs.declared.known.CallState.{CallState}
+use Rattle.shared_parties.specs.Known.{view_of}
+use Rattle.shared_tables.specs.Seats.{count_of}
+use Rattle.shared_parties.specs.CallStates.{IsLoneSeat}
+use Rattle.shared_tables.specs.TableRule.{Rule}
+use Rattle.shared_tables.specs.RingTable.{home_when, Homes, ring_words, ring_table}
+use Rattle.own_bounded.specs.RingOwned.{IsIdle, ring_queue}
+use Rattle.own_bounded.specs.Laws.RingRests.{rested_idle, rested_queue}
+use Rattle.own_bounded.specs.RingMemory.{ring_in}
+use Rattle.own_bounded.proofs.RingWrites.{elem_or}
+use Rattle.shared_tables.proofs.TableRests.{table_ends}
+
+module _ {T : Type 0} where
+  -- a ring at rest, in these words and slots, is one with one owner, in the same state
+  ring_rests : (cap : ℕ) (r : Ring T) (s : Shared T) (n : ℕ) (xs : List (Option T)) → RingOk cap r → Codes cap r s → AtRest cap r s → length xs ≡ cap → ((i : ℕ) → i < cap → get_or xs i None ≡ get_or s.slots i None)
+      → IsIdle (ring_in cap (n ∷ ring_words s) xs) × (ring_queue (ring_in cap (n ∷ ring_words s) xs) ≡ queue_of cap r)
+  ring_rests cap r s n xs ok codes rest long lies =
+      (rested_idle cap r s xs ok codes rest long lies, rested_queue cap r s xs ok codes rest long lies)
+
+  -- where nobody has a slot all are at home
+  all_home : (cap : ℕ) (r : Ring T) (s : Shared T) (hs : List (maybe.Option (Option T))) → Codes cap r s → Homes cap r hs → NobodyHolds r → (i : ℕ) → i < cap → get_elem? hs i ≡ some (some (get_or s.slots i None))
+  all_home cap r s hs codes homes nobody i lt =
+      homes.1 i lt ∙ (ap (λ o. some (home_when o (item_in (r.cells i)))) (none_if (owner (r.cells i)) (λ who e. nobody who i e)) ∙ ap (λ (o : Option T). some (some o)) (sym (codes.slot i lt)))
+
+  -- the end: the only party has every place, no call is on its way, and the words and slots are those of a ring with one owner after what the party has seen
+  pub ring_finishes : (cap id : ℕ) (d : CallState T) (ws : List ℕ) (xs : List (Option T)) → IsLoneSeat d → Final (Seen (Rule (ring_table cap)) id d) ws xs
+      → IsIdle (ring_in cap ws xs) × IsShown (ring_queue (ring_in cap ws xs)) (after (Some cap) d.known.seen) × IsWhole (view_of d.known)
+  ring_finishes cap id d ws xs is end =
+      let s = end.0 in let rule : Rule (ring_table cap) s = end.1.0 in let r : Ring T = rule.cells in
+      let shared : Shared T = rule.coded.0 in let codes : Codes cap r shared = rule.coded.1 in let homes : Homes cap r s.homes = rule.coded.3 in
+      let e = table_ends (ring_table cap) s id d rule end.1.1 is in
+      let rest : AtRest cap r shared = at_rest cap r shared rule.all.ok codes e.nobody in
+      let long : length xs ≡ cap = sym end.3 ∙ homes.0 in
+      let lies : (i : ℕ) → i < cap → get_or xs i None ≡ get_or shared.slots i None = λ i lt. elem_or None xs i (get_or shared.slots i None) (end.4 i (get_or shared.slots i None) (all_home cap r shared s.homes codes homes e.nobody i lt)) in
+      let words : count_of s ∷ ring_words shared ≡ ws = ap (λ y. count_of s ∷ y) (sym rule.coded.2) ∙ (sym rule.counted ∙ end.2) in
+      let state : queue_of cap r ≡ after (Some cap) d.known.seen = rule.all.state ∙ ap (after (Some cap)) (sym e.seen) in
+      let owned = ring_rests cap r shared (count_of s) xs rule.all.ok codes rest long lies in (
+        subst (λ (z : List ℕ). IsIdle (ring_in cap z xs)) words owned.0,
+        subst (λ (q : State T). IsShown q (after (Some cap) d.known.seen)) (sym (ap (λ (z : List ℕ). ring_queue (ring_in cap z xs)) (sym words) ∙ (owned.1 ∙ state))) (record { items = refl; cap = refl; closed = refl; coming = refl; accepted = inr refl }),
+        e.whole,
+      )

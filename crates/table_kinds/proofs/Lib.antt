@@ -1,3 +1,0 @@
-mod RingEnding
-mod RingFinish
-mod SlotFinish

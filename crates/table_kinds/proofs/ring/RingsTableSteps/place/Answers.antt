@@ -1,5 +1,0 @@
-use Rattle.std.proofs.Common.{rules}
-use Rattle.table_kinds.proofs.ring.RingsTableSteps.place.Goals as goal
-
-pub returns-in-Tail : goal.returns-in-Tail
-returns-in-Tail g c = search rules

@@ -1,5 +1,0 @@
-use Rattle.std.proofs.Common.{rules}
-use Rattle.table_kinds.proofs.ring.first_words.Goals as goal
-
-pub loop-stamp-preserved : goal.loop-stamp-preserved
-loop-stamp-preserved g c = search rules

@@ -1,4 +1,0 @@
-pub mod RingOpening
-pub mod RingTable
-pub mod SlotTable
-pub mod Laws

@@ -1,0 +1,19 @@
+//! Tests of `queue_explore`, where no stored case shows it: streams and requests that fail, limits, programs that no text has room for, and what is found wrong.
+#![tactic(auto)]
+
+#[cfg(test)]
+mod comes;
+#[cfg(test)]
+mod limits;
+#[cfg(test)]
+mod not_shown;
+#[cfg(test)]
+mod program;
+#[cfg(test)]
+mod queue_explore;
+#[cfg(test)]
+mod refusals;
+#[cfg(test)]
+mod sizes;
+#[cfg(test)]
+mod streams;

@@ -1,0 +1,220 @@
+//! What a walk found, changed in one place, is not shown. No program is known for which a walk finds such a thing, so `queue_explore` is not known to end with `not shown`.
+ghost use Rattle.machine_replay.specs.Replays.{CanReplay};
+
+use crate::comes::Comes;
+use app_explore::limits::MOST_STATES;
+use app_explore::listing::{Findings, Problem, find_all, list_found};
+use app_explore::reading::read_program;
+use machine_explore::check::check;
+use machine_explore::schedule::Move;
+use machine_explore::search::faults::SearchFault;
+use machine_explore::sequence::Sequence;
+use queue_steps::steps::Kind;
+use std::alloc::Global;
+use std::process::Abort;
+use test_support::asserts::is_in;
+
+/// Two outcomes: the pop is before the push, or after it.
+const PROGRAM: &str = "0: pop\n1: push 1\n";
+
+/// What is changed of what was found.
+enum Change {
+    Nothing,
+    /// The last link is missing.
+    EdgeLost,
+    /// The first link leads back.
+    LinkBent,
+    /// The last state is missing.
+    StateLost,
+    /// The states are in the opposite order.
+    StartMoved,
+    /// The last outcome is missing.
+    OutcomeLost,
+    /// The last schedule is missing.
+    ScheduleLost,
+    /// The last schedule is there twice.
+    ScheduleTwice,
+    /// The schedules are in the opposite order.
+    SchedulesTurned,
+    /// The first schedule has no last move.
+    MoveLost,
+    /// The first schedule ends with a move of a party that is not there.
+    PartyUnknown,
+    /// The first schedule ends with a step that is refused.
+    MoveRefused,
+    /// The last outcome has no number.
+    NumberLost,
+}
+
+/// The moves of one of the schedules.
+fn moves_of(
+    rt: &impl Abort,
+    alloc: Global,
+    findings: &Findings<Global>,
+    number: usize,
+) -> Vec<Move> {
+    match findings.schedules.get(number) {
+        Some(schedule) => Vec::from_slice(alloc, schedule.as_slice()).expect(rt, "memory"),
+        None => Vec::new(alloc),
+    }
+}
+
+/// Puts another move in the place of the last one of the first schedule, or none.
+fn change_move(
+    rt: &impl Abort,
+    alloc: Global,
+    findings: &mut Findings<Global>,
+    last: Option<Move>,
+) {
+    let mut moves = moves_of(rt, alloc, findings, 0);
+    moves.pop();
+    if let Some(step) = last {
+        moves.push(step).expect(rt, "memory");
+    }
+    if let Some(schedule) = findings.schedules.get_mut(0) {
+        *schedule = Sequence::of(moves);
+    }
+}
+
+/// Puts a schedule behind the others.
+fn add_schedule(rt: &impl Abort, findings: &mut Findings<Global>, moves: Vec<Move>) {
+    let added = findings.schedules.push(Sequence::of(moves));
+    added.ok().expect(rt, "memory");
+}
+
+/// Takes the last away.
+fn lose<T: Drop>(list: &mut Vec<T>) {
+    list.pop();
+}
+
+/// Changes what was found.
+fn make_change(rt: &impl Abort, alloc: Global, findings: &mut Findings<Global>, change: &Change) {
+    match change {
+        Change::Nothing => {}
+        Change::EdgeLost => lose(&mut findings.found.table.edges),
+        Change::LinkBent => {
+            if let Some(edge) = findings.found.table.edges.get_mut(0) {
+                edge.granted = 0;
+            }
+        }
+        Change::StateLost => lose(&mut findings.found.table.positions),
+        Change::StartMoved => findings.found.table.positions.reverse(),
+        Change::OutcomeLost => lose(&mut findings.found.finals.outcomes),
+        Change::ScheduleLost => lose(&mut findings.schedules),
+        Change::ScheduleTwice => {
+            let moves = moves_of(rt, alloc, findings, 1);
+            add_schedule(rt, findings, moves);
+        }
+        Change::SchedulesTurned => findings.schedules.reverse(),
+        Change::MoveLost => change_move(rt, alloc, findings, None),
+        Change::PartyUnknown => change_move(rt, alloc, findings, Some(UNKNOWN)),
+        Change::MoveRefused => change_move(rt, alloc, findings, Some(REFUSED)),
+        Change::NumberLost => lose(&mut findings.order),
+    }
+}
+
+/// A move of a party that is not there, and a refused step of the one whose move is the last.
+const UNKNOWN: Move = Move {
+    party: 2,
+    granted: true,
+};
+
+const REFUSED: Move = Move {
+    party: 1,
+    granted: false,
+};
+
+/// The program as a problem.
+fn problem(rt: &impl Abort, alloc: Global) -> Problem<Global>
+    ensures { CanReplay result.kind }
+{
+    let Ok(program) = read_program(alloc, PROGRAM.as_bytes()) else {
+        rt.panic("a program");
+    };
+    Problem {
+        kind: Kind::Single,
+        refuses: false,
+        program,
+        most_states: MOST_STATES,
+    }
+}
+
+/// Whether the table shows that there is no outcome but those that were found.
+fn is_checked(
+    rt: &impl Abort,
+    alloc: Global,
+    problem: &Problem<Global>,
+    findings: &Findings<Global>,
+) -> bool
+    requires { CanReplay problem.now.kind }
+{
+    let (table, outcomes) = (&findings.found.table, &findings.found.finals.outcomes);
+    let checked = check(
+        alloc,
+        problem.kind,
+        problem.refuses,
+        &problem.program,
+        table,
+        outcomes,
+    );
+    checked.expect(rt, "memory")
+}
+
+/// What comes of the list.
+fn listed(alloc: Global, problem: &Problem<Global>, findings: &Findings<Global>) -> Comes
+    requires { CanReplay problem.now.kind }
+{
+    match list_found(alloc, problem, findings) {
+        Ok(_) => Comes::Text,
+        Err(SearchFault::NotShown) => Comes::NotShown,
+        Err(_) => Comes::Another,
+    }
+}
+
+/// Both, of a walk that is changed.
+fn answers(rt: &impl Abort, alloc: Global, change: &Change) -> (bool, Comes) {
+    let problem = problem(rt, alloc);
+    let Ok(mut findings) = find_all(alloc, &problem) else {
+        return (false, Comes::Another);
+    };
+    make_change(rt, alloc, &mut findings, change);
+    (
+        is_checked(rt, alloc, &problem, &findings),
+        listed(alloc, &problem, &findings),
+    )
+}
+
+/// Each change, whether the table still shows that the outcomes are all, and what comes of the list.
+static CHANGES: [(&str, Change, bool, Comes); 13] = [
+    ("nothing", Change::Nothing, true, Comes::Text),
+    ("outcome lost", Change::OutcomeLost, false, Comes::Text),
+    ("link lost", Change::EdgeLost, false, Comes::NotShown),
+    ("link bent", Change::LinkBent, false, Comes::NotShown),
+    ("state lost", Change::StateLost, false, Comes::NotShown),
+    ("start moved", Change::StartMoved, false, Comes::NotShown),
+    ("schedule lost", Change::ScheduleLost, true, Comes::NotShown),
+    (
+        "schedule twice",
+        Change::ScheduleTwice,
+        true,
+        Comes::NotShown,
+    ),
+    (
+        "schedules turned",
+        Change::SchedulesTurned,
+        true,
+        Comes::NotShown,
+    ),
+    ("move lost", Change::MoveLost, true, Comes::NotShown),
+    ("party unknown", Change::PartyUnknown, true, Comes::NotShown),
+    ("move refused", Change::MoveRefused, true, Comes::NotShown),
+    ("number lost", Change::NumberLost, true, Comes::NotShown),
+];
+
+#[test]
+fn what_was_found_wrong_is_not_shown(rt: HostRuntime) {
+    for (name, change, checked, listed) in &CHANGES {
+        let found = answers(&rt, rt.alloc(), change);
+        is_in(&rt, *name, found, (*checked, *listed));
+    }
+}

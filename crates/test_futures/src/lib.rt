@@ -1,0 +1,11 @@
+//! Tests of the ends of a channel in futures.
+#![tactic(auto)]
+
+#[cfg(test)]
+mod asserts;
+#[cfg(test)]
+mod kit;
+#[cfg(test)]
+mod opening;
+#[cfg(test)]
+mod stories;
