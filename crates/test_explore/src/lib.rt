@@ -2,6 +2,8 @@
 #![tactic(auto)]
 
 #[cfg(test)]
+mod asserts;
+#[cfg(test)]
 mod comes;
 #[cfg(test)]
 mod limits;
@@ -10,9 +12,9 @@ mod not_shown;
 #[cfg(test)]
 mod program;
 #[cfg(test)]
-mod queue_explore;
-#[cfg(test)]
 mod refusals;
+#[cfg(test)]
+mod runs;
 #[cfg(test)]
 mod sizes;
 #[cfg(test)]

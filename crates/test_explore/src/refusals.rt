@@ -1,6 +1,6 @@
 //! Each request for memory of the explorer, refused in turn.
-use crate::queue_explore::QueueExplore;
-use test_support::refusals::{Asking, all_refuse};
+use crate::runs::all_refuse;
+use test_support::refusals::Asking;
 
 /// A run asks for its input, its program, each state that it finds, what it shows of them, and its text.
 static RUNS: [Asking<'static>; 4] = [
@@ -49,7 +49,7 @@ static RUNS: [Asking<'static>; 4] = [
 
 #[test]
 fn each_request_refused(rt: HostRuntime) {
-    all_refuse(&rt, rt.alloc(), &QueueExplore, &RUNS);
+    all_refuse(&rt, rt.alloc(), &RUNS);
 }
 
 /// A push and a pop on a chain, which begins without a block. The schedules were counted by hand: 56 in which the pop looks at the tail before the push moves it; and of the others 47 in which it looks for the first block behind its installing, and 90 in which it looks before, and looks again.
@@ -65,5 +65,5 @@ static PAIR: [Asking<'static>; 1] = [Asking {
 /// A block that the allocator refuses is want of memory, as any other request: no push replies that memory lacks.
 #[test]
 fn each_request_of_two_parties_refused(rt: HostRuntime) {
-    all_refuse(&rt, rt.alloc(), &QueueExplore, &PAIR);
+    all_refuse(&rt, rt.alloc(), &PAIR);
 }

@@ -1,9 +1,7 @@
 //! Runs of the explorer whose readers and writers do as little as they may, and fail at any of their calls.
-use crate::queue_explore::QueueExplore;
+use crate::runs::{all_end, ends};
 use std::io::ErrorKind;
-use test_support::programs::{
-    Row, all_flushes_fail, all_move, all_reads_fail, all_writes_fail, ends,
-};
+use test_support::programs::{Case, Failures, Row};
 use test_support::runs::{End, SOUND, Streams};
 use test_support::streams::{Failing, Flow};
 
@@ -129,15 +127,13 @@ fn a_fault_that_cannot_be_told_keeps_its_status(rt: HostRuntime) {
                     ..telling.end
                 };
                 let input = telling.input.as_bytes();
-                ends(
-                    &rt,
-                    rt.alloc(),
-                    &QueueExplore,
-                    telling.line,
+                let case = Case {
+                    line: telling.line,
                     input,
                     streams,
                     end,
-                );
+                };
+                ends(&rt, rt.alloc(), case);
             }
         }
     }
@@ -147,21 +143,21 @@ fn a_fault_that_cannot_be_told_keeps_its_status(rt: HostRuntime) {
 #[test]
 fn a_byte_at_a_time(rt: HostRuntime) {
     for failing in [Failing::Never, Failing::Interrupted] {
-        all_move(&rt, rt.alloc(), &QueueExplore, &RUNS, failing);
+        all_end(&rt, rt.alloc(), &RUNS, Failures::Moves(failing));
     }
 }
 
 #[test]
 fn each_read_fails(rt: HostRuntime) {
-    all_reads_fail(&rt, rt.alloc(), &QueueExplore, &RUNS);
+    all_end(&rt, rt.alloc(), &RUNS, Failures::Reads);
 }
 
 #[test]
 fn each_write_fails(rt: HostRuntime) {
-    all_writes_fail(&rt, rt.alloc(), &QueueExplore, &RUNS);
+    all_end(&rt, rt.alloc(), &RUNS, Failures::Writes);
 }
 
 #[test]
 fn a_failed_flush_is_told(rt: HostRuntime) {
-    all_flushes_fail(&rt, rt.alloc(), &QueueExplore, &RUNS);
+    all_end(&rt, rt.alloc(), &RUNS, Failures::Flush);
 }

@@ -2,13 +2,13 @@
 ghost use Rattle.std.specs.Prelude.{◌≡◌, ◌<◌, ◌+◌, ◌*◌, ◌^◌, length};
 ghost use Rattle.concurrent_queue.specs.Shared.{IsPartyOf};
 
+use crate::asserts::is_in;
 use app_threads::crew::{Plan, Queue, WorkResult, run_all};
 use app_threads::limit::NO_LIMIT;
 use concurrent_queue::Party;
 use std::process::Abort;
 use std::sync::Wait;
 use std::thread::{Threads, join, yield_now};
-use test_support::asserts::is_in;
 
 /// A plan of so many threads a side. Each popper is to pop two items.
 fn plan_of(pushers: u64, poppers: u64, items: u64) -> Plan

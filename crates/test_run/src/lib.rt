@@ -2,7 +2,7 @@
 #![tactic(auto)]
 
 #[cfg(test)]
-mod asking;
+mod asserts;
 #[cfg(test)]
 mod closing;
 #[cfg(test)]

@@ -1,6 +1,6 @@
 //! Each request for memory of scripts and of replays, refused in turn.
-use crate::asking::all_refuse;
 use crate::parts::{Part, Piece, text_of};
+use crate::runs::all_refuse;
 use test_support::refusals::Asking;
 
 /// A run of few lines asks for room for its input, its lines and its work at least, and writes all of its output at its end.

@@ -1,14 +1,14 @@
-//! Runs of `queue_run`, as `test_support::programs` has them of a program that starts no threads: what a trait's method calls may start none.
+//! Runs of `queue_run`.
+use crate::asserts::is_in;
 use app_command::command::command;
-use std::io::ErrorKind;
 use std::process::Abort;
 use std::sync::Wait;
 use std::thread::Threads;
 use test_support::allocators::{Heap, Refusal};
-use test_support::asserts::is_in;
-use test_support::programs::{FAILED_READS, Row};
-use test_support::runs::{End, Outcome, SOUND, Streams, words};
-use test_support::streams::{Failing, Flow, Reader, Writer};
+use test_support::programs::{Case, Failures, Row};
+use test_support::refusals::{Asking, MANY, Tally};
+use test_support::runs::{Outcome, SOUND, Streams, words};
+use test_support::streams::{Reader, Writer};
 
 /// Runs the program on a line of arguments and this input, with its memory from this heap.
 pub(crate) fn run<R: Abort + Threads + Wait + Sync + AllocGlobal>(
@@ -30,114 +30,60 @@ pub(crate) fn run<R: Abort + Threads + Wait + Sync + AllocGlobal>(
     }
 }
 
-/// Asserts that the program ends so on a line of arguments and this input, where its streams are these, and that output is flushed where it ends well.
-pub(crate) fn ends<R: Abort + Threads + Wait + Sync + AllocGlobal>(
-    rt: &R,
-    line: &str,
-    input: &[u8],
-    streams: Streams,
-    end: End<'_>,
-) {
+/// Asserts that the program ends as it is to, and that output is flushed where it ends well.
+pub(crate) fn ends<R: Abort + Threads + Wait + Sync + AllocGlobal>(rt: &R, case: Case<'_>) {
     let heap = Heap::new(rt.alloc(), Refusal::Never);
-    let outcome = run(rt, &heap, line, input, streams);
+    let outcome = run(rt, &heap, case.line, case.input, case.streams);
     let seen = (outcome.end(), outcome.is_flushed());
-    is_in(rt, (line, input), seen, (end, true));
+    is_in(rt, (case.line, case.input), seen, (case.end, true));
 }
 
-/// Asserts that these runs end well where each stream moves a byte at a time, and fails so.
-pub(crate) fn all_move<R: Abort + Threads + Wait + Sync + AllocGlobal>(
+/// Asserts that these runs end as they are to where their streams do so.
+pub(crate) fn all_end<R: Abort + Threads + Wait + Sync + AllocGlobal>(
     rt: &R,
     rows: &[Row],
-    failing: Failing,
+    failures: Failures,
 ) {
-    let flow = Flow::bytewise(failing);
-    let streams = Streams {
-        input: flow,
-        output: flow,
-        faults: flow,
-    };
     for row in rows {
-        let input = row.input.as_bytes();
-        ends(rt, row.line, input, streams, End::right(row.told));
-    }
-}
-
-/// Asserts that a run prints nothing where the read of this number fails, and tells why.
-pub(crate) fn read_fails<R: Abort + Threads + Wait + Sync + AllocGlobal>(
-    rt: &R,
-    line: &str,
-    input: &[u8],
-    most: usize,
-    number: u64,
-) {
-    for (kind, fault) in FAILED_READS.iter() {
-        let streams = Streams {
-            input: Flow {
-                most,
-                failing: Failing::At(number, *kind),
-            },
-            ..SOUND
-        };
-        ends(rt, line, input, streams, End::fault(3, fault));
-    }
-}
-
-/// Asserts that where each read of a byte fails in turn. The read behind the last byte, which is to find the input's end, fails too.
-pub(crate) fn all_reads_fail<R: Abort + Threads + Wait + Sync + AllocGlobal>(rt: &R, rows: &[Row]) {
-    for row in rows {
-        let input = row.input.as_bytes();
-        for number in 0..=input.len() as u64 {
-            read_fails(rt, row.line, input, 1, number);
+        let cases = row.cases(rt.alloc(), failures).expect(rt, "memory");
+        for case in &cases {
+            ends(rt, *case);
         }
     }
 }
 
-/// Asserts that a run ends with a failed output, of which it wrote so much, where its writes fail so.
-pub(crate) fn write_fails<R: Abort + Threads + Wait + Sync + AllocGlobal>(
+/// Refuses each request of a run in turn. Asserts that each ends as it may, and that nothing stays allocated.
+fn refuse_each<R: Abort + Threads + Wait + Sync + AllocGlobal>(
     rt: &R,
-    line: &str,
-    input: &[u8],
-    output: Flow,
-    written: &[u8],
-) {
-    let streams = Streams { output, ..SOUND };
-    let end = End {
-        status: 3,
-        output: written,
-        faults: b"output failed\n",
-    };
-    ends(rt, line, input, streams, end);
-}
-
-/// Asserts that where each write of a byte fails in turn, by a fault, for want of memory or by taking nothing.
-pub(crate) fn all_writes_fail<R: Abort + Threads + Wait + Sync + AllocGlobal>(
-    rt: &R,
-    rows: &[Row],
-) {
-    for row in rows {
-        let (input, output) = (row.input.as_bytes(), row.told.as_bytes());
-        for count in 0..output.len() {
-            let number = count as u64;
-            for failing in [
-                Failing::At(number, ErrorKind::BrokenPipe),
-                Failing::At(number, ErrorKind::OutOfMemory),
-                Failing::TakesNothing(number),
-            ] {
-                let flow = Flow::bytewise(failing);
-                write_fails(rt, row.line, input, flow, &output[..count]);
-            }
+    asking: &Asking<'_>,
+) -> Tally {
+    let mut tally = Tally::NONE;
+    for number in 1..MANY {
+        let heap = Heap::new(rt.alloc(), Refusal::Nth(number));
+        let outcome = run(rt, &heap, asking.line, asking.input.as_bytes(), SOUND);
+        let was_refused = number <= heap.requests();
+        let seen = (asking.may_end(was_refused, outcome.end()), heap.live());
+        is_in(rt, (asking.line, number), seen, (true, 0));
+        if !was_refused {
+            return tally;
         }
+        tally = tally.with(outcome.end());
     }
+    panic!(rt; "more requests");
 }
 
-/// Asserts that where the output is flushed.
-pub(crate) fn all_flushes_fail<R: Abort + Threads + Wait + Sync + AllocGlobal>(
+/// Asserts that of each of these runs, that it goes on where the request for a block is refused, and ends at every other.
+pub(crate) fn all_refuse<R: Abort + Threads + Wait + Sync + AllocGlobal>(
     rt: &R,
-    rows: &[Row],
+    runs: &[Asking<'_>],
 ) {
-    let flow = Flow::bytewise(Failing::AtFlush);
-    for row in rows {
-        let (input, output) = (row.input.as_bytes(), row.told.as_bytes());
-        write_fails(rt, row.line, input, flow, output);
+    for asking in runs {
+        let tally = refuse_each(rt, asking);
+        is_in(
+            rt,
+            (asking.line, asking.input, tally),
+            asking.is_seen(tally),
+            true,
+        );
     }
 }

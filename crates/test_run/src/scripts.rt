@@ -1,10 +1,11 @@
 //! Scripts whose input or output fails, and runs that are longer than one is to store.
 use crate::parts::{Part, Piece, text_of};
-use crate::runs::{ends, read_fails, write_fails};
+use crate::runs::ends;
 use std::io::ErrorKind;
 use std::process::Abort;
 use std::sync::Wait;
 use std::thread::Threads;
+use test_support::programs::{Case, failed_write, push_failed_reads};
 use test_support::runs::{End, SOUND, Streams};
 use test_support::streams::{Failing, Flow};
 
@@ -15,9 +16,13 @@ static STARTS: [&[u8]; 3] = [b"", b"push 1\npop\n", b"unreadable\n"];
 /// The read behind what it starts with fails.
 #[test]
 fn a_failed_read_prints_nothing(rt: HostRuntime) {
+    let mut cases = Vec::new(rt.alloc());
     for start in STARTS.iter() {
         let number = start.len().min(1) as u64;
-        read_fails(&rt, SINGLE, start, usize::MAX, number);
+        push_failed_reads(&mut cases, SINGLE, start, usize::MAX, number).expect(&rt, "memory");
+    }
+    for case in &cases {
+        ends(&rt, *case);
     }
 }
 
@@ -38,20 +43,24 @@ fn begins<R: Abort + Threads + Wait + Sync + AllocGlobal>(
     bytes: usize,
 ) {
     let (begun, rest) = output.split_at(bytes.min(output.len()));
-    if rest.is_empty() {
-        let streams = Streams {
-            output: flow,
-            ..SOUND
-        };
-        let end = End {
-            status: 0,
-            output,
-            faults: b"",
-        };
-        ends(rt, SINGLE, input, streams, end);
+    let case = if rest.is_empty() {
+        Case {
+            line: SINGLE,
+            input,
+            streams: Streams {
+                output: flow,
+                ..SOUND
+            },
+            end: End {
+                status: 0,
+                output,
+                faults: b"",
+            },
+        }
     } else {
-        write_fails(rt, SINGLE, input, flow, begun);
-    }
+        failed_write(SINGLE, input, flow, begun)
+    };
+    ends(rt, case);
 }
 
 #[test]
@@ -132,6 +141,11 @@ static ALL_PUSHED: [Part; 4] = [
 fn thousands_of_pushes_are_replayed(rt: HostRuntime) {
     let input = text_of(&rt, &[Part::Times(20_000, PUSH)]);
     let output = text_of(&rt, &ALL_PUSHED);
-    let (input, end) = (input.as_bytes(), End::right(output.as_str()));
-    ends(&rt, "replay unbounded 1", input, SOUND, end);
+    let case = Case {
+        line: "replay unbounded 1",
+        input: input.as_bytes(),
+        streams: SOUND,
+        end: End::right(output.as_str()),
+    };
+    ends(&rt, case);
 }

@@ -1,7 +1,7 @@
 //! Runs of `queue_run` whose readers and writers do as little as they may, and fail at any of their calls.
-use crate::runs::{all_flushes_fail, all_move, all_reads_fail, all_writes_fail, ends};
+use crate::runs::{all_end, ends};
 use std::io::ErrorKind;
-use test_support::programs::Row;
+use test_support::programs::{Case, Failures, Row};
 use test_support::runs::{End, SOUND, Streams};
 use test_support::streams::{Failing, Flow};
 
@@ -67,23 +67,23 @@ static FLUSHED: [Row; 4] = [
 #[test]
 fn a_byte_at_a_time(rt: HostRuntime) {
     for failing in [Failing::Never, Failing::Interrupted] {
-        all_move(&rt, &RUNS, failing);
+        all_end(&rt, &RUNS, Failures::Moves(failing));
     }
 }
 
 #[test]
 fn each_read_fails(rt: HostRuntime) {
-    all_reads_fail(&rt, &RUNS);
+    all_end(&rt, &RUNS, Failures::Reads);
 }
 
 #[test]
 fn each_write_fails(rt: HostRuntime) {
-    all_writes_fail(&rt, &RUNS);
+    all_end(&rt, &RUNS, Failures::Writes);
 }
 
 #[test]
 fn a_failed_flush_is_told(rt: HostRuntime) {
-    all_flushes_fail(&rt, &FLUSHED);
+    all_end(&rt, &FLUSHED, Failures::Flush);
 }
 
 /// A fault for which there is no room but for four bytes.
@@ -96,8 +96,13 @@ fn a_fault_that_cannot_be_told_keeps_its_status(rt: HostRuntime) {
         },
         ..SOUND
     };
-    let end = End::fault(2, "line");
-    ends(&rt, "script single", b"pop \n", streams, end);
+    let case = Case {
+        line: "script single",
+        input: b"pop \n",
+        streams,
+        end: End::fault(2, "line"),
+    };
+    ends(&rt, case);
 }
 
 /// An output that is a pipe that nobody reads.
@@ -112,6 +117,12 @@ fn a_failed_write_of_threads_is_told(rt: HostRuntime) {
     };
     let end = End::fault(3, "output failed\n");
     for line in ["handshake", "threads single 1 1 1", "channel single 1 1 1"] {
-        ends(&rt, line, b"", streams, end);
+        let case = Case {
+            line,
+            input: b"",
+            streams,
+            end,
+        };
+        ends(&rt, case);
     }
 }

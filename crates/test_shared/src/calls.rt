@@ -1,6 +1,7 @@
 //! Calls of parties, with the replies that they are to have, and what is to be left of a queue.
 ghost use Rattle.concurrent_queue.specs.Shared.{IsPartyOf};
 
+use crate::asserts::is_in;
 use call_driver::gate::Open;
 use concurrent_queue::{
     ConcurrentQueue, Exclusive, NullTestable, Party, PopError, PushError, TryForcePushError,
@@ -10,7 +11,6 @@ use queue_steps::model::{Call, Reply};
 use std::alloc::Allocator;
 use std::process::Abort;
 use std::sync::Wait;
-use test_support::asserts::is_in;
 
 pub(crate) type Queue = ConcurrentQueue<u64>;
 

@@ -3,12 +3,12 @@ ghost use Rattle.std.specs.Prelude.{◌≡◌, IfOk};
 ghost use Rattle.queue_steps.specs.Shares.{entire};
 ghost use Rattle.concurrent_queue.specs.Shared.{IsPartyOf};
 
+use crate::asserts::is;
 use crate::crew::{Deed, find_each};
 use concurrent_queue::{ConcurrentQueue, Exclusive, NullTestable, Party};
 use std::alloc::{AllocError, Allocator};
 use std::process::Abort;
 use std::sync::Wait;
-use test_support::asserts::is;
 
 /// A queue and its only party, where there was memory.
 pub(crate) type Opened<T, A> = Result<(ConcurrentQueue<T, A>, Party<T>), AllocError>;

@@ -2,7 +2,6 @@
 #![tactic(auto)]
 
 pub mod allocators;
-pub mod asserts;
 pub mod closing;
 pub mod closing_rule;
 pub mod items;

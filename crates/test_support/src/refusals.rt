@@ -1,10 +1,5 @@
-//! Runs of which each request for memory is refused in turn.
-use crate::allocators::{Heap, Refusal};
-use crate::asserts::is_in;
-use crate::programs::{Program, run};
-use crate::runs::{End, SOUND};
-use std::alloc::Global;
-use std::process::Abort;
+//! Runs of a program of which each request for memory is refused in turn.
+use crate::runs::End;
 
 /// More requests than any of these runs makes.
 pub const MANY: u64 = 100_000;
@@ -39,86 +34,41 @@ impl Asking<'_> {
             _ => false,
         }
     }
-}
 
-/// What is seen of a run of which a request is refused.
-#[derive(Clone, Copy)]
-struct Refused {
-    requests: u64,
-    /// Whether it ended as it may.
-    right: bool,
-    /// How many allocations stayed.
-    live: u64,
-    well: bool,
-    begun: bool,
-}
-
-/// Runs with the request of this number refused.
-fn refuse<P: Program>(
-    rt: &impl Abort,
-    alloc: Global,
-    program: &P,
-    asking: &Asking<'_>,
-    number: u64,
-) -> Refused {
-    let heap = Heap::new(alloc, Refusal::Nth(number));
-    let input = asking.input.as_bytes();
-    let outcome = run(rt, alloc, program, &heap, asking.line, input, SOUND);
-    let end = outcome.end();
-    let requests = heap.requests();
-    Refused {
-        requests,
-        right: asking.may_end(number <= requests, end),
-        live: heap.live(),
-        well: end.status == 0,
-        begun: !end.output.is_empty(),
+    /// Whether this is seen of it: it goes on where the request for a block is refused, which is one at most, and ends at every other.
+    pub fn is_seen(&self, tally: Tally) -> bool {
+        self.least <= tally.requests
+            && tally.well == u64::from(self.told.is_some())
+            && tally.begun == self.begins
     }
 }
 
-/// How many requests a run makes; at how many of them, refused, it ended well; and whether a part of its output was written before one for want of which it ended.
-#[derive(Clone, Copy)]
-struct Tally {
-    requests: u64,
-    well: u64,
-    begun: bool,
+/// What is seen of the runs of which each request is refused.
+#[derive(Clone, Copy, Debug, PartialEq)]
+pub struct Tally {
+    /// How many requests the whole run makes.
+    pub requests: u64,
+    /// At how many of them, refused, it ended well.
+    pub well: u64,
+    /// Whether a part of its output was written before one for want of which it ended.
+    pub begun: bool,
 }
 
-/// Refuses each request of a run in turn. Asserts that each ends as it may, and that nothing stays allocated.
-fn refuse_each<P: Program>(
-    rt: &impl Abort,
-    alloc: Global,
-    program: &P,
-    asking: &Asking<'_>,
-) -> Tally {
-    let mut well = 0u64;
-    let mut begun = false;
-    for number in 1..MANY {
-        let refused = refuse(rt, alloc, program, asking, number);
-        let seen = (refused.right, refused.live);
-        is_in(rt, (asking.line, number), seen, (true, 0));
-        if refused.requests < number {
-            return Tally {
-                requests: refused.requests,
-                well,
-                begun,
-            };
-        }
-        if refused.well {
-            well = well.wrapping_add(1);
-        } else {
-            begun = begun || refused.begun;
-        }
-    }
-    panic!(rt; "more requests");
-}
+impl Tally {
+    /// Nothing is seen yet.
+    pub const NONE: Tally = Tally {
+        requests: 0,
+        well: 0,
+        begun: false,
+    };
 
-/// Asserts that of each of these runs, that it goes on where the request for a block is refused, which is one at most, and ends at every other.
-pub fn all_refuse<P: Program>(rt: &impl Abort, alloc: Global, program: &P, runs: &[Asking<'_>]) {
-    for asking in runs {
-        let tally = refuse_each(rt, alloc, program, asking);
-        let blocks = u64::from(asking.told.is_some());
-        let seen = (asking.least <= tally.requests, tally.well, tally.begun);
-        let wanted = (true, blocks, asking.begins);
-        is_in(rt, (asking.line, asking.input), seen, wanted);
+    /// What is seen with one more run, which ended so for want of its next request.
+    pub fn with(self, end: End<'_>) -> Tally {
+        let has_ended_well = end.status == 0;
+        Tally {
+            requests: self.requests.wrapping_add(1),
+            well: self.well.wrapping_add(u64::from(has_ended_well)),
+            begun: self.begun || !has_ended_well && !end.output.is_empty(),
+        }
     }
 }

@@ -1,6 +1,7 @@
 //! Items that count their drops: each that a run is given is dropped once, wherever its calls were stopped.
 ghost use Rattle.machine_replay.specs.Replays.{CanReplay};
 
+use crate::asserts::is_in;
 use crate::machine::script::{StoryLine, events_of};
 use machine_replay::replay;
 use machine_replay::types::Event;
@@ -8,7 +9,6 @@ use queue_steps::model::Call;
 use queue_steps::steps::Kind;
 use std::alloc::Global;
 use std::process::Abort;
-use test_support::asserts::is_in;
 use test_support::items::{Counted, Items};
 
 /// The same push or forced push with an item in the place of the number, and else a pop.

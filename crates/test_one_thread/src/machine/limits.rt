@@ -1,6 +1,7 @@
 //! What a push does next that reads a tail at the limit, where no run of the machine gets to.
 ghost use Rattle.queue_steps.specs.Words.{IsWord};
 
+use crate::asserts::is;
 use call_steps::next;
 use queue_steps::errors::{ForcePushError, PushError};
 use queue_steps::model::Reply;
@@ -8,7 +9,6 @@ use queue_steps::sizes::{BLOCK_POSITIONS, BLOCK_SLOTS, LIMIT};
 use queue_steps::steps::{
     Answer, BoundedLocal, Kind, Local, Next, Op, PushKind, UnboundedLocal, Word,
 };
-use test_support::asserts::is;
 
 /// Whether a push closes the queue next, and whether it is answered that the queue is closed.
 type AtLimit = (bool, bool);

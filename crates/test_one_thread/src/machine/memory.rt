@@ -1,4 +1,5 @@
 //! The blocks of runs on a chain, by an allocator that tells them from lists by their layout.
+use crate::asserts::is_in;
 use crate::machine::refusals::run;
 use crate::machine::script::{StoryLine, events_of};
 use machine_replay::blocks::BlockPlace;
@@ -9,7 +10,6 @@ use queue_steps::steps::Kind;
 use std::alloc::{Global, Layout};
 use std::process::Abort;
 use test_support::allocators::{Heap, Refusal};
-use test_support::asserts::is_in;
 
 /// The lists of a machine: its calls and its blocks.
 const MACHINE_LISTS: u64 = 2;

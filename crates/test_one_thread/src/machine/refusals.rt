@@ -1,6 +1,7 @@
 //! Requests for room, and for blocks, that are refused.
 ghost use Rattle.machine_replay.specs.Replays.{CanReplay};
 
+use crate::asserts::is_in;
 use crate::machine::script::{StoryLine, events_of};
 use machine_replay::replay;
 use machine_replay::types::{Event, Peak};
@@ -10,7 +11,6 @@ use queue_steps::steps::Kind;
 use std::alloc::Global;
 use std::process::Abort;
 use test_support::allocators::{Heap, Refusal};
-use test_support::asserts::is_in;
 
 /// The run of these events, in memory that is counted. Gives how many items it leaves and what it tells of its blocks, where there is memory for it.
 pub(crate) fn run(

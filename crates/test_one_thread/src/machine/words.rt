@@ -1,11 +1,11 @@
 //! The words of a ring of two slots.
+use crate::asserts::is;
 use crate::machine::script::{StoryLine, events_of};
 use machine_replay::words::{QueueWords, words_after};
 use queue_steps::model::Call;
 use queue_steps::steps::Kind;
 use std::alloc::Global;
 use std::process::Abort;
-use test_support::asserts::is;
 
 const RING: Kind = Kind::Bounded(2);
 

@@ -1,8 +1,8 @@
 //! Queues of what an iterator gives.
+use crate::asserts::{is, is_in};
 use crate::owner::rows::Counting;
 use std::alloc::AllocError;
 use test_support::allocators::{Heap, Refusal};
-use test_support::asserts::{is, is_in};
 
 /// How many items: more than two blocks hold, so that three requests are made.
 const ITEMS: u64 = 150;

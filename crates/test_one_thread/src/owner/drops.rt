@@ -1,9 +1,9 @@
 //! Items that count their drops: each that a queue is given is dropped once.
+use crate::asserts::is_in;
 use crate::owner::rows::Made;
 use exclusive_queue::Exclusive;
 use std::process::Abort;
 use test_support::allocators::{Heap, Refusal};
-use test_support::asserts::is_in;
 use test_support::items::{Counted, Items};
 
 /// How a queue is made, whether its pushes are forced, how many there are, and how many pops come after them; and how many items are dropped then after the pushes, after the pops, and in the end.

@@ -1,8 +1,8 @@
 //! The errors: their texts, what they hand back, and when two are equal.
+use crate::asserts::{is, is_in};
 use exclusive_queue::{ForcePushError, PopError, PushError};
 use std::alloc::Global;
 use std::fmt::{Debug, Display};
-use test_support::asserts::{is, is_in};
 
 /// Whether an error is printed so: as it is, at the right and at the left of a field of ten, and for debugging.
 fn is_printed<E: Display + Debug>(alloc: Global, error: &E, expected: &str) -> bool {

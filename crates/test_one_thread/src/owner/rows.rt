@@ -1,4 +1,5 @@
 //! Stories: how a queue is made, the calls and their replies, and the memory that is held between them.
+use crate::asserts::is_in;
 use exclusive_queue::{Exclusive, PushError};
 use queue_steps::model::{Call, Reply};
 use queue_steps::sizes::LIMIT;
@@ -6,7 +7,6 @@ use std::alloc::{AllocError, Global};
 use std::ops::Range;
 use std::process::Abort;
 use test_support::allocators::{Heap, Refusal};
-use test_support::asserts::is_in;
 
 /// A queue whose requests are counted.
 pub(crate) type Counting<'a> = Exclusive<u64, &'a Heap>;

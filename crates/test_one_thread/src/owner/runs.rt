@@ -1,4 +1,5 @@
 //! Runs of calls, on each kind of queue and on a form without its queue.
+use crate::asserts::{is, is_in};
 use crate::owner::rows::{Made, open};
 use exclusive_queue::{Exclusive, Single, Store, run};
 use queue_steps::errors::PushError;
@@ -6,7 +7,6 @@ use queue_steps::model::{Call, Reply};
 use std::alloc::Global;
 use std::process::Abort;
 use test_support::allocators::{Heap, Refusal};
-use test_support::asserts::{is, is_in};
 use test_support::items::{Counted, Items};
 
 /// A run in which queues of capacity 1, of capacity 2 and without one answer each otherwise.

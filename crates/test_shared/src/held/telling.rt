@@ -3,6 +3,7 @@
 //! The held call is made by the queue's own `answer`, to which a user's calls come too; the other party makes its calls as a user does.
 ghost use Rattle.concurrent_queue.specs.Shared.{IsPartyOf};
 
+use crate::asserts::is_in;
 use crate::calls::{Queue, Row, Try, are_answered, are_tried, is_left};
 use crate::gates::{Meeting, Part, Signs, Told, call_held};
 use crate::opening::{end, open_filled};
@@ -16,7 +17,6 @@ use std::process::Abort;
 use std::sync::Wait;
 use std::sync::atomic::{AtomicBool, Ordering};
 use std::thread::{Threads, join};
-use test_support::asserts::is_in;
 use test_support::signs::wait_for;
 
 /// A call that has to wait, with its reply, and the operation to which it comes again while it waits.

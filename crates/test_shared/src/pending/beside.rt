@@ -3,13 +3,13 @@ ghost use Rattle.std.specs.Prelude.{◌≡◌};
 ghost use Rattle.concurrent_queue.specs.Shared.{IsPartyOf};
 ghost use Rattle.test_shared.specs.Outcomes.{IsOf};
 
+use crate::asserts::is_in;
 use crate::calls::{Queue, Row};
 use crate::gates::Signs;
 use concurrent_queue::{Outcome, Party};
 use queue_steps::model::{Call, Reply};
 use std::process::Abort;
 use std::sync::atomic::Ordering;
-use test_support::asserts::is_in;
 use test_support::signs::wait_for;
 
 /// A call that never waits, and its reply once the held one has ended; and whether it is too late to give it up while the other is held. If not, it has had no effect, and its value comes back.

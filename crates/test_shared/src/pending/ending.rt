@@ -3,6 +3,7 @@ ghost use Rattle.std.specs.Prelude.{IfSome};
 ghost use Rattle.concurrent_queue.specs.Shared.{IsPartyOf};
 ghost use denote.Param.Send.{IsSync};
 
+use crate::asserts::is_in;
 use crate::gates::{Signs, call_held};
 use crate::items::{Item, first_item, item_of};
 use crate::opening::{open_surely, part};
@@ -15,7 +16,6 @@ use std::sync::atomic::Ordering;
 use std::sync::{Arc, Wait};
 use std::thread::{Threads, join};
 use test_support::allocators::{Heap, Refusal};
-use test_support::asserts::is_in;
 use test_support::signs::wait_for;
 
 /// How many items there are, with one that no call has, and how many allocations.

@@ -1,6 +1,7 @@
 //! A push that never waits, whose block is refused: it has its reply at once, and nothing has changed.
 ghost use Rattle.concurrent_queue.specs.Shared.{IsPartyOf};
 
+use crate::asserts::is_in;
 use crate::opening::open_surely;
 use concurrent_queue::{ConcurrentQueue, ForcePushError, NullTestable, Outcome, Party, PushError};
 use queue_steps::model::{Call, Reply};
@@ -8,7 +9,6 @@ use std::alloc::Global;
 use std::process::Abort;
 use std::sync::Wait;
 use test_support::allocators::{Heap, Refusal};
-use test_support::asserts::is_in;
 
 /// A push, its reply where its block is refused, and where it is accepted.
 struct Push {

@@ -3,6 +3,7 @@ ghost use Rattle.std.specs.Prelude.{◌<◌};
 ghost use Rattle.concurrent_queue.specs.Shared.{IsPartyOf};
 ghost use denote.Param.Send.{IsSync};
 
+use crate::asserts::is_in;
 use crate::calls::Queue;
 use crate::crew::Board;
 use crate::opening::{end, open_surely, part};
@@ -14,7 +15,6 @@ use std::process::Abort;
 use std::sync::Wait;
 use std::sync::atomic::Ordering;
 use std::thread::{Threads, join, yield_now};
-use test_support::asserts::is_in;
 
 /// How many values each of four threads pushes.
 const EACH: u64 = 2500;

@@ -1,4 +1,5 @@
 //! Calls that answer busy in the place of waiting: their other replies, by the only party, and busy beside a held call.
+use crate::asserts::{is, is_in};
 use crate::calls::{Try, are_tried};
 use crate::held::telling::{QUIET, Story, tell};
 use crate::opening::open_surely;
@@ -9,7 +10,6 @@ use std::alloc::Global;
 use std::fmt::{Debug, Display};
 use std::process::Abort;
 use test_support::allocators::{Heap, Refusal};
-use test_support::asserts::{is, is_in};
 
 /// What a push of 8, one by force of 9 and a pop answer beside a held call; on a chain no pop is tried.
 static BESIDE: [Story; 6] = [

@@ -2,6 +2,7 @@
 ghost use Rattle.std.specs.Prelude.{◌≡◌, ◌<◌};
 ghost use Rattle.concurrent_queue.specs.Shared.{IsPartyOf};
 
+use crate::asserts::is_in;
 use crate::items::{Item, first_item, item_of};
 use crate::opening::{end, part};
 use crate::shared::left::End;
@@ -10,7 +11,6 @@ use std::alloc::Global;
 use std::process::Abort;
 use std::sync::{Arc, Wait};
 use test_support::allocators::{Heap, Refusal};
-use test_support::asserts::is_in;
 
 /// A shared queue whose requests are counted.
 type Counting<'a> = ConcurrentQueue<Item, &'a Heap>;

@@ -2,6 +2,7 @@
 ghost use Rattle.std.specs.Prelude.{◌≡◌};
 ghost use Rattle.concurrent_queue.specs.Shared.{IsPartyOf};
 
+use crate::asserts::is_in;
 use crate::crew::{pop_one, push_one};
 use crate::items::{Item, first_item, item_of};
 use crate::opening::{open_surely, part};
@@ -11,7 +12,6 @@ use std::process::Abort;
 use std::sync::{Arc, Wait};
 use std::thread::{Threads, join};
 use test_support::allocators::{Heap, Refusal};
-use test_support::asserts::is_in;
 
 /// Pushes so many items.
 fn push_all<A: NullTestable, R: Wait + Abort>(

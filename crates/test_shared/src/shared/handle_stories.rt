@@ -1,6 +1,7 @@
 //! The stories of parties and of calls that never wait, told by handles: each call of a handle, with its answer.
 ghost use Rattle.std.specs.Prelude.{◌≡◌};
 
+use crate::asserts::is_in;
 use crate::calls::{Try, is_left};
 use crate::pending::trying;
 use crate::shared::handles::opened;
@@ -13,7 +14,6 @@ use std::alloc::Global;
 use std::process::Abort;
 use std::sync::Wait;
 use test_support::allocators::Refusal;
-use test_support::asserts::is_in;
 
 /// Makes a call that only looks; in the place of any other, that for the capacity.
 fn look<R: Wait>(rt: &R, handle: &mut Handle<u64>, call: Call<u64>) -> Reply<u64>

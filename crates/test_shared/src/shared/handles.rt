@@ -1,12 +1,12 @@
 //! Handles: what comes of one that ends the sharing of its queue.
 ghost use Rattle.std.specs.Prelude.{◌≡◌};
 
+use crate::asserts::is_in;
 use crate::shared::left::End;
 use queue_handle::{Handle, Unfinished};
 use std::alloc::Global;
 use std::process::Abort;
 use std::sync::Wait;
-use test_support::asserts::is_in;
 
 /// What a handle comes to: how many items the queue with its one owner has, or why the sharing goes on.
 pub(crate) type Came = Result<usize, &'static str>;

@@ -2,6 +2,7 @@
 ghost use Rattle.std.specs.Prelude.{◌<◌};
 ghost use Rattle.concurrent_queue.specs.Shared.{IsPartyOf};
 
+use crate::asserts::is_in;
 use crate::calls::Queue;
 use crate::crew::{Assignment, Board, Deed, Role, act};
 use crate::opening::{open_surely, part};
@@ -10,7 +11,6 @@ use std::alloc::{Allocator, Global};
 use std::process::Abort;
 use std::sync::Wait;
 use std::thread::{Threads, join};
-use test_support::asserts::is_in;
 
 /// How many items each of two threads pushes.
 const EACH: u64 = 100;

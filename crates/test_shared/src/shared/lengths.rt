@@ -1,6 +1,7 @@
 //! The length of a queue, after each call of its only party.
 ghost use Rattle.concurrent_queue.specs.Shared.{IsPartyOf};
 
+use crate::asserts::is_in;
 use crate::calls::Queue;
 use crate::crew::{Deed, find};
 use crate::opening::open_surely;
@@ -8,7 +9,6 @@ use concurrent_queue::Party;
 use std::alloc::Global;
 use std::process::Abort;
 use std::sync::Wait;
-use test_support::asserts::is_in;
 
 /// Pushes so many items into an empty queue, or pops all of as many. Gives whether each call was right, and the length after it.
 fn goes_through<R: Wait>(

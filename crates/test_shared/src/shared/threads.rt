@@ -1,4 +1,5 @@
 //! Threads that share a queue, a party each.
+use crate::asserts::{is, is_in};
 use crate::crew::{Assignment, Board, Deed, Role, TURNS, crew};
 use crate::opening::{end, open_surely};
 use crate::shared::handles;
@@ -8,7 +9,6 @@ use std::alloc::Global;
 use std::process::Abort;
 use std::sync::Wait;
 use std::thread::Threads;
-use test_support::asserts::{is, is_in};
 
 /// What threads do at a queue of each of some capacities.
 struct CrewCase {
