@@ -5,7 +5,7 @@ use std::io::ErrorKind;
 use std::process::Abort;
 use std::sync::Wait;
 use std::thread::Threads;
-use test_support::programs::{Case, failed_write, push_failed_reads};
+use test_support::programs::{Case, failed_reads, failed_write};
 use test_support::runs::{End, SOUND, Streams};
 use test_support::streams::{Failing, Flow};
 
@@ -16,13 +16,11 @@ static STARTS: [&[u8]; 3] = [b"", b"push 1\npop\n", b"unreadable\n"];
 /// The read behind what it starts with fails.
 #[test]
 fn a_failed_read_prints_nothing(rt: HostRuntime) {
-    let mut cases = Vec::new(rt.alloc());
     for start in STARTS.iter() {
         let number = start.len().min(1) as u64;
-        push_failed_reads(&mut cases, SINGLE, start, usize::MAX, number).expect(&rt, "memory");
-    }
-    for case in &cases {
-        ends(&rt, *case);
+        for case in failed_reads(SINGLE, start, usize::MAX, number) {
+            ends(&rt, case);
+        }
     }
 }
 

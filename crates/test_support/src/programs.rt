@@ -27,41 +27,30 @@ pub struct Case<'a> {
     pub end: End<'a>,
 }
 
-/// What is told of a read that fails so.
-static FAILED_READS: [(ErrorKind, &str); 3] = [
-    (ErrorKind::BrokenPipe, "input failed\n"),
-    (ErrorKind::WouldBlock, "input failed\n"),
-    (ErrorKind::OutOfMemory, "no memory\n"),
-];
-
-/// Adds the runs that print nothing, as their read of this number fails, each in one way.
-///
-/// # Errors
-///
-/// Where there is no memory for them.
-pub fn push_failed_reads<'a>(
-    cases: &mut Vec<Case<'a>>,
-    line: &'a str,
-    input: &'a [u8],
-    most: usize,
-    number: u64,
-) -> Result<(), AllocError> {
-    for (kind, fault) in FAILED_READS.iter() {
-        let streams = Streams {
-            input: Flow {
-                most,
-                failing: Failing::At(number, *kind),
-            },
+/// The run that prints nothing, as its read of this number fails so, and tells this fault.
+fn failed_read<'a>(line: &'a str, input: &'a [u8], read: Flow, fault: &'static str) -> Case<'a> {
+    Case {
+        line,
+        input,
+        streams: Streams {
+            input: read,
             ..SOUND
-        };
-        cases.push(Case {
-            line,
-            input,
-            streams,
-            end: End::fault(3, fault),
-        })?;
+        },
+        end: End::fault(3, fault),
     }
-    Ok(())
+}
+
+/// The runs that print nothing, as their read of this number fails, each in one way.
+pub fn failed_reads<'a>(line: &'a str, input: &'a [u8], most: usize, number: u64) -> [Case<'a>; 3] {
+    let reads = |kind| Flow {
+        most,
+        failing: Failing::At(number, kind),
+    };
+    [
+        failed_read(line, input, reads(ErrorKind::BrokenPipe), "input failed\n"),
+        failed_read(line, input, reads(ErrorKind::WouldBlock), "input failed\n"),
+        failed_read(line, input, reads(ErrorKind::OutOfMemory), "no memory\n"),
+    ]
 }
 
 /// The run that ends with a failed output, of which it has written so much.
@@ -107,18 +96,16 @@ impl Row {
         alloc: Global,
         failures: Failures,
     ) -> Result<Vec<Case<'static>>, AllocError> {
-        let mut cases = Vec::new(alloc);
         match failures {
-            Failures::Moves(failing) => cases.push(self.moved(failing))?,
-            Failures::Reads => self.push_reads(&mut cases)?,
-            Failures::Writes => self.push_writes(&mut cases)?,
+            Failures::Moves(failing) => alone(alloc, self.moved(failing)),
+            Failures::Reads => self.reads(alloc),
+            Failures::Writes => self.writes(alloc),
             Failures::Flush => {
                 let flow = Flow::bytewise(Failing::AtFlush);
                 let (input, output) = (self.input.as_bytes(), self.told.as_bytes());
-                cases.push(failed_write(self.line, input, flow, output))?;
+                alone(alloc, failed_write(self.line, input, flow, output))
             }
         }
-        Ok(cases)
     }
 
     /// The run where each stream moves a byte at a time, and fails so.
@@ -136,16 +123,20 @@ impl Row {
         }
     }
 
-    fn push_reads(&self, cases: &mut Vec<Case<'static>>) -> Result<(), AllocError> {
+    fn reads(&self, alloc: Global) -> Result<Vec<Case<'static>>, AllocError> {
         let input = self.input.as_bytes();
+        let mut cases = Vec::new(alloc);
         for number in 0..=input.len() as u64 {
-            push_failed_reads(cases, self.line, input, 1, number)?;
+            for case in failed_reads(self.line, input, 1, number) {
+                cases.push(case)?;
+            }
         }
-        Ok(())
+        Ok(cases)
     }
 
-    fn push_writes(&self, cases: &mut Vec<Case<'static>>) -> Result<(), AllocError> {
+    fn writes(&self, alloc: Global) -> Result<Vec<Case<'static>>, AllocError> {
         let (input, output) = (self.input.as_bytes(), self.told.as_bytes());
+        let mut cases = Vec::new(alloc);
         for count in 0..output.len() {
             let number = count as u64;
             for failing in [
@@ -157,6 +148,13 @@ impl Row {
                 cases.push(failed_write(self.line, input, flow, &output[..count]))?;
             }
         }
-        Ok(())
+        Ok(cases)
     }
+}
+
+/// A list of this case alone.
+fn alone(alloc: Global, case: Case<'static>) -> Result<Vec<Case<'static>>, AllocError> {
+    let mut cases = Vec::new(alloc);
+    cases.push(case)?;
+    Ok(cases)
 }
