@@ -2,4 +2,3 @@ pub mod WorkShifts
 pub mod Moving
 pub mod Shifts
 pub mod Places
-pub mod Receiving

@@ -1,4 +1,3 @@
 pub mod Work
 pub mod Steps
 pub mod Sharing
-pub mod Places

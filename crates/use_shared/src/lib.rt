@@ -1,6 +1,5 @@
-//! Uses of the shared queue: jobs that parties take, tasks that workers step, and two futures on one thread.
+//! Uses of the shared queue: jobs that parties take, and tasks that workers step.
 #![tactic(auto)]
 
-pub mod polls;
 pub mod tasks;
 pub mod work;
