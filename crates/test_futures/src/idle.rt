@@ -77,13 +77,14 @@ fn an_idle_receiver_takes_no_processor_time(rt: HostRuntime) {
     let (sender, receiver) = opened(&rt, Some(2));
     let stream = incoming(&rt, receiver);
     let before = spent(&rt, &rt);
-    let (came, sent) = join(
-        &rt,
-        || receive(&rt, stream),
-        || send_late(&rt, &rt, sender),
-    );
+    let (came, sent) = join(&rt, || receive(&rt, stream), || send_late(&rt, &rt, sender));
     let spent = spent(&rt, &rt).wrapping_sub(before);
-    is_in(&rt, spent, (came, sent, spent <= MOST), (Ok(7), Ok(()), true));
+    is_in(
+        &rt,
+        spent,
+        (came, sent, spent <= MOST),
+        (Ok(7), Ok(()), true),
+    );
 }
 
 #[test]
@@ -100,5 +101,10 @@ fn an_idle_sender_takes_no_processor_time(rt: HostRuntime) {
         || receive_late(&rt, &rt, receiver),
     );
     let spent = spent(&rt, &rt).wrapping_sub(before);
-    is_in(&rt, spent, (sent, came, spent <= MOST), (Ok(()), Ok(1), true));
+    is_in(
+        &rt,
+        spent,
+        (sent, came, spent <= MOST),
+        (Ok(()), Ok(1), true),
+    );
 }

@@ -1,7 +1,7 @@
 //! Tasks on one thread and on four, also beside threads: each number comes once, and all ends.
 use crate::asserts::is_in;
 use crate::opening::{CAPACITIES, incoming, opened, outgoing};
-use crate::tasks::{Came, Task, Work};
+use crate::tasks::{Came, Sends, Task, Work};
 use channel_futures::{Receiver, Sender};
 use futures::Future;
 use futures::executor::TaskSet;
@@ -57,7 +57,11 @@ where
     R: Wait + Threads + Sync,
     F: Future<Output = ()> + Send,
 {
-    join(rt, || set.work(rt, first), || set.work(rt, first.wrapping_add(1)));
+    join(
+        rt,
+        || set.work(rt, first),
+        || set.work(rt, first.wrapping_add(1)),
+    );
 }
 
 /// So many threads work.
@@ -94,12 +98,7 @@ fn tasks<R: RandomSource + AllocGlobal + Abort>(
         } else {
             Work::Receives(stream)
         };
-        let sends = Work::Sends {
-            sink,
-            next: 0,
-            count: COUNT,
-        };
-        for work in [sends, receives] {
+        for work in [Work::Sends(Sends::new(sink, COUNT, 0)), receives] {
             let came = Arc::try_clone(came).expect(rt, "one more owner");
             is_in(rt, case, set.spawn(Task { work, came }).is_ok(), true);
         }
@@ -147,41 +146,65 @@ fn run_beside_threads<R: Wait + Threads + RandomSource + AllocGlobal + Abort + S
 #[test]
 fn each_number_comes_once_to_tasks_of_one_thread(rt: HostRuntime) {
     for cap in CAPACITIES {
-        run(&rt, Case { cap, workers: Workers::One, cancels: false });
+        run(
+            &rt,
+            Case {
+                cap,
+                workers: Workers::One,
+                cancels: false,
+            },
+        );
     }
 }
 
 #[test]
 fn each_number_comes_once_to_tasks_of_four_threads(rt: HostRuntime) {
     for cap in CAPACITIES {
-        run(&rt, Case { cap, workers: Workers::Four, cancels: false });
+        run(
+            &rt,
+            Case {
+                cap,
+                workers: Workers::Four,
+                cancels: false,
+            },
+        );
     }
 }
 
 #[test]
 fn each_number_comes_once_to_tasks_and_threads(rt: HostRuntime) {
     for cap in CAPACITIES {
-        run_beside_threads(&rt, Case { cap, workers: Workers::Four, cancels: false });
+        run_beside_threads(
+            &rt,
+            Case {
+                cap,
+                workers: Workers::Four,
+                cancels: false,
+            },
+        );
     }
 }
 
 #[test]
 fn futures_that_are_dropped_lose_nothing(rt: HostRuntime) {
     for cap in CAPACITIES {
-        run_beside_threads(&rt, Case { cap, workers: Workers::Four, cancels: true });
+        run_beside_threads(
+            &rt,
+            Case {
+                cap,
+                workers: Workers::Four,
+                cancels: true,
+            },
+        );
     }
 }
 
-/// How often two tasks of one thread are polled where one number is in the channel at a time.
+/// How often a receiver is polled by the thread that also polls its sender, where one number is in the channel at a time.
 fn polls_at_one_slot<R: Wait + RandomSource + AllocGlobal + Abort>(rt: &R) -> u64 {
     let (sender, receiver) = opened(rt, Some(1));
     let came = Arc::new(rt.alloc(), Came::new()).expect(rt, "memory");
     let set: TaskSet<Task> = TaskSet::new(rt, Doorbell::parking(), 1).expect(rt, "memory");
-    let sends = Work::Sends {
-        sink: outgoing(rt, sender),
-        next: 0,
-        count: COUNT,
-    };
+    let sends = Work::Sends(Sends::new(outgoing(rt, sender), COUNT, 10));
     for work in [sends, Work::Receives(incoming(rt, receiver))] {
         let came = Arc::try_clone(&came).expect(rt, "one more owner");
         is_in(rt, 1, set.spawn(Task { work, came }).is_ok(), true);
@@ -191,9 +214,9 @@ fn polls_at_one_slot<R: Wait + RandomSource + AllocGlobal + Abort>(rt: &R) -> u6
     came.polls()
 }
 
-/// Each number is one poll of a task that sends it, and one of a task that receives it, and then each waits.
+/// A poll gives each number, and one after it nothing: the sender, which rests, is polled ten times more.
 #[test]
-fn a_task_is_not_polled_while_it_waits(rt: HostRuntime) {
+fn a_receiver_is_not_polled_while_it_waits(rt: HostRuntime) {
     let polls = polls_at_one_slot(&rt);
-    is_in(&rt, polls, polls <= 4 * COUNT + 4, true);
+    is_in(&rt, polls, polls <= 2 * COUNT + 2, true);
 }

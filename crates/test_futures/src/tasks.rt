@@ -9,7 +9,7 @@ use std::sync::Arc;
 use std::sync::atomic::AtomicU64;
 use std::sync::atomic::Ordering::SeqCst;
 
-/// What came to all receivers, and how often tasks were polled.
+/// What came to all receivers, and how often they were polled.
 #[derive(Drop)]
 pub(crate) struct Came {
     items: AtomicU64,
@@ -48,7 +48,7 @@ impl Came {
         )
     }
 
-    /// How often tasks were polled.
+    /// How often receivers were polled.
     pub(crate) fn polls(&self) -> u64 {
         self.polls.load(SeqCst)
     }
@@ -57,18 +57,10 @@ impl Came {
 /// What a task does. It has a share in what came.
 #[derive(Drop)]
 pub(crate) enum Work {
-    /// Sends the numbers from `next` on that are below `count`.
-    Sends {
-        sink: Outgoing<u64>,
-        next: u64,
-        count: u64,
-    },
+    Sends(Sends),
     Receives(Incoming<u64>),
     /// Receives by futures that it drops after one poll. At each second turn it also polls the stream, and waits there.
-    Cancels {
-        stream: Incoming<u64>,
-        waits: bool,
-    },
+    Cancels { stream: Incoming<u64>, waits: bool },
     Over,
 }
 
@@ -79,21 +71,49 @@ pub(crate) struct Task {
     pub(crate) came: Arc<Came>,
 }
 
-/// Sends the next number once there is room.
-fn send(sink: &mut Outgoing<u64>, cx: &mut Context<'_>, next: &mut u64, count: u64) -> Poll<()>
-    ensures armed { OnPending result (IsArmed cx.new) }
-    ensures kept { Keeps cx.old cx.new }
-{
-    match sink.poll_ready(cx) {
-        Poll::Pending => Poll::Pending,
-        Poll::Ready(Err(_)) => Poll::Ready(()),
-        Poll::Ready(Ok(())) => {
-            if *next == count {
-                return Poll::Ready(());
+/// Sends all numbers below `count`.
+#[derive(Drop)]
+pub(crate) struct Sends {
+    sink: Outgoing<u64>,
+    next: u64,
+    count: u64,
+    /// For how many polls it rests after each number.
+    rests: u64,
+    rested: u64,
+}
+
+impl Sends {
+    pub(crate) fn new(sink: Outgoing<u64>, count: u64, rests: u64) -> Sends {
+        Sends {
+            sink,
+            next: 0,
+            count,
+            rests,
+            rested: rests,
+        }
+    }
+
+    /// Sends the next number once there is room.
+    fn poll(&mut self, cx: &mut Context<'_>) -> Poll<()>
+        ensures armed { OnPending result (IsArmed cx.new) }
+        ensures kept { Keeps cx.old cx.new }
+    {
+        if self.rested < self.rests {
+            self.rested = self.rested.wrapping_add(1);
+            return cx.yield_now();
+        }
+        match self.sink.poll_ready(cx) {
+            Poll::Pending => Poll::Pending,
+            Poll::Ready(Err(_)) => Poll::Ready(()),
+            Poll::Ready(Ok(())) => {
+                if self.next == self.count {
+                    return Poll::Ready(());
+                }
+                let _ = self.sink.start_send(self.next);
+                self.next = self.next.wrapping_add(1);
+                self.rested = 0;
+                cx.yield_now()
             }
-            let _ = sink.start_send(*next);
-            *next = next.wrapping_add(1);
-            cx.yield_now()
         }
     }
 }
@@ -103,6 +123,7 @@ fn receive(stream: &mut Incoming<u64>, cx: &mut Context<'_>, came: &Came) -> Pol
     ensures armed { OnPending result (IsArmed cx.new) }
     ensures kept { Keeps cx.old cx.new }
 {
+    came.polls.fetch_add(1, SeqCst);
     match stream.poll_next(cx) {
         Poll::Pending => Poll::Pending,
         Poll::Ready(Some(item)) => {
@@ -153,9 +174,8 @@ impl Future for Task {
     type Output = ();
 
     fn poll(&mut self, cx: &mut Context<'_>) -> Poll<()> {
-        self.came.polls.fetch_add(1, SeqCst);
         let polled = match &mut self.work {
-            Work::Sends { sink, next, count } => send(sink, cx, next, *count),
+            Work::Sends(sends) => sends.poll(cx),
             Work::Receives(stream) => receive(stream, cx, &self.came),
             Work::Cancels { stream, waits } => cancel(stream, cx, &self.came, waits),
             Work::Over => Poll::Ready(()),
