@@ -2,7 +2,7 @@
 use crate::asserts::is_in;
 use crate::opening::{CAPACITIES, incoming, opened, outgoing};
 use crate::tasks::{Came, Sends, Task, Work};
-use channel_futures::{Receiver, Sender};
+use channel_futures::{Incoming, Receiver, Sender};
 use futures::Future;
 use futures::executor::TaskSet;
 use futures::task::Doorbell;
@@ -78,6 +78,23 @@ where
     }
 }
 
+/// Puts a task into the set.
+fn spawn(rt: &impl Abort, case: Case, set: &TaskSet<Task>, work: Work, came: &Arc<Came>) {
+    let came = Arc::try_clone(came).expect(rt, "one more owner");
+    is_in(rt, case, set.spawn(Task { work, came }).is_ok(), true);
+}
+
+/// What a receiver does.
+fn receives(case: Case, number: u64, stream: Incoming<u64>) -> Work {
+    if case.cancels && number % 2 == 0 {
+        return Work::Cancels {
+            stream,
+            waits: false,
+        };
+    }
+    Work::Receives(stream)
+}
+
 /// The tasks of a run, whose ends are parted from these.
 fn tasks<R: RandomSource + AllocGlobal + Abort>(
     rt: &R,
@@ -90,18 +107,14 @@ fn tasks<R: RandomSource + AllocGlobal + Abort>(
     for number in 0..TASKS {
         let sink = outgoing(rt, sender.split().expect(rt, "a sender"));
         let stream = incoming(rt, receiver.split().expect(rt, "a receiver"));
-        let receives = if case.cancels && number % 2 == 0 {
-            Work::Cancels {
-                stream,
-                waits: false,
-            }
-        } else {
-            Work::Receives(stream)
-        };
-        for work in [Work::Sends(Sends::new(sink, COUNT, 0)), receives] {
-            let came = Arc::try_clone(came).expect(rt, "one more owner");
-            is_in(rt, case, set.spawn(Task { work, came }).is_ok(), true);
-        }
+        spawn(
+            rt,
+            case,
+            &set,
+            Work::Sends(Sends::new(sink, COUNT, 0)),
+            came,
+        );
+        spawn(rt, case, &set, receives(case, number, stream), came);
     }
     set
 }
