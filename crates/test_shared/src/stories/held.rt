@@ -7,9 +7,9 @@ ghost use Rattle.test_shared.specs.Outcomes.{IsOf};
 use crate::asserts::is_in;
 use crate::calls::Queue;
 use crate::gates::{Meeting, Part, Signs, Told, call_held};
-use crate::opening::{end, open_filled};
+use crate::opening::open_filled;
 use crate::stories::lines::{
-    At, call_of, follow, is_left, is_said, party_of, seated, sides, words_of,
+    At, call_of, ends, follow, is_said, party_of, seated, sides, words_of,
 };
 use app_text::replies::ReplyText;
 use concurrent_queue::{Outcome, Party};
@@ -171,7 +171,7 @@ fn tell<R: Wait + Threads + Sync + Abort>(rt: &R, alloc: Global, story: &Story) 
     };
     let (queue, first, second) = open_filled(rt, alloc, story.cap, story.pushed);
     let whole = both_told(rt, alloc, &queue, first, second, story, line, lines);
-    is_left(rt, alloc, (story.name, last), end(rt, queue, whole));
+    ends(rt, alloc, queue, whole, (story.name, last));
 }
 
 static HELD: [Story; 8] = [

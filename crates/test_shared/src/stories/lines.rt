@@ -223,7 +223,7 @@ pub(crate) fn follow<R: Wait + Abort>(
 }
 
 /// Asserts which items are in a queue that is no longer shared, in their order, and whether it is closed.
-pub(crate) fn is_left(rt: &impl Abort, alloc: Global, at: At<'_>, mut alone: Exclusive<u64>) {
+fn is_left(rt: &impl Abort, alloc: Global, at: At<'_>, mut alone: Exclusive<u64>) {
     let mut left = String::from_str(alloc, "left ").expect(rt, "memory");
     for _ in 0..alone.len() {
         let item = alone.pop().unwrap_or(0);
@@ -232,4 +232,14 @@ pub(crate) fn is_left(rt: &impl Abort, alloc: Global, at: At<'_>, mut alone: Exc
     let end = if alone.is_closed() { "closed" } else { "open" };
     left.push_str(end).expect(rt, "memory");
     is_in(rt, at, left.as_str(), at.1);
+}
+
+/// Ends the sharing by this party. Asserts what is left, or that it does not end.
+pub(crate) fn ends(rt: &impl Abort, alloc: Global, queue: Queue, party: Party<u64>, at: At<'_>)
+    requires { IsPartyOf party queue }
+{
+    match queue.finish(party) {
+        Ok(alone) => is_left(rt, alloc, at, alone),
+        Err(_) => is_in(rt, at, "shared", at.1),
+    }
 }

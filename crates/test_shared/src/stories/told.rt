@@ -3,10 +3,9 @@ ghost use Rattle.std.specs.Prelude.{IfSome};
 ghost use Rattle.concurrent_queue.specs.Shared.{IsPartyOf};
 ghost use Rattle.test_shared.specs.Outcomes.{IsOf};
 
-use crate::asserts::is_in;
 use crate::calls::Queue;
-use crate::opening::{end, open_surely, part, stay_shared};
-use crate::stories::lines::{At, follow, is_left, party_of, seated};
+use crate::opening::{open_surely, part, stay_shared};
+use crate::stories::lines::{At, ends, follow, party_of, seated};
 use concurrent_queue::{Outcome, Party};
 use std::alloc::Global;
 use std::process::Abort;
@@ -93,30 +92,19 @@ fn line_told<R: Wait + Abort>(rt: &R, alloc: Global, queue: &Queue, cast: Cast, 
     }
 }
 
-/// Ends the sharing by its only party, and asserts what is left, or that it does not end.
-fn end_told(rt: &impl Abort, alloc: Global, queue: Queue, party: Party<u64>, at: At<'_>)
-    requires { IsPartyOf party queue }
-{
-    if at.1 == "shared" {
-        stay_shared(rt, queue, party);
-    } else {
-        is_left(rt, alloc, at, end(rt, queue, party));
-    }
-}
-
-/// The same by all parties. Asserts of two that the sharing does not end until they are joined.
+/// Ends the sharing, of two parties once they are joined. Asserts of two that it does not end before, and what is left.
 fn all_end(rt: &impl Abort, alloc: Global, queue: Queue, cast: Cast, at: At<'_>)
     requires { IsOf cast.0 queue × IfSome cast.1 (λ o. IsOf o queue) }
 {
     let (a, b) = cast;
     let first = party_of(rt, &queue, a);
     if b.is_none() {
-        return end_told(rt, alloc, queue, first, at);
+        return ends(rt, alloc, queue, first, at);
     }
     let second = other(rt, &queue, b);
     let (queue, first) = stay_shared(rt, queue, first);
     let whole = queue.join(first, second);
-    end_told(rt, alloc, queue, whole, at);
+    ends(rt, alloc, queue, whole, at);
 }
 
 /// The parties after these lines.
