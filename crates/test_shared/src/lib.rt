@@ -10,8 +10,6 @@ mod crew;
 #[cfg(test)]
 mod gates;
 #[cfg(test)]
-mod held;
-#[cfg(test)]
 mod items;
 #[cfg(test)]
 mod opening;
@@ -19,3 +17,5 @@ mod opening;
 mod pending;
 #[cfg(test)]
 mod shared;
+#[cfg(test)]
+mod stories;

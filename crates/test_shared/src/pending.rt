@@ -1,8 +1,6 @@
-//! Calls that never wait: one that meets another party's call half done, is taken up again, given up or dropped, and one whose block is refused or comes late.
-pub mod beside;
+//! Calls that never wait: one that is dropped, given up or busy beside another party's, and one whose block is refused or comes late.
 pub mod dropped;
 pub mod ending;
 pub mod refused;
-pub mod stories;
 pub mod threads;
 pub mod trying;

@@ -1,4 +1,4 @@
-//! Tests of what threads use: channels, ends that sleep, crews and tasks, and webs of raw blocks.
+//! Tests of what threads use: channels, ends that sleep, tasks, and webs of raw blocks.
 #![tactic(auto)]
 
 #[cfg(test)]
@@ -9,8 +9,6 @@ mod blocks;
 mod channel;
 #[cfg(test)]
 mod handles;
-#[cfg(test)]
-mod opening;
 #[cfg(test)]
 mod sleep;
 #[cfg(test)]

@@ -1,4 +1,2 @@
 //! Uses of shared queues.
-pub mod crews;
-pub mod jobs;
 pub mod tasks;

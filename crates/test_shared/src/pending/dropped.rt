@@ -1,5 +1,5 @@
 //! What is counted beside a held call that another one meets. One that is dropped while it is pending drops what it carries, and its party is missing then. On a chain it loses what it has in hand: the item that a pop has taken, with its block, or the spare block of a push. A push that answers busy loses nothing, and one that is granted a block which another one has laid meanwhile is not pending: the block goes back.
-use crate::pending::ending::{End, Row, tell};
+use crate::pending::ending::{DROPPED, End, Row, tell};
 use queue_steps::model::Call;
 use queue_steps::steps::{Link, Op, WRITE, Word};
 
@@ -10,28 +10,22 @@ static ROWS: [Row; 9] = [
     Row {
         name: "a slot, a pop",
         cap: Some(1),
-        pushed: 0,
         held: Call::Push(()),
         at: Op::And(Word::Lock, u64::MAX - 1),
         call: Call::Pop,
-        end: End::Dropped,
-        has_spare: false,
         before: (2, 2),
         after: (2, 2),
-        left: (1, 0),
+        ..DROPPED
     },
     Row {
         name: "a slot, a push by force",
         cap: Some(1),
-        pushed: 0,
         held: Call::Push(()),
         at: Op::And(Word::Lock, u64::MAX - 1),
         call: Call::ForcePush(()),
-        end: End::Dropped,
-        has_spare: false,
         before: (3, 2),
         after: (2, 2),
-        left: (1, 0),
+        ..DROPPED
     },
     Row {
         name: "a ring, a push",
@@ -40,67 +34,54 @@ static ROWS: [Row; 9] = [
         held: Call::Pop,
         at: Op::Store(Word::Stamp(0), 2),
         call: Call::Push(()),
-        end: End::Dropped,
-        has_spare: false,
         before: (4, 2),
         after: (3, 2),
-        left: (1, 0),
+        ..DROPPED
     },
     Row {
         name: "a ring, a pop",
         cap: Some(2),
-        pushed: 0,
         held: Call::Push(()),
         at: Op::Store(Word::Stamp(0), 1),
         call: Call::Pop,
-        end: End::Dropped,
-        has_spare: false,
         before: (2, 2),
         after: (2, 2),
-        left: (1, 0),
+        ..DROPPED
     },
     Row {
         name: "a chain, a push",
-        cap: None,
         pushed: 62,
         held: Call::Push(()),
         at: Op::StoreLink(Link::TailBlock, ()),
         call: Call::Push(()),
-        end: End::Dropped,
-        has_spare: false,
         before: (65, 3),
         after: (64, 3),
-        left: (1, 0),
+        ..DROPPED
     },
     Row {
         name: "a chain, a pop that has taken its item",
-        cap: None,
-        pushed: 0,
         held: Call::Push(()),
         at: Op::Or(Word::State((), 0), WRITE),
         call: Call::Pop,
-        end: End::Dropped,
-        has_spare: false,
         before: (2, 2),
         after: (2, 2),
         left: (2, 1),
+        ..DROPPED
     },
     Row {
         name: "a chain, a push with a spare block",
-        cap: None,
         pushed: 62,
         held: Call::Push(()),
         at: Op::StoreLink(Link::TailBlock, ()),
         call: Call::Push(()),
-        end: End::Dropped,
         has_spare: true,
         before: (65, 4),
         after: (64, 4),
         left: (1, 1),
+        ..DROPPED
     },
     Row {
         name: "a chain, a push with a spare block that answers busy",
-        cap: None,
         pushed: 62,
         held: Call::Push(()),
         at: Op::StoreLink(Link::TailBlock, ()),
@@ -109,12 +90,10 @@ static ROWS: [Row; 9] = [
         has_spare: true,
         before: (65, 2),
         after: (64, 3),
-        left: (1, 0),
+        ..DROPPED
     },
     Row {
         name: "a chain, a push whose block comes once another one has been made",
-        cap: None,
-        pushed: 0,
         held: Call::Push(()),
         at: NOWHERE,
         call: Call::Push(()),
@@ -122,7 +101,7 @@ static ROWS: [Row; 9] = [
         has_spare: true,
         before: (3, 2),
         after: (3, 2),
-        left: (1, 0),
+        ..DROPPED
     },
 ];
 

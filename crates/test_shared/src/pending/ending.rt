@@ -9,7 +9,7 @@ use crate::items::{Item, first_item, item_of};
 use crate::opening::{open_surely, part};
 use concurrent_queue::{ConcurrentQueue, NullTestable, Outcome, Party, TryPushError};
 use queue_steps::model::{Call, CallKind, Reply};
-use queue_steps::steps::Op;
+use queue_steps::steps::{Op, Word};
 use std::alloc::Global;
 use std::process::Abort;
 use std::sync::atomic::Ordering;
@@ -51,6 +51,21 @@ pub(crate) struct Row {
     /// What is left once the queue is gone.
     pub(crate) left: Counts,
 }
+
+/// A call on an empty chain that is dropped, asks for no block, and leaves nothing.
+pub(crate) const DROPPED: Row = Row {
+    name: "",
+    cap: None,
+    pushed: 0,
+    held: Call::Pop,
+    at: Op::Load(Word::Lock),
+    call: Call::Pop,
+    end: End::Dropped,
+    has_spare: false,
+    before: (1, 0),
+    after: (1, 0),
+    left: (1, 0),
+};
 
 /// This call, with an item.
 fn with_item(rt: &impl Abort, call: CallKind, item: &Item) -> Call<Item> {

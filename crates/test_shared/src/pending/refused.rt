@@ -2,6 +2,7 @@
 ghost use Rattle.concurrent_queue.specs.Shared.{IsPartyOf};
 
 use crate::asserts::is_in;
+use crate::crew::{Deed, find_each};
 use crate::opening::open_surely;
 use concurrent_queue::{ConcurrentQueue, ForcePushError, NullTestable, Outcome, Party, PushError};
 use queue_steps::model::{Call, Reply};
@@ -37,7 +38,7 @@ static REQUESTS: [(u64, u64); 3] = [(2, 0), (3, 62), (4, 125)];
 type Found = (Reply<u64>, u64, u64);
 
 /// Begins a push. Asserts that it is not pending.
-fn push_one<A: NullTestable, R: Wait + Abort>(
+fn begin<A: NullTestable, R: Wait + Abort>(
     rt: &R,
     queue: &ConcurrentQueue<u64, A>,
     party: Party<u64>,
@@ -56,46 +57,25 @@ fn push_one<A: NullTestable, R: Wait + Abort>(
     }
 }
 
-/// Begins so many of these pushes. Gives whether each is accepted.
-fn push_all<A: NullTestable, R: Wait + Abort>(
-    rt: &R,
-    queue: &ConcurrentQueue<u64, A>,
-    mut party: Party<u64>,
-    push: &Push,
-    count: u64,
-    heap: &Heap,
-) -> (Party<u64>, bool)
-    requires { IsPartyOf party queue.now }
-    ensures { IsPartyOf result.0 queue.now }
-{
-    let mut right = true;
-    for _ in 0..count {
-        let (after, found) = push_one(rt, queue, party, push.call, heap);
-        party = after;
-        right = found.0 == push.granted && right;
-    }
-    (party, right)
-}
-
-/// Begins pushes to a chain, so many, and two more. Gives whether each before was accepted, how many allocations there were then, and what both find.
-fn push_last_twice<R: Wait + Abort>(
+/// Pushes so many items to a chain, and begins this push twice. Gives whether each item was accepted, how many allocations there were then, and what both find.
+fn begin_twice<R: Wait + Abort>(
     rt: &R,
     heap: &Heap,
-    push: &Push,
+    call: Call<u64>,
     items: u64,
 ) -> (bool, u64, [Found; 2]) {
-    let (queue, party) = open_surely(rt, heap, None);
-    let (party, filled) = push_all(rt, &queue, party, push, items, heap);
+    let (queue, mut party) = open_surely(rt, heap, None);
+    let filled = find_each(rt, &queue, &mut party, Deed::PushOnce, 0..items);
     let before = heap.live();
-    let (party, first) = push_one(rt, &queue, party, push.call, heap);
-    let (_, second) = push_one(rt, &queue, party, push.call, heap);
+    let (party, first) = begin(rt, &queue, party, call, heap);
+    let (_, second) = begin(rt, &queue, party, call, heap);
     (filled, before, [first, second])
 }
 
 /// Refuses one request. Asserts that the push that makes it is refused, that neither items nor allocations change by it, and that the same push is accepted then.
 fn one_is_refused<R: Wait + Abort>(rt: &R, alloc: Global, push: &Push, request: u64, items: u64) {
     let heap = Heap::new(alloc, Refusal::Nth(request));
-    let (filled, before, found) = push_last_twice(rt, &heap, push, items);
+    let (filled, before, found) = begin_twice(rt, &heap, push.call, items);
     let refused = (push.refused, before, items);
     let granted = (push.granted, before.wrapping_add(1), items.wrapping_add(1));
     let case = (push.call, request);

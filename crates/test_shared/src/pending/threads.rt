@@ -4,10 +4,9 @@ ghost use Rattle.concurrent_queue.specs.Shared.{IsPartyOf};
 ghost use denote.Param.Send.{IsSync};
 
 use crate::asserts::is_in;
-use crate::calls::Queue;
+use crate::calls::{Queue, begin, take_up};
 use crate::crew::Board;
 use crate::opening::{end, open_surely, part};
-use crate::pending::beside::{begin, take_up};
 use concurrent_queue::{Outcome, Party};
 use queue_steps::model::{Call, Reply};
 use std::alloc::Global;

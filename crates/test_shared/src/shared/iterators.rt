@@ -70,143 +70,36 @@ fn an_iterator_gives_items_again(rt: HostRuntime) {
     }
 }
 
-/// How many items are pushed and popped, whether the queue is closed then, and what is printed of it.
-struct DebugCase {
-    /// The capacity, if there is one.
-    cap: Option<usize>,
-    /// How many items have gone through it before.
-    before: u64,
-    pushes: u64,
-    pops: u64,
-    closed: bool,
-    text: &'static str,
-}
+/// The capacity, if there is one; how many items have gone through before, and how many are pushed and popped then; and whether the queue is closed.
+type Used = (Option<usize>, u64, u64, u64, bool);
 
-static SHOWN: [DebugCase; 14] = [
-    DebugCase {
-        cap: Some(2),
-        before: 0,
-        pushes: 1,
-        pops: 0,
-        closed: false,
-        text: "ConcurrentQueue { len: 1, capacity: Some(2), is_closed: false }",
-    },
-    DebugCase {
-        cap: Some(2),
-        before: 0,
-        pushes: 2,
-        pops: 1,
-        closed: true,
-        text: "ConcurrentQueue { len: 1, capacity: Some(2), is_closed: true }",
-    },
-    DebugCase {
-        cap: Some(300),
-        before: 0,
-        pushes: 250,
-        pops: 13,
-        closed: false,
-        text: "ConcurrentQueue { len: 237, capacity: Some(300), is_closed: false }",
-    },
-    DebugCase {
-        cap: Some(1),
-        before: 0,
-        pushes: 0,
-        pops: 0,
-        closed: false,
-        text: "ConcurrentQueue { len: 0, capacity: Some(1), is_closed: false }",
-    },
-    DebugCase {
-        cap: Some(1),
-        before: 0,
-        pushes: 1,
-        pops: 0,
-        closed: false,
-        text: "ConcurrentQueue { len: 1, capacity: Some(1), is_closed: false }",
-    },
-    DebugCase {
-        cap: Some(1),
-        before: 0,
-        pushes: 1,
-        pops: 0,
-        closed: true,
-        text: "ConcurrentQueue { len: 1, capacity: Some(1), is_closed: true }",
-    },
-    DebugCase {
-        cap: Some(1),
-        before: 0,
-        pushes: 1,
-        pops: 1,
-        closed: true,
-        text: "ConcurrentQueue { len: 0, capacity: Some(1), is_closed: true }",
-    },
-    DebugCase {
-        cap: None,
-        before: 0,
-        pushes: 0,
-        pops: 0,
-        closed: true,
-        text: "ConcurrentQueue { len: 0, capacity: None, is_closed: true }",
-    },
-    DebugCase {
-        cap: None,
-        before: 0,
-        pushes: 3,
-        pops: 1,
-        closed: false,
-        text: "ConcurrentQueue { len: 2, capacity: None, is_closed: false }",
-    },
-    DebugCase {
-        cap: None,
-        before: 0,
-        pushes: 63,
-        pops: 63,
-        closed: false,
-        text: "ConcurrentQueue { len: 0, capacity: None, is_closed: false }",
-    },
-    DebugCase {
-        cap: None,
-        before: 0,
-        pushes: 200,
-        pops: 70,
-        closed: false,
-        text: "ConcurrentQueue { len: 130, capacity: None, is_closed: false }",
-    },
-    DebugCase {
-        cap: Some(3),
-        before: 1000,
-        pushes: 3,
-        pops: 1,
-        closed: false,
-        text: "ConcurrentQueue { len: 2, capacity: Some(3), is_closed: false }",
-    },
-    DebugCase {
-        cap: Some(5000),
-        before: 4000,
-        pushes: 4321,
-        pops: 21,
-        closed: false,
-        text: "ConcurrentQueue { len: 4300, capacity: Some(5000), is_closed: false }",
-    },
-    DebugCase {
-        cap: None,
-        before: 1000,
-        pushes: 200,
-        pops: 70,
-        closed: true,
-        text: "ConcurrentQueue { len: 130, capacity: None, is_closed: true }",
-    },
+static USES: [Used; 14] = [
+    (Some(2), 0, 1, 0, false),
+    (Some(2), 0, 2, 1, true),
+    (Some(300), 0, 250, 13, false),
+    (Some(1), 0, 0, 0, false),
+    (Some(1), 0, 1, 0, false),
+    (Some(1), 0, 1, 0, true),
+    (Some(1), 0, 1, 1, true),
+    (None, 0, 0, 0, true),
+    (None, 0, 3, 1, false),
+    (None, 0, 63, 63, false),
+    (None, 0, 200, 70, false),
+    (Some(3), 1000, 3, 1, false),
+    (Some(5000), 4000, 4321, 21, false),
+    (None, 1000, 200, 70, true),
 ];
 
-/// A queue through which items have gone so, and its only party.
-fn used<R: Wait + Abort>(rt: &R, alloc: Global, case: &DebugCase) -> (Queue, Party<u64>)
+/// A queue that has been used so, and its only party.
+fn used<R: Wait + Abort>(rt: &R, alloc: Global, used: &Used) -> (Queue, Party<u64>)
     ensures { IsPartyOf result.1 result.0 }
 {
-    let (queue, mut party) = open_surely(rt, alloc, case.cap);
-    let pushed = 1..case.pushes.wrapping_add(1);
-    find_each(rt, &queue, &mut party, Deed::PushAndPop, 0..case.before);
-    find_each(rt, &queue, &mut party, Deed::PushOnce, pushed);
-    find_each(rt, &queue, &mut party, Deed::PopOnce, 0..case.pops);
-    if case.closed {
+    let (cap, before, pushes, pops, closed) = *used;
+    let (queue, mut party) = open_surely(rt, alloc, cap);
+    find_each(rt, &queue, &mut party, Deed::PushAndPop, 0..before);
+    find_each(rt, &queue, &mut party, Deed::PushOnce, 0..pushes);
+    find_each(rt, &queue, &mut party, Deed::PopOnce, 0..pops);
+    if closed {
         queue.close(&mut party);
     }
     (queue, party)
@@ -221,22 +114,28 @@ fn printed<R: Wait + Abort>(rt: &R, alloc: Global, queue: &Queue, party: &mut Pa
     text.expect(rt, "memory")
 }
 
-/// What is to be printed of a queue, of which this is, and of an iterator over it.
-fn to_be_printed(rt: &impl Abort, alloc: Global, text: &str) -> String {
+/// What is to be printed of a queue that has been used so, and of an iterator over it.
+fn to_be_printed(rt: &impl Abort, alloc: Global, used: &Used) -> String {
+    let (capacity, _, pushes, pops, is_closed) = *used;
+    let len = pushes.wrapping_sub(pops);
+    let text: Result<_, _> = format!(in alloc;
+        "ConcurrentQueue {{ len: {len}, capacity: {capacity:?}, is_closed: {is_closed} }}"
+    );
+    let text: String = text.expect(rt, "memory");
     let both: Result<_, _> = format!(in alloc; "{text} Iter({text})");
     both.expect(rt, "memory")
 }
 
 /// Asserts what is printed of a queue, and of an iterator over it.
-fn is_printed<R: Wait + Abort>(rt: &R, alloc: Global, case: &DebugCase) {
+fn is_printed<R: Wait + Abort>(rt: &R, alloc: Global, case: &Used) {
     let (queue, mut party) = used(rt, alloc, case);
     let found = printed(rt, alloc, &queue, &mut party);
-    is(rt, found, to_be_printed(rt, alloc, case.text));
+    is(rt, found, to_be_printed(rt, alloc, case));
 }
 
 #[test]
 fn queues_and_iterators_are_printed(rt: HostRuntime) {
-    for case in SHOWN.iter() {
+    for case in USES.iter() {
         is_printed(&rt, rt.alloc(), case);
     }
 }

@@ -1,8 +1,7 @@
 //! Requests of the constructor that are refused, and calls that make none.
 use crate::asserts::is_in;
-use crate::opening::{Opened, open, open_surely};
-use crate::shared::rows::{Duet, StoryLine, tell};
-use queue_steps::model::{Call, Reply};
+use crate::crew::{Deed, find_each};
+use crate::opening::{Opened, end, open, open_surely, part};
 use queue_steps::sizes::MAX_CAPACITY;
 use std::alloc::Global;
 use std::process::Abort;
@@ -72,59 +71,29 @@ fn the_greatest_capacity_is_asked_for(rt: HostRuntime) {
     is_wanting::<u8>(&rt, rt.alloc(), Refusal::Always, MAX_CAPACITY + 1, 0);
 }
 
-/// Stories of a slot and of a ring, and how many blocks stay once they are no longer shared: a ring lies in the same memory then.
-static STORIES: [(Duet, u64); 2] = [
-    (
-        Duet {
-            name: "a slot that asks for no more",
-            cap: Some(1),
-            lines: &[
-                StoryLine::First(Call::Push(1), Reply::Push(Ok(()))),
-                StoryLine::Second(Call::ForcePush(2), Reply::ForcePush(Ok(Some(1)))),
-                StoryLine::First(Call::Pop, Reply::Pop(Ok(2))),
-                StoryLine::First(Call::Push(3), Reply::Push(Ok(()))),
-                StoryLine::Second(Call::Close, Reply::Close(true)),
-            ],
-            left: &[3],
-            closed: true,
-        },
-        0,
-    ),
-    (
-        Duet {
-            name: "a ring that asks for no more",
-            cap: Some(2),
-            lines: &[
-                StoryLine::First(Call::Push(1), Reply::Push(Ok(()))),
-                StoryLine::Second(Call::Push(2), Reply::Push(Ok(()))),
-                StoryLine::Second(Call::ForcePush(3), Reply::ForcePush(Ok(Some(1)))),
-                StoryLine::First(Call::Pop, Reply::Pop(Ok(2))),
-                StoryLine::First(Call::Push(4), Reply::Push(Ok(()))),
-                StoryLine::Second(Call::Close, Reply::Close(true)),
-            ],
-            left: &[3, 4],
-            closed: true,
-        },
-        2,
-    ),
-];
-
-/// Asserts that the calls ask for no memory, and neither does the end of the sharing, after which so many blocks stay until the queue is dropped.
-fn asks_no_more<R: Wait + Abort>(rt: &R, alloc: Global, story: &Duet, blocks: u64) {
+/// Calls, a split and a join. Asserts that they ask for no memory, and neither does the end of the sharing, after which so many blocks stay until the queue is dropped.
+fn asks_no_more<R: Wait + Abort>(rt: &R, alloc: Global, cap: usize, blocks: u64) {
     let heap = Heap::new(alloc, Refusal::Never);
-    let (queue, party) = open_surely(rt, &heap, story.cap);
+    let (queue, party) = open_surely(rt, &heap, Some(cap));
     let requests = heap.requests();
-    let alone = tell(rt, queue, party, story);
-    let live = heap.live();
+    let (first, second) = part(rt, &queue, party);
+    let mut party = queue.join(first, second);
+    let popped = find_each(rt, &queue, &mut party, Deed::PushAndPop, 0..4);
+    let filled = find_each(rt, &queue, &mut party, Deed::PushOnce, 0..cap as u64);
+    let forced = find_each(rt, &queue, &mut party, Deed::ForceAndPop, 0..4);
+    queue.close(&mut party);
+    let alone = end(rt, queue, party);
+    let left = (alone.len(), heap.live());
     drop(alone);
-    let seen = [heap.requests(), live, heap.live()];
-    is_in(rt, story.name, seen, [requests, blocks, 0]);
+    let seen = ([popped, filled, forced], left, heap.live());
+    is_in(rt, cap, seen, ([true; 3], (cap, blocks), 0));
+    is_in(rt, cap, heap.requests(), requests);
 }
 
-/// The calls ask for no memory, and neither does the end of the sharing, which gives all back. What is left comes out in its order.
+/// The calls ask for no memory, and neither does the end of the sharing, which gives all back: a ring lies in the same memory then.
 #[test]
 fn no_request_after_the_constructor(rt: HostRuntime) {
-    for (story, blocks) in STORIES.iter() {
-        asks_no_more(&rt, rt.alloc(), story, *blocks);
+    for (cap, blocks) in [(1, 0), (2, 2)] {
+        asks_no_more(&rt, rt.alloc(), cap, blocks);
     }
 }

@@ -1,10 +1,7 @@
 //! Threads that share a queue, a party each.
-use crate::asserts::{is, is_in};
+use crate::asserts::is_in;
 use crate::crew::{Assignment, Board, Deed, Role, TURNS, crew};
 use crate::opening::{end, open_surely};
-use crate::shared::handles;
-use callers::handle::sum_of_a_thread;
-use callers::parties::{closed_by_many, hand_over, hand_to_many, through_a_shared_slot};
 use std::alloc::Global;
 use std::process::Abort;
 use std::sync::Wait;
@@ -130,39 +127,4 @@ fn ring_buffer_of_one_thread(rt: HostRuntime) {
 #[test]
 fn ring_buffer_of_four_threads(rt: HostRuntime) {
     works(&rt, rt.alloc(), &FOUR_RING_BUFFERS);
-}
-
-#[test]
-fn handed_over(rt: HostRuntime) {
-    is(&rt, hand_over(&rt, rt.alloc(), TURNS), Ok((312_487_500, 0)));
-}
-
-#[test]
-fn handed_to_one_and_to_five(rt: HostRuntime) {
-    let one = hand_to_many(&rt, rt.alloc(), 1000, 0);
-    let five = hand_to_many(&rt, rt.alloc(), 1000, 4);
-    is(&rt, (one, five), (Ok((499_500, 0)), Ok((499_500, 0))));
-}
-
-#[test]
-fn sent_by_a_thread_with_a_handle(rt: HostRuntime) {
-    let (sum, handle) = sum_of_a_thread(rt, rt.alloc(), 1000).expect(&rt, "memory");
-    is(&rt, (sum, handles::end(handle)), (499_500, Ok(0)));
-}
-
-#[test]
-fn through_one_party(rt: HostRuntime) {
-    is(
-        &rt,
-        through_a_shared_slot(&rt, rt.alloc(), 7, 8),
-        Ok((7, 8)),
-    );
-}
-
-#[test]
-fn closed_by_two_thousand(rt: HostRuntime) {
-    for cap in KINDS {
-        let (queue, party) = open_surely(&rt, rt.alloc(), cap);
-        is_in(&rt, cap, closed_by_many(queue, party, 2000), (true, 0));
-    }
 }

@@ -9,12 +9,10 @@ use crate::channel::ends::Call::{
     Capacity, Close, End, EndOneOfTwo, ForceSend, IsClosed, Items, Len, Recv, Send, TryRecv,
     TrySend,
 };
-use crate::channel::opening::{Left, end_both, left, opened_over};
+use crate::channel::opening::{Left, end_both, left, opened_over, opened_surely};
 use crate::channel::stories::{Line, Story, tell};
-use crate::opening::{open_surely, part};
-use callers::channel::{end_rejoined, hand_through};
-use concurrent_queue::{Party, PopError, PushError};
-use counted_channel::{Channel, Disconnected, Receiver, SendError};
+use concurrent_queue::{ConcurrentQueue, Party, PopError, PushError};
+use counted_channel::{Channel, Disconnected, Receiver, SendError, Sender};
 use std::alloc::Global;
 use std::fmt::{Debug, Display};
 use std::process::Abort;
@@ -168,8 +166,10 @@ fn each_story_is_right(rt: HostRuntime) {
 fn with_another_party(rt: &impl Abort, alloc: Global) -> (Channel<u64>, Party<u64>, Party<u64>)
     ensures { IsPartyOf result.1 result.0.queue × IsPartyOf result.2 result.0.queue }
 {
-    let (queue, party) = open_surely(rt, alloc, Some(1));
-    let (party, other) = part(rt, &queue, party);
+    let (queue, party) = ConcurrentQueue::bounded(alloc, 1).expect(rt, "memory");
+    let Ok((party, other)) = queue.split(party) else {
+        panic!(rt; "no second party")
+    };
     let (channel, sender, receiver) = opened_over(rt, alloc, queue, party);
     let party = end_both(&channel, sender, receiver);
     (channel, party, other)
@@ -198,6 +198,16 @@ fn a_party_that_is_left_out_keeps_the_channel(rt: HostRuntime) {
     is(&rt, left(channel, Some(party)).is_some(), true);
 }
 
+/// A sender is parted, joined again and ended. Gives its party.
+fn end_sender_rejoined(rt: &impl Abort, channel: &Channel<u64>, sender: Sender<u64>) -> Party<u64>
+    requires { IsEndOf sender channel.now }
+    ensures { IsPartyOf result channel.now.queue }
+{
+    let (one, two) = sender.two(rt, channel);
+    let (party, _) = channel.end_sender(channel.join_senders(one, two));
+    party
+}
+
 /// A receiver is parted, joined again and ended. Gives its party.
 fn end_receiver_rejoined(
     rt: &impl Abort,
@@ -214,9 +224,8 @@ fn end_receiver_rejoined(
 
 /// What is left where a sender is parted, joined again and ended, and a receiver is parted, joined and ended.
 fn end_both_rejoined(rt: &impl Abort, alloc: Global) -> Option<Left> {
-    let (queue, party) = open_surely(rt, alloc, Some(1));
-    let (channel, sender, receiver) = opened_over(rt, alloc, queue, party);
-    let first = end_rejoined(&channel, sender);
+    let (channel, sender, receiver) = opened_surely(rt, alloc, Some(1));
+    let first = end_sender_rejoined(rt, &channel, sender);
     let second = end_receiver_rejoined(rt, &channel, receiver);
     let party = channel.join(first, second);
     left(channel, Some(party))
@@ -227,13 +236,6 @@ fn ends_that_are_joined_end_once(rt: HostRuntime) {
     let closed = Err(PopError::Closed);
     let left = end_both_rejoined(&rt, rt.alloc());
     is(&rt, left, Some((0, true, closed, closed)));
-}
-
-#[test]
-fn a_value_goes_through_a_slot(rt: HostRuntime) {
-    let handed = hand_through(&rt, rt.alloc(), 7).expect(&rt, "memory");
-    let seen = (handed.sent, handed.came, handed.then, handed.left);
-    is(&rt, seen, (Ok(()), Ok(7), Err(Disconnected), 0));
 }
 
 /// Whether an error is printed so: as it is, in a field of eight, and for debugging.

@@ -2,10 +2,9 @@
 ghost use Rattle.concurrent_queue.specs.Shared.{IsPartyOf};
 ghost use Rattle.counted_channel.specs.Channel.{IsEndOf};
 
-use crate::asserts::{is, is_in};
+use crate::asserts::is;
 use crate::channel::ends::AnyEnd;
 use crate::channel::opening::{Left, left, opened_surely};
-use callers::channel::gather;
 use concurrent_queue::Party;
 use counted_channel::{Channel, Receiver, SendError, Sender};
 use std::alloc::Global;
@@ -101,17 +100,4 @@ fn as_many_are_sent_as_are_taken_or_left(rt: HostRuntime) {
         None => false,
     };
     is(&rt, (right, taken, fits), (true, 50, true));
-}
-
-#[test]
-fn all_that_two_threads_send_comes(rt: HostRuntime) {
-    for cap in [1usize, 3, 5000] {
-        let all = gather(&rt, rt.alloc(), cap, 1000).expect(&rt, "memory");
-        is_in(
-            &rt,
-            cap,
-            (all.sent, all.came, all.left),
-            ((1000, 1000), 2000, 0),
-        );
-    }
 }

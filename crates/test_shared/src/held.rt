@@ -1,3 +1,0 @@
-//! Calls that are held between their steps.
-pub mod stories;
-pub mod telling;
