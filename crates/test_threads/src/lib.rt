@@ -10,6 +10,8 @@ mod channel;
 #[cfg(test)]
 mod handles;
 #[cfg(test)]
+mod opening;
+#[cfg(test)]
 mod sleep;
 #[cfg(test)]
 mod uses;

@@ -13,7 +13,7 @@ use crate::stories::lines::{
 };
 use app_text::replies::ReplyText;
 use concurrent_queue::{Outcome, Party};
-use queue_steps::model::Call;
+use queue_steps::model::{Call, Reply};
 use queue_steps::steps::{Link, Op, READ, TAIL_STEP, WRITE, Word};
 use shared_chain::source::Granting;
 use std::alloc::Global;
@@ -44,6 +44,23 @@ fn again(call: &Call<u64>) -> Op<()> {
     }
 }
 
+/// Makes a call that has to wait, and comes again to this operation while it does.
+fn call_waiting<'a, R: Wait>(
+    rt: &R,
+    queue: &Queue,
+    party: &mut Party<u64>,
+    call: Call<u64>,
+    at: &'a Op<()>,
+    signs: &'a Signs,
+) -> Reply<u64>
+    requires { IsPartyOf party.old queue.now }
+    ensures { IsPartyOf party.new queue.now }
+{
+    let part = Part::Waits(AtomicBool::new(false));
+    let gate = Meeting { at, part, signs };
+    queue.answer::<Granting, R, Meeting<'_>, Told>(rt, &gate, party, call)
+}
+
 /// Makes a call that has to wait. Asserts its reply, and that it has that once the held call goes on.
 fn waits<R: Wait + Abort>(
     rt: &R,
@@ -60,13 +77,7 @@ fn waits<R: Wait + Abort>(
     let (deed, wanted) = sides(rt, said);
     let call = call_of(rt, deed);
     let again = again(&call);
-    let part = Part::Waits(AtomicBool::new(false));
-    let gate = Meeting {
-        at: &again,
-        part,
-        signs,
-    };
-    let reply = queue.answer::<Granting, R, Meeting<'_>, Told>(rt, &gate, &mut party, call);
+    let reply = call_waiting(rt, queue, &mut party, call, &again, signs);
     is_in(rt, at, signs.let_go.load(Ordering::SeqCst), true);
     let outcome = Outcome::Done(party, reply);
     is_said(rt, alloc, at, words_of(&outcome), wanted);

@@ -4,6 +4,7 @@ ghost use Rattle.counted_channel.specs.Channel.{IsEndOf};
 
 use crate::asserts::is;
 use crate::channel::opening::{Sent, end_both, opened};
+use crate::opening::open_surely;
 use concurrent_queue::{ConcurrentQueue, Party};
 use counted_channel::{Channel, Receiver, SendError, Sender, channel};
 use std::alloc::Global;
@@ -40,7 +41,7 @@ fn taken_back<R: Wait>(rt: &R, queue: ConcurrentQueue<u64, &Heap>, mut party: Pa
 
 /// Makes a channel of a queue with the item 1, and ends and finishes it, or takes the queue back. The queue takes its memory elsewhere.
 fn make<R: Wait + Abort>(rt: &R, heap: &Heap, counts: &Heap) -> Made {
-    let (queue, mut party) = ConcurrentQueue::bounded(heap, 2).expect(rt, "memory");
+    let (queue, mut party) = open_surely(rt, heap, Some(2));
     is(rt, queue.push(rt, &mut party, 1).is_ok(), true);
     match channel(counts, queue, party) {
         Ok((channel, sender, receiver)) => ended(channel, sender, receiver, counts),

@@ -3,6 +3,7 @@ ghost use Rattle.std.specs.Prelude.{IfOk, IfSome};
 ghost use Rattle.concurrent_queue.specs.Shared.{IsPartyOf};
 ghost use Rattle.counted_channel.specs.Channel.{IsEndOf, Opens};
 
+use crate::opening::open;
 use concurrent_queue::{ConcurrentQueue, Exclusive, NullTestable, Party, PopError};
 use counted_channel::{Channel, Disconnected, Receiver, SendError, Sender, channel};
 use std::alloc::{AllocError, Allocator, Global};
@@ -21,11 +22,7 @@ pub type Opened<A> = Result<(Channel<u64, A>, Sender<u64>, Receiver<u64>), Alloc
 pub fn opened<A: NullTestable + Copy>(rt: &impl Abort, alloc: A, cap: Option<usize>) -> Opened<A>
     ensures { IfOk result (λ r. IsEndOf r.1 r.0 × IsEndOf r.2 r.0) }
 {
-    let (queue, party) = match cap {
-        Some(0) => panic!(rt; "a capacity of 0"),
-        Some(slots) => ConcurrentQueue::bounded(alloc, slots),
-        None => ConcurrentQueue::unbounded(alloc),
-    }?;
+    let (queue, party) = open(rt, alloc, cap)?;
     match channel(alloc, queue, party) {
         Ok(opened) => Ok(opened),
         Err(_) => Err(AllocError),

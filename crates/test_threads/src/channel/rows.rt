@@ -9,9 +9,10 @@ use crate::channel::ends::Call::{
     Capacity, Close, End, EndOneOfTwo, ForceSend, IsClosed, Items, Len, Recv, Send, TryRecv,
     TrySend,
 };
-use crate::channel::opening::{Left, end_both, left, opened_over, opened_surely};
+use crate::channel::opening::{Left, end_both, left, opened_over};
 use crate::channel::stories::{Line, Story, tell};
-use concurrent_queue::{ConcurrentQueue, Party, PopError, PushError};
+use crate::opening::{open_surely, part};
+use concurrent_queue::{Party, PopError, PushError};
 use counted_channel::{Channel, Disconnected, Receiver, SendError, Sender};
 use std::alloc::Global;
 use std::fmt::{Debug, Display};
@@ -166,10 +167,8 @@ fn each_story_is_right(rt: HostRuntime) {
 fn with_another_party(rt: &impl Abort, alloc: Global) -> (Channel<u64>, Party<u64>, Party<u64>)
     ensures { IsPartyOf result.1 result.0.queue × IsPartyOf result.2 result.0.queue }
 {
-    let (queue, party) = ConcurrentQueue::bounded(alloc, 1).expect(rt, "memory");
-    let Ok((party, other)) = queue.split(party) else {
-        panic!(rt; "no second party")
-    };
+    let (queue, party) = open_surely(rt, alloc, Some(1));
+    let (party, other) = part(rt, &queue, party);
     let (channel, sender, receiver) = opened_over(rt, alloc, queue, party);
     let party = end_both(&channel, sender, receiver);
     (channel, party, other)
@@ -224,7 +223,8 @@ fn end_receiver_rejoined(
 
 /// What is left where a sender is parted, joined again and ended, and a receiver is parted, joined and ended.
 fn end_both_rejoined(rt: &impl Abort, alloc: Global) -> Option<Left> {
-    let (channel, sender, receiver) = opened_surely(rt, alloc, Some(1));
+    let (queue, party) = open_surely(rt, alloc, Some(1));
+    let (channel, sender, receiver) = opened_over(rt, alloc, queue, party);
     let first = end_sender_rejoined(rt, &channel, sender);
     let second = end_receiver_rejoined(rt, &channel, receiver);
     let party = channel.join(first, second);
