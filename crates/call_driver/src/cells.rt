@@ -11,8 +11,7 @@ ghost use Rattle.queue_steps.specs.Sequential.{Owned};
 ghost use Rattle.queue_steps.specs.LookNext.{IsLoad};
 ghost use Rattle.call_driver.specs.EndsIn.{EndsRight};
 
-use call_steps::KindSteps;
-use queue_steps::steps::{Answer, Kind, Op, Touch};
+use queue_steps::steps::{Answer, Kind, KindSteps, Op, Touch};
 
 /// Where the steps of the calls of one owner are done.
 pub trait OwnCells {

@@ -15,10 +15,9 @@ use crate::progress::Progress;
 use crate::retry::End;
 use crate::site::{SharedSite, Site};
 use crate::steps::end;
-use call_steps::KindSteps;
 use queue_steps::model::{Call, CallKind, Reply, ReplyKind};
 use queue_steps::sizes::WAIT_FREE_STEPS;
-use queue_steps::steps::{Answer, Kind, Local, Next};
+use queue_steps::steps::{Answer, Kind, KindSteps, Local, Next};
 use std::mem;
 use std::ops::ControlFlow;
 
@@ -34,7 +33,7 @@ pub fn begin<M: Site>(
     ensures begun { (whole : SpecCall M.Item) (n : ℕ) → call ≡ call_kind whole → suc n ≡ SOLO_STEPS → OnWay M.Site n result.0 call site.now seat.now whole result.1 (call_value whole) seat.now }
 {
     let kind = M::kind(site, seat);
-    let local: Local<M::Block> = call_steps::start(kind, call);
+    let local: Local<M::Block> = queue_steps::steps::start(kind, call);
     (
         kind,
         Progress {
@@ -147,7 +146,7 @@ pub fn drive_wait_free<M: SharedSite, G: Gate>(
 {
     let kind = M::kind(site, seat);
     let (call, mut carried) = call.split();
-    let mut local: Local<M::Block> = call_steps::start(kind, call);
+    let mut local: Local<M::Block> = queue_steps::steps::start(kind, call);
     let mut answer: Answer<M::Block> = Answer::Start;
     for _ in 0..WAIT_FREE_STEPS + 1 {
         let todo = M::Steps::next(kind, local, answer);

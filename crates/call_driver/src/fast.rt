@@ -8,13 +8,12 @@ use crate::gate::Gate;
 use crate::progress::Progress;
 use crate::site::Site;
 use crate::steps::{fast_step, passing_step};
-use call_steps::stages::{
+use queue_steps::model::{CallKind, ReplyKind};
+use queue_steps::steps::stages::{
     ASKING, AWAITING, CHAINING, CLAIMING, ENTERING, FOLLOWING, LAYING, OPENING, PASSING, PEEKING,
     PUSH_BLOCK, TAKING, is_at,
 };
-use call_steps::{KindSteps, blocks};
-use queue_steps::model::{CallKind, ReplyKind};
-use queue_steps::steps::Kind;
+use queue_steps::steps::{Kind, KindSteps, blocks};
 use std::marker::PhantomData;
 use std::ops::ControlFlow;
 

@@ -11,10 +11,9 @@ use crate::fast::Usual;
 use crate::gate::Open;
 use crate::retry::{OverBlocks, Within};
 use crate::site::{Site, SoloSite};
-use call_steps::KindSteps;
 use queue_steps::model::{Call, CallKind, Reply, ReplyKind};
 use queue_steps::sizes::SOLO_STEPS;
-use queue_steps::steps::{Answer, Kind, Local, Next, Op, Touch};
+use queue_steps::steps::{Answer, Kind, KindSteps, Local, Next, Op, Touch};
 use std::marker::PhantomData;
 
 /// One owner. What the steps of its calls are done with is the cells themselves, and nothing is shared.
@@ -138,7 +137,7 @@ pub fn observe<C: OwnCells>(cells: &C, call: CallKind) -> ReplyKind
     ensures { result ≡ look_reply (C.owned cells.now).queue call }
 {
     let kind = cells.kind();
-    let mut local: Local<C::Block> = call_steps::start(kind, call);
+    let mut local: Local<C::Block> = queue_steps::steps::start(kind, call);
     let mut answer: Answer<C::Block> = Answer::Start;
     for _ in 0..SOLO_STEPS {
         let todo = C::Steps::next(kind, local, answer);

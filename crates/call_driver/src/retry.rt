@@ -8,10 +8,9 @@ use crate::gate::Gate;
 use crate::progress::Progress;
 use crate::site::{Site, SoloSite};
 use crate::steps::{any_step, walking_step};
-use call_steps::{KindSteps, blocks};
 use queue_steps::model::{CallKind, ReplyKind};
 use queue_steps::sizes::{BLOCK_SLOTS, SOLO_STEPS};
-use queue_steps::steps::Kind;
+use queue_steps::steps::{Kind, KindSteps, blocks};
 use std::ops::ControlFlow;
 
 /// The steps of a call that walks over a block, until it does another. The compiler knows in this loop where the call stands.

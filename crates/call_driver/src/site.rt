@@ -11,9 +11,8 @@ ghost use Rattle.queue_steps.specs.Kinds.{call_kind};
 ghost use Rattle.queue_steps.specs.WaitFree.{is_wait_free, EndsWaitFree};
 ghost use Rattle.call_driver.specs.Leads.{Begins, GoesOn};
 
-use call_steps::KindSteps;
 use queue_steps::model::CallKind;
-use queue_steps::steps::{Answer, Kind, Local, Op, Touch};
+use queue_steps::steps::{Answer, Kind, KindSteps, Local, Op, Touch};
 
 /// Where the steps of calls are done: what the parties share, and a seat, with which each does its own steps.
 pub trait Site {

@@ -7,9 +7,8 @@ ghost use Rattle.call_driver.specs.OnWay.{IsUnderWay, TakesStep};
 use crate::gate::Gate;
 use crate::progress::Progress;
 use crate::site::Site;
-use call_steps::{KindSteps, blocks};
 use queue_steps::model::{CallKind, ReplyKind};
-use queue_steps::steps::{Kind, Next};
+use queue_steps::steps::{Kind, KindSteps, Next, blocks};
 use std::ops::ControlFlow;
 
 /// Gives up the block that a reply hands out.

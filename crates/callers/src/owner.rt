@@ -1,4 +1,4 @@
-//! The callers that `exclusive_queue/CALLING.md` and `call_steps/CALLING.md` show.
+//! The callers that `exclusive_queue/CALLING.md` and `queue_steps/CALLING.md` show.
 ghost use Rattle.std.specs.Prelude.{◌≡◌, ◌≢◌, ◌<◌, ℕ, List, [], ◌∷◌, ◌++◌, false, None, Some, IfOk, IfErr};
 ghost use Rattle.queue_steps.specs.declared.sizes.TheConstants.{LIMIT};
 ghost use Rattle.queue_steps.specs.declared.errors.PushError.TheVariants as push;
@@ -57,8 +57,8 @@ pub fn one_of_two<A: Allocator + Clone>(
 pub fn first_step_of_a_pop() -> Next<()>
     ensures { result ≡ next.Step (local.Single (slot.Popping 2)) touch.Nothing (op.Exchange word.Lock 2 1) }
 {
-    let local = call_steps::start(Kind::Single, Call::Pop);
-    call_steps::next(Kind::Single, local, Answer::Start)
+    let local = queue_steps::steps::start(Kind::Single, Call::Pop);
+    queue_steps::steps::next(Kind::Single, local, Answer::Start)
 }
 
 /// Takes the front of a queue that has an item.

@@ -8,7 +8,6 @@ ghost use Rattle.machine_steps.specs.Machine.{world_of, event_of, CanHandle, Han
 ghost use Rattle.machine_steps.specs.Steps.{running_after, reply_after, CanReply, CanStep, CanStart, step_of, spare_in};
 ghost use Rattle.machine_steps.specs.World.{stepped};
 
-use call_steps::{next, start};
 use machine_memory::calls::Running;
 use machine_memory::effects::effect;
 use machine_memory::feeding::feed_calls;
@@ -16,7 +15,7 @@ use machine_memory::same::{Same, all_same};
 use machine_memory::shared_memory::{SharedMemory, vacant};
 use machine_memory::types::{Event, Handled, Told};
 use queue_steps::model::{Call, Reply};
-use queue_steps::steps::{Answer, Kind, Next};
+use queue_steps::steps::{Answer, Kind, Next, next, start};
 use std::alloc::{AllocError, Allocator};
 use std::hash::{Hash, Hasher};
 

@@ -3,8 +3,7 @@ ghost use Rattle.std.specs.Prelude.{◌≡◌};
 ghost use Rattle.queue_steps.specs.LookNext.{IsLoad};
 
 use call_driver::cells::OwnCells;
-use call_steps::SlotSteps;
-use queue_steps::steps::{Answer, Kind, Op, Touch, Word};
+use queue_steps::steps::{Answer, Kind, Op, SlotSteps, Touch, Word};
 use std::mem;
 
 /// The slot, and the word that says what is in it.

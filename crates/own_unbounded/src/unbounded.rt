@@ -4,11 +4,10 @@ ghost use Rattle.queue_steps.specs.LookNext.{IsLoad};
 ghost use Rattle.own_unbounded.specs.OwnChainCells.{state_block as spec_state_block};
 
 use call_driver::cells::{OwnCells, exchange};
-use call_steps::ChainSteps;
 use mem_blocks::block::Loose;
 use mem_blocks::chain::Chain;
 use mem_blocks::item::{Item, Place};
-use queue_steps::steps::{Answer, Kind, Op, Touch, Word};
+use queue_steps::steps::{Answer, ChainSteps, Kind, Op, Touch, Word};
 use std::alloc::{AllocError, Allocator};
 use std::marker::Model;
 

@@ -19,10 +19,9 @@ use call_driver::gate::Gate;
 use call_driver::progress::Progress;
 use call_driver::retry::retry;
 use call_driver::site::Site;
-use call_steps::KindSteps;
 use queue_steps::model::{Call, CallKind, Reply};
 use queue_steps::sizes::SOLO_STEPS;
-use queue_steps::steps::{Kind, Next};
+use queue_steps::steps::{Kind, KindSteps, Next};
 use std::ops::ControlFlow;
 
 /// How many steps a call takes at most from its effect on, its reply with them, but for a pop on a chain.

@@ -12,12 +12,11 @@ ghost use Rattle.shared_parties.specs.CallStates.{idle, IsLoneSeat};
 
 use crate::table::{SharedTable, Sizes, TableKind, TableSteps};
 use atomic_table::Seat;
-use call_steps::RingSteps;
 use exclusive_queue::Exclusive;
 use own_bounded::ring_words::{HEAD, STAMPS, TAIL, words_before_stamps};
 use own_bounded::vacant::{discard, empty_slots, table_of};
 use queue_steps::sizes::MAX_CAPACITY;
-use queue_steps::steps::{Kind, Word};
+use queue_steps::steps::{Kind, RingSteps, Word};
 use shared_parties::known::CallState;
 use std::alloc::{AllocError, Allocator};
 

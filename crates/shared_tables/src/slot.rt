@@ -10,9 +10,8 @@ ghost use Rattle.own_slot.specs.SingleCells.{IsIdle, single_owned};
 
 use crate::table::{SharedTable, Sizes, TableKind, TableSteps};
 use atomic_table::{Seat, Table};
-use call_steps::SlotSteps;
 use own_slot::Single;
-use queue_steps::steps::{Kind, Word};
+use queue_steps::steps::{Kind, SlotSteps, Word};
 use shared_parties::known::CallState;
 use std::alloc::{AllocError, Allocator};
 

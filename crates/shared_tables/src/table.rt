@@ -10,9 +10,8 @@ use crate::clauses::{compare_exchange, fetch_add, fetch_or, fetch_sub, load, sto
 use crate::touching::touch;
 use atomic_table::{Play, Seat, Shared, Table, TableRule};
 use call_driver::site::{SharedSite, Site};
-use call_steps::KindSteps;
 use queue_steps::model::CallKind;
-use queue_steps::steps::{Answer, Kind, Local, Op, Touch, Word};
+use queue_steps::steps::{Answer, Kind, KindSteps, Local, Op, Touch, Word};
 use shared_parties::call_tag::CallTag;
 use shared_parties::known::CallState;
 use std::alloc::Allocator;

@@ -5,6 +5,9 @@ ghost use Rattle.std.specs.Prelude.{◌≡◌, ⊤};
 use crate::steps::Look;
 use std::alloc::AllocError;
 
+pub mod each;
+pub mod following;
+
 /// What is set in a tail once the queue is closed.
 pub const MARK: u64 = 1;
 

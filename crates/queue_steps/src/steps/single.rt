@@ -1,6 +1,8 @@
 //! Where a call on one slot is, and the bits of its word.
 use crate::steps::Look;
 
+pub mod each;
+
 /// The slot is in some call's hands.
 pub const LOCKED: u64 = 1;
 

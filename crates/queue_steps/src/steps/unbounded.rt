@@ -6,6 +6,9 @@ ghost use Rattle.std.specs.Prelude.{◌≡◌, ⊤};
 use crate::steps::{Look, PushKind};
 use std::alloc::AllocError;
 
+pub mod each;
+pub mod following;
+
 /// The slot's item is written.
 pub const WRITE: u64 = 1;
 

@@ -2,12 +2,11 @@
 ghost use Rattle.queue_steps.specs.Words.{IsWord};
 
 use crate::asserts::is;
-use call_steps::next;
 use queue_steps::errors::{ForcePushError, PushError};
 use queue_steps::model::Reply;
 use queue_steps::sizes::{BLOCK_POSITIONS, BLOCK_SLOTS, LIMIT};
 use queue_steps::steps::{
-    Answer, BoundedLocal, Kind, Local, Next, Op, PushKind, UnboundedLocal, Word,
+    Answer, BoundedLocal, Kind, Local, Next, Op, PushKind, UnboundedLocal, Word, next,
 };
 
 /// Whether a push closes the queue next, and whether it is answered that the queue is closed.

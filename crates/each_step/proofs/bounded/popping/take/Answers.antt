@@ -1,4 +1,0 @@
-use Rattle.each_step.proofs.bounded.popping.take.Goals as goal
-
-pub returns : goal.returns
-returns g c = search
