@@ -4,7 +4,7 @@ use Rattle.std.specs.Option.{IfSome}
 use Rattle.queue_steps.specs.declared.model.Call.TheVariants as call
 use Rattle.queue_steps.specs.declared.model.Reply.TheVariants as reply
 use Rattle.queue_steps.specs.Parties.{View, SharedCall}
-use Rattle.law_moments.proofs.Sharing.{shared_calls_at_once}
+use Rattle.queue_laws.proofs.Moment.Sharing.{shared_calls_at_once}
 use Rattle.concurrent_queue.specs.Shared.{QueueId, PartyView, IsPartyOf, Calls}
 use Rattle.callers.specs.Displaced.{DisplacedAtOnce}
 

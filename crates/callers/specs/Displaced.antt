@@ -7,9 +7,9 @@ use Rattle.queue_steps.specs.declared.model.Effect.{Effect}
 use Rattle.queue_steps.specs.Effect.{IsHistory, after}
 use Rattle.queue_steps.specs.Replies.{Tells}
 use Rattle.queue_steps.specs.Parties.{View}
-use Rattle.law_moments.specs.Moments.{IsAtOnce, arrived}
-use Rattle.law_moments.specs.Entries.{effects_in}
-use Rattle.law_moments.specs.Shared.{is_own, settled_history, StandsTogether}
+use Rattle.queue_laws.specs.Moment.Moments.{IsAtOnce, arrived}
+use Rattle.queue_laws.specs.Moment.Entries.{effects_in}
+use Rattle.queue_laws.specs.Moment.Shared.{is_own, settled_history, StandsTogether}
 
 -- At the places that the party's call has added, its effects are those of a forced push that put the value for the old item, in what the history h settles into: one right after the other, past what the party
 -- had seen before and within what it has seen then.

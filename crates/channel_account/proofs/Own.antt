@@ -5,14 +5,14 @@ use Rattle.std.proofs.lemmas.List.Elements.{All-head, All-tail}
 use mathlib.Core.List.{IsPrefix}
 use mathlib.Core.Option.{none, some}
 use lib.ListN.{get_elem?}
-use Rattle.law_common.specs.Vocabulary.{Effect}
+use Rattle.queue_laws.specs.Common.Vocabulary.{Effect}
 use Rattle.queue_steps.specs.declared.model.Call.{Call}
 use Rattle.queue_steps.specs.declared.model.Reply.{Reply}
 use Rattle.queue_steps.specs.declared.model.Call.TheVariants as call
 use Rattle.queue_steps.specs.declared.model.Reply.TheVariants as reply
 use Rattle.queue_steps.specs.Shares.{entire}
 use Rattle.queue_steps.specs.Parties.{View, IsView, StandAt}
-use Rattle.law_histories.specs.Histories.{handed_in, handed_out}
+use Rattle.queue_laws.specs.History.Histories.{handed_in, handed_out}
 use Rattle.law_parties.proofs.Drained.{saw_drained, still_drained}
 use Rattle.law_parties.specs.Doings.{SawDrained}
 use Rattle.concurrent_queue.specs.Shared.{PartyView, Calls, Parts, Joins}

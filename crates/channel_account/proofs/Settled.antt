@@ -4,12 +4,12 @@ use Rattle.std.specs.List.{count_by}
 use Rattle.std.proofs.lemmas.List.Sums.{sum_by-cons, sum_by-append}
 use mathlib.Core.Option.{some, none}
 use lib.ListN.{get_elem?}
-use Rattle.law_common.specs.Vocabulary.{Effect}
+use Rattle.queue_laws.specs.Common.Vocabulary.{Effect}
 use Rattle.queue_steps.specs.Effect.{after}
 use Rattle.queue_steps.specs.Legal.{IsSoundOwned}
 use Rattle.queue_steps.specs.Sequential.{Owned}
 use Rattle.queue_steps.specs.Parties.{IsView}
-use Rattle.law_histories.specs.Histories.{handed_in, handed_out}
+use Rattle.queue_laws.specs.History.Histories.{handed_in, handed_out}
 use Rattle.law_parties.specs.Doings.{passes, done_by, hands_in_such, hands_out_such}
 use Rattle.law_parties.proofs.Drained.{is_drained}
 use Rattle.law_parties.proofs.Whole.{all_kept, ins, outs, one_more}

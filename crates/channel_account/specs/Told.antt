@@ -1,7 +1,7 @@
 -- What an end has sent and received: the items of the effects at its party's own places.
 use Rattle.std.specs.Prelude.{◌≡◌, ℕ, Bool, List, [], ◌++◌, Option}
 use Rattle.std.specs.List.{count_by}
-use Rattle.law_histories.specs.Histories.{handed_in, handed_out}
+use Rattle.queue_laws.specs.History.Histories.{handed_in, handed_out}
 use Rattle.law_parties.specs.Doings.{SawDrained}
 use Rattle.concurrent_queue.specs.Shared.{PartyView}
 use Rattle.channel_account.specs.Own.{own}

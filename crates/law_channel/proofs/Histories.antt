@@ -1,7 +1,7 @@
 -- Each history of the queue is that of a run, in which each party acts once.
 use Rattle.std.proofs.Common.{◌≡◌, ◌≢◌, ℕ, zero, suc, ◌+◌, ◌-◌, ◌<◌, ◌≤◌, ◌==◌, Bool, true, false, if◌then◌else◌, Option, Some, None, List, [], ◌∷◌, length, replicate, slice_get, refl, ap, ◌∙◌, arith}
 use Rattle.queue_steps.specs.Effect as history
-use Rattle.law_common.specs.Vocabulary.{Effect}
+use Rattle.queue_laws.specs.Common.Vocabulary.{Effect}
 use Rattle.law_wakes.specs.declared.steps.Phase.{Phase}
 use Rattle.law_wakes.specs.declared.steps.Phase.TheVariants.{Idle, Prepared, Given, Clearing}
 use Rattle.law_wakes.specs.declared.steps.Step.{Step}

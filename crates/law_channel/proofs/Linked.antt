@@ -3,7 +3,7 @@ use Rattle.std.proofs.Common.{◌≡◌, ◌⊎◌, inl, inr, ℕ, zero, suc, �
 use Rattle.std.proofs.lemmas.Bool.{eqb-false}
 use Rattle.queue_steps.specs.State.{State, fills, is_full}
 use Rattle.queue_steps.specs.Effect.{Fits, made, rest, with_coming}
-use Rattle.law_common.specs.Vocabulary.{Effect}
+use Rattle.queue_laws.specs.Common.Vocabulary.{Effect}
 use Rattle.law_wakes.specs.World.{World, run}
 use Rattle.law_wakes.specs.World as wakes
 use Rattle.law_channel.specs.Machine.{Items, Room, Channel, places, open_channel, Event, Steps, Rises, Prepares, Leaves, Fails, FindsClosed, Acts, TellsAgain, IsAt, is_free, MayAct, takes_place, MayHappen, happens, Runs, after_from}

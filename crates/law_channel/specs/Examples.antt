@@ -1,6 +1,6 @@
 -- Short runs of a channel of numbers, whose queue has one place. The first party waits, and the second wakes it.
 use Rattle.std.specs.Prelude.{◌≡◌, ℕ, List, [], ◌∷◌, ◌++◌, Some}
-use Rattle.law_common.specs.Vocabulary.{Effect}
+use Rattle.queue_laws.specs.Common.Vocabulary.{Effect}
 use Rattle.law_wakes.specs.declared.steps.Phase.TheVariants.{Idle, Returned, Given, Clearing, Waking}
 use Rattle.law_wakes.specs.declared.steps.Whom.TheVariants.{All}
 use Rattle.law_wakes.specs.World.{Party, Awake, Asleep}

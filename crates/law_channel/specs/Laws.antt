@@ -2,7 +2,7 @@
 use Rattle.std.specs.Prelude.{◌≡◌, ◌⊎◌, ℕ, ◌+◌, ◌-◌, true, false, List, [], ◌∷◌, length, Option, Some, None}
 use Rattle.queue_steps.specs.State.{State}
 use Rattle.queue_steps.specs.Effect.{IsHistory, after}
-use Rattle.law_common.specs.Vocabulary.{Effect}
+use Rattle.queue_laws.specs.Common.Vocabulary.{Effect}
 use Rattle.law_wakes.specs.Laws.{Sleeps, AreHeeded, AreRoused, IsTelling}
 use Rattle.law_channel.specs.Machine.{Side, Channel, at_side, open_channel, Event, Acts, Runs, after_from}
 

@@ -3,7 +3,7 @@ use Rattle.std.specs.Prelude.{◌≡◌, ℕ, Bool, true, false, List, [], ◌�
 use Rattle.queue_steps.specs.State.{State, start}
 use Rattle.queue_steps.specs.Effect.{Fits, made}
 use Rattle.queue_steps.specs.Replies.{IsRightAt}
-use Rattle.law_common.specs.Vocabulary.{Call, Reply, Effect, PopError, PushError}
+use Rattle.queue_laws.specs.Common.Vocabulary.{Call, Reply, Effect, PopError, PushError}
 use Rattle.law_wakes.specs.declared.steps.Phase.TheVariants.{Idle, Prepared, Returned}
 use Rattle.law_wakes.specs.World.{Party, Awake, World, run}
 use Rattle.law_wakes.specs.World as wakes

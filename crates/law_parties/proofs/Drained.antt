@@ -7,8 +7,8 @@ use Rattle.queue_steps.specs.declared.model.Reply.TheVariants as reply
 use Rattle.queue_steps.specs.declared.errors.PopError.TheVariants as pop
 use Rattle.queue_steps.specs.Effect.{IsHistory, after}
 use Rattle.concurrent_queue.specs.Shared.{QueueId, PartyView, Calls}
-use Rattle.law_histories.specs.Histories.{IsDrained}
-use Rattle.law_histories.proofs.Closing.{ends_at}
+use Rattle.queue_laws.specs.History.Histories.{IsDrained}
+use Rattle.queue_laws.proofs.History.Closing.{ends_at}
 use Rattle.law_parties.specs.Doings.{SawDrained}
 
 module _ {T : Type 0} where

@@ -7,9 +7,9 @@ use Rattle.queue_steps.specs.declared.model.Effect.{Effect}
 use Rattle.queue_steps.specs.declared.model.Effect.TheVariants as effect
 use Rattle.queue_steps.specs.Effect.{after, with_coming}
 use Rattle.queue_steps.specs.Parties.{View, IsView, IsWhole}
-use Rattle.law_histories.specs.Histories.{handed_in, handed_out}
-use Rattle.law_histories.proofs.Keeping.{keeps_all}
-use Rattle.law_histories.proofs.Numbers.{sum_below, sum_covering, sum_first}
+use Rattle.queue_laws.specs.History.Histories.{handed_in, handed_out}
+use Rattle.queue_laws.proofs.History.Keeping.{keeps_all}
+use Rattle.queue_laws.proofs.History.Numbers.{sum_below, sum_covering, sum_first}
 use Rattle.law_parties.specs.Doings.{passes, done_by, hands_in_such, hands_out_such, hands_in, hands_out}
 
 module _ {T : Type 0} where

@@ -8,7 +8,7 @@ use Rattle.queue_steps.specs.declared.model.Effect.{Effect}
 use Rattle.queue_steps.specs.declared.model.Effect.TheVariants as effect
 use Rattle.queue_steps.specs.Effect.{after}
 use Rattle.queue_steps.specs.Parties.{View}
-use Rattle.law_histories.specs.Histories.{IsDrained}
+use Rattle.queue_laws.specs.History.Histories.{IsDrained}
 use Rattle.concurrent_queue.specs.Shared.{PartyView}
 
 abbrev pub passes : {T : Type 0} → (Effect T → Bool) → Option (Effect T) → Bool

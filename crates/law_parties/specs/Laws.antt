@@ -10,7 +10,7 @@ use Rattle.queue_steps.specs.declared.model.Reply.TheVariants as reply
 use Rattle.queue_steps.specs.declared.errors.PopError.TheVariants as pop
 use Rattle.queue_steps.specs.Effect.{IsHistory, after}
 use Rattle.queue_steps.specs.Parties.{View, IsView, IsWhole, Split, Join, Meet}
-use Rattle.law_histories.specs.Histories.{IsDrained}
+use Rattle.queue_laws.specs.History.Histories.{IsDrained}
 use Rattle.concurrent_queue.specs.SawMore.{SawMore}
 use Rattle.concurrent_queue.specs.Shared.{PartyView, Calls}
 use Rattle.law_parties.specs.Doings.{done_by, hands_in_such, hands_out_such, hands_in, hands_out, Did, Acts, SawClosed, SawDrained}

@@ -5,13 +5,13 @@ use Rattle.queue_steps.specs.declared.steps.types.Kind.{Kind}
 use Rattle.queue_steps.specs.declared.steps.types.Kind.TheVariants as kind
 use Rattle.queue_steps.specs.declared.sizes.TheConstants.{MAX_CAPACITY}
 use Rattle.std.proofs.lemmas.Bool.{ltb-false}
-use Rattle.law_chain.specs.ChainAt as chain
-use Rattle.law_chain.specs.ChainCells.{Chain}
-use Rattle.law_common.specs.Stand.{Stand}
-use Rattle.law_ring.specs.RingAt as ring
-use Rattle.law_ring.specs.RingCells.{Ring}
-use Rattle.law_slot.specs.SlotHolder.{SlotHolder}
-use Rattle.law_slot.specs.SlotRows as slot
+use Rattle.queue_laws.specs.Chain.ChainAt as chain
+use Rattle.queue_laws.specs.Chain.ChainCells.{Chain}
+use Rattle.queue_laws.specs.Common.Stand.{Stand}
+use Rattle.queue_laws.specs.Ring.RingAt as ring
+use Rattle.queue_laws.specs.Ring.RingCells.{Ring}
+use Rattle.queue_laws.specs.Slot.SlotHolder.{SlotHolder}
+use Rattle.queue_laws.specs.Slot.SlotRows as slot
 use Rattle.machine_memory.specs.declared.calls.Running.{Running}
 use Rattle.machine_memory.specs.declared.types.Event.{Event}
 use Rattle.machine_memory.specs.SharedMemory.{Shared}

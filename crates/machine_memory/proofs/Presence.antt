@@ -9,7 +9,7 @@ use Rattle.queue_steps.specs.declared.steps.types.Touch.{Touch}
 use Rattle.queue_steps.specs.declared.steps.types.Touch.TheVariants as touch
 use Rattle.queue_steps.specs.declared.steps.types.Word.{Word}
 use Rattle.queue_steps.specs.declared.steps.types.Word.TheVariants as word
-use Rattle.law_common.specs.Operations.{op_word, op_makes}
+use Rattle.queue_laws.specs.Common.Operations.{op_word, op_makes}
 use Rattle.machine_memory.specs.declared.blocks.BlockPlace.{BlockPlace}
 use Rattle.machine_memory.specs.Blocks.{Block, fresh_block, block_of, with_place, with_next, without}
 use Rattle.machine_memory.specs.SharedMemory.{Shared, word_at, put_word, put_link, put_at, touched, operated}

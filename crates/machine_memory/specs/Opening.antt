@@ -2,7 +2,7 @@
 use Rattle.std.specs.Prelude.{ℕ, None, List, [], replicate}
 use Rattle.queue_steps.specs.declared.steps.types.Kind.{Kind}
 use Rattle.queue_steps.specs.declared.steps.types.Kind.TheVariants as kind
-use Rattle.law_ring.specs.RingOpening.{numbers_below}
+use Rattle.queue_laws.specs.Ring.RingOpening.{numbers_below}
 use Rattle.machine_memory.specs.SharedMemory.{Shared}
 
 -- the stamps of a queue of this kind at its beginning: each slot of a ring is free for the position of its own number

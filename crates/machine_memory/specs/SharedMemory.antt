@@ -10,7 +10,7 @@ use Rattle.queue_steps.specs.declared.steps.types.Touch.{Touch}
 use Rattle.queue_steps.specs.declared.steps.types.Touch.TheVariants as touch
 use Rattle.queue_steps.specs.declared.steps.types.Word.{Word}
 use Rattle.queue_steps.specs.declared.steps.types.Word.TheVariants as word
-use Rattle.law_common.specs.Operations.{op_word, op_makes, answer_for}
+use Rattle.queue_laws.specs.Common.Operations.{op_word, op_makes, answer_for}
 use Rattle.machine_memory.specs.declared.shared_memory.SharedMemory.{SharedMemory}
 use Rattle.machine_memory.specs.Blocks.{Block, fresh_block, block_of, place_count, state_of, item_of, behind, put_state, put_item, put_next}
 

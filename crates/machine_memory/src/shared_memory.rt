@@ -4,7 +4,7 @@ ghost use Rattle.machine_memory.specs.Blocks.{without};
 ghost use Rattle.machine_memory.specs.SharedMemory.{HasWord, word_at, put_word, HasLink, link_at, put_link, CanOperate, asked, granted_if, answered, operated, block_touched, slots_there, item_at, put_at, CanTouch, touched, handed, shared_of};
 ghost use Rattle.machine_memory.specs.Opening.{slot_count, opening_shared, opening_stamps};
 ghost use Rattle.machine_memory.specs.Room.{HasRoom, HasRoomFor, KeepsRoom, HasSameRoom, HasCount};
-ghost use Rattle.law_ring.specs.RingOpening.{numbers_below};
+ghost use Rattle.queue_laws.specs.Ring.RingOpening.{numbers_below};
 
 use crate::blocks::{self, Block};
 use crate::same::{Same, all_same};

@@ -4,9 +4,9 @@ use Rattle.std.specs.List.{AllByRecursion}
 use Rattle.queue_steps.specs.State.{State}
 use Rattle.queue_steps.specs.Effect.{after}
 use Rattle.machine_replay.specs.Vocabulary.{Reply, Event, Replay}
-use Rattle.law_moments.specs.Moments.{IsAtOnce, IsGlance, arrived, settled}
-use Rattle.law_moments.specs.Entries.{settle}
-use Rattle.law_moments.specs.Shared.{StandsTogether}
+use Rattle.queue_laws.specs.Moment.Moments.{IsAtOnce, IsGlance, arrived, settled}
+use Rattle.queue_laws.specs.Moment.Entries.{settle}
+use Rattle.queue_laws.specs.Moment.Shared.{StandsTogether}
 use Rattle.machine_replay.specs.Book.{Allows, IsBegun}
 use Rattle.machine_replay.specs.Conforms.{Conforms}
 use Rattle.machine_replay.specs.InCall.{IsStepOf, IsInCall}

@@ -7,7 +7,7 @@ use Rattle.queue_steps.specs.Replies.{IsRightAt, Tells}
 use Rattle.machine_replay.specs.Vocabulary.{Call, Reply, Effect, Event, EffectKind, Replay, Begin}
 use Rattle.machine_replay.specs.Book.{Allows, IsBegun, has_steps, kind_of}
 use Rattle.machine_replay.specs.Conforms.{Conforms}
-pub use Rattle.law_moments.specs.Entries.{Entry, chosen, effects_in}
+pub use Rattle.queue_laws.specs.Moment.Entries.{Entry, chosen, effects_in}
 use Rattle.machine_replay.specs.InCall.{HasRun, IsStepOf, IsUnanswered, IsInCall}
 
 -- the entries without the values of their effects

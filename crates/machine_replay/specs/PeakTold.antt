@@ -2,7 +2,7 @@
 use Rattle.std.specs.Prelude.{◌≡◌, ℕ, ◌+◌, ◌-◌, ◌/◌, ◌<◌, ◌≤◌, nat_lt, Option, List, length, filter, take}
 use Rattle.machine_replay.specs.Vocabulary.{Reply, BLOCK_SLOTS, Event, Replay}
 use Rattle.queue_steps.specs.Sequential.{blocks_of}
-pub use Rattle.law_moments.specs.Entries.{state_before}
+pub use Rattle.queue_laws.specs.Moment.Entries.{state_before}
 use Rattle.machine_replay.specs.Conforms.{Conforms}
 use Rattle.machine_replay.specs.Meaning.{Entry, HasHistory}
 use Rattle.machine_replay.specs.OneOwner.{calls_from}

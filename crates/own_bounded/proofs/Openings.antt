@@ -8,7 +8,7 @@ use Rattle.atomic_table.specs.Table.{Final}
 use Rattle.queue_steps.specs.declared.sizes.TheConstants.{LIMIT}
 use Rattle.queue_steps.specs.Words.{IsRing, position_of, is_shut, slot_at}
 use Rattle.own_bounded.specs.RingOwned.{HoldsItems, items_of}
-use Rattle.law_ring.proofs.RingIdle.{same_position}
+use Rattle.queue_laws.proofs.Ring.RingIdle.{same_position}
 use Rattle.own_bounded.specs.RingWords.{words_behind}
 use Rattle.own_bounded.specs.RingOpening.{Opened, IsOpening, IsUntouched}
 use Rattle.own_bounded.specs.RingNew.{IsNew}

@@ -1,6 +1,6 @@
 -- A reply that is put together of its kind and the value that the call ended with.
 use Rattle.std.proofs.Common.{IsSome, ◌≡◌, Option, Some, refl, sym, ◌∙◌}
-use Rattle.law_common.specs.Vocabulary.{Reply}
+use Rattle.queue_laws.specs.Common.Vocabulary.{Reply}
 use Rattle.queue_steps.specs.Kinds.{filled}
 
 module _ {T : Type 0} (kind : Reply Unit) (y : Option T) (whole : Reply T) (fits : filled kind y ≡ Some whole) where

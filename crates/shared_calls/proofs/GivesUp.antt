@@ -8,10 +8,10 @@ use Rattle.mem_blocks.specs.Seats.{Same}
 use Rattle.mem_blocks.specs.Web.{Sitter}
 use Rattle.mem_blocks.specs.declared.block.BlockPtr.{BlockPtr as Link}
 use Rattle.mem_blocks.specs.declared.web.Seat.{Seat as WebSeat}
-use Rattle.law_common.specs.Vocabulary.{Call, Reply, Kind, Answer, Local, Next}
+use Rattle.queue_laws.specs.Common.Vocabulary.{Call, Reply, Kind, Answer, Local, Next}
 use Rattle.queue_steps.specs.Kinds.{call_value}
 use Rattle.queue_steps.specs.Next.{CanNext, next_of}
-use Rattle.law_chain.specs.ChainEarly.{IsPush, IsBound}
+use Rattle.queue_laws.specs.Chain.ChainEarly.{IsPush, IsBound}
 use Rattle.shared_parties.specs.declared.known.CallState.{CallState}
 use Rattle.shared_parties.specs.declared.known.InCall.{InCall}
 use Rattle.shared_parties.specs.declared.known.Work.TheVariants as work

@@ -2,10 +2,10 @@
 use Rattle.std.proofs.Common.{◌≡◌, ℕ, true, List, Option, refl, sym, ap, subst, ◌∙◌}
 use Rattle.atomic_table.specs.declared.shared.Seat.{Seat}
 use Rattle.mem_blocks.specs.declared.block.BlockPtr.{BlockPtr as Link}
-use Rattle.law_common.specs.Vocabulary.{Kind, Op, Touch, Local, Next, UnboundedLocal}
+use Rattle.queue_laws.specs.Common.Vocabulary.{Kind, Op, Touch, Local, Next, UnboundedLocal}
 use Rattle.queue_steps.specs.Next.{next_of}
-use Rattle.law_chain.specs.ChainEarly as chain
-use Rattle.law_chain.specs.ChainPasses.{spare_in, spare_of as named_spare}
+use Rattle.queue_laws.specs.Chain.ChainEarly as chain
+use Rattle.queue_laws.specs.Chain.ChainPasses.{spare_in, spare_of as named_spare}
 use Rattle.shared_parties.specs.declared.known.CallState.{CallState}
 use Rattle.shared_parties.specs.declared.known.InCall.{InCall}
 use Rattle.shared_parties.specs.declared.known.Work.TheVariants as work

@@ -1,15 +1,15 @@
 -- A call that has had an effect comes nearer to its reply by each step, but for a pop on a chain.
 use Rattle.std.proofs.Common.{◌≡◌, ◌≤◌, ℕ, suc, Bool, true, false, if◌then◌else◌, refl, arith}
-use Rattle.law_common.specs.Vocabulary.{Kind, Op, Touch, Answer, Local, Next, SingleLocal, BoundedLocal, UnboundedLocal}
+use Rattle.queue_laws.specs.Common.Vocabulary.{Kind, Op, Touch, Answer, Local, Next, SingleLocal, BoundedLocal, UnboundedLocal}
 use Rattle.queue_steps.specs.declared.steps.bounded.BoundedLocal.TheVariants as ring
 use Rattle.queue_steps.specs.declared.steps.unbounded.UnboundedLocal.TheVariants as chain
 use Rattle.queue_steps.specs.Next.{CanNext, next_of}
 use Rattle.queue_steps.specs.SingleNext.{single_next}
 use Rattle.queue_steps.specs.BoundedNext.{bounded_next, FitsRing}
 use Rattle.queue_steps.specs.UnboundedNext.{unbounded_next, FitsChain}
-use Rattle.law_slot.specs.SlotEarly as slots
-use Rattle.law_ring.specs.RingEarly as rings
-use Rattle.law_chain.specs.ChainEarly as chains
+use Rattle.queue_laws.specs.Slot.SlotEarly as slots
+use Rattle.queue_laws.specs.Ring.RingEarly as rings
+use Rattle.queue_laws.specs.Chain.ChainEarly as chains
 use Rattle.shared_calls.specs.Early.{is_early}
 use Rattle.shared_calls.specs.Settling.{ring_left, chain_left, steps_left, left_at, MayWait}
 use Rattle.shared_calls.specs.Halts.{is_early_step}

@@ -1,7 +1,7 @@
 -- A call that is to do a step is that of its seat, at a table and in a web.
 use Rattle.shared_calls.specs.Pausing.{IsStep}
 use Rattle.mem_blocks.specs.Web.{Sitter}
-use Rattle.law_common.specs.Vocabulary.{Next}
+use Rattle.queue_laws.specs.Common.Vocabulary.{Next}
 use Rattle.shared_chain.specs.Names.{link_of, next_map}
 use Rattle.shared_chain.specs.Steps as chain
 use Rattle.shared_parties.specs.Called.{call_of_work, nothing_called}

@@ -3,7 +3,7 @@ use Rattle.std.proofs.Common.{◌≡◌, true, None, Option, refl, sym, ap, subs
 use Rattle.mem_blocks.specs.Laid.{WebId}
 use Rattle.mem_blocks.specs.Web.{Sitter, sitter}
 use Rattle.mem_blocks.specs.declared.web.Rested.{Rested}
-use Rattle.law_common.specs.Vocabulary.{Call, Reply}
+use Rattle.queue_laws.specs.Common.Vocabulary.{Call, Reply}
 use Rattle.queue_steps.specs.Effect.{IsHistory}
 use Rattle.queue_steps.specs.Parties.{SharedCall}
 use Rattle.shared_parties.specs.declared.known.CallState.{CallState}

@@ -1,6 +1,6 @@
 -- A shared chain as a site: the block that a reply hands out, and where a call stands.
 use Rattle.std.specs.Prelude.{ℕ, Option, Some}
-use Rattle.law_common.specs.Vocabulary.{Call, Answer, Local}
+use Rattle.queue_laws.specs.Common.Vocabulary.{Call, Answer, Local}
 use Rattle.mem_blocks.specs.declared.block.BlockPtr.{BlockPtr as Place}
 use Rattle.mem_blocks.specs.declared.web.Seat.{Seat}
 use Rattle.shared_parties.specs.declared.known.CallState.{CallState}

@@ -1,9 +1,9 @@
 -- Where a call stands that has had no effect yet, on a queue of any kind, and the spare block that a call has there.
 use Rattle.std.specs.Prelude.{Bool, true, Option, Some, None}
-use Rattle.law_common.specs.Vocabulary.{Local, UnboundedLocal}
-use Rattle.law_slot.specs.SlotEarly as slot
-use Rattle.law_ring.specs.RingEarly as ring
-use Rattle.law_chain.specs.ChainEarly as chain
+use Rattle.queue_laws.specs.Common.Vocabulary.{Local, UnboundedLocal}
+use Rattle.queue_laws.specs.Slot.SlotEarly as slot
+use Rattle.queue_laws.specs.Ring.RingEarly as ring
+use Rattle.queue_laws.specs.Chain.ChainEarly as chain
 
 module _ {B : Type 0} where
   abbrev pub is_early : Local B → Bool

@@ -2,7 +2,7 @@
 use Rattle.std.specs.Prelude.{◌≡◌, ℕ, Bool, false, Option}
 use Rattle.atomic_table.specs.declared.shared.Seat.{Seat}
 use Rattle.mem_blocks.specs.declared.block.BlockPtr.{BlockPtr as Link}
-use Rattle.law_common.specs.Vocabulary.{Kind, Answer, Local, Next}
+use Rattle.queue_laws.specs.Common.Vocabulary.{Kind, Answer, Local, Next}
 use Rattle.queue_steps.specs.Next.{CanNext, next_of}
 use Rattle.shared_parties.specs.declared.known.CallState.{CallState}
 use Rattle.shared_parties.specs.declared.known.InCall.{InCall}

@@ -2,7 +2,7 @@
 use Rattle.std.specs.Prelude.{◌≡◌, true, None}
 use Rattle.mem_blocks.specs.Laid.{WebId}
 use Rattle.mem_blocks.specs.declared.web.Rested.{Rested}
-use Rattle.law_common.specs.Vocabulary.{Call, Reply}
+use Rattle.queue_laws.specs.Common.Vocabulary.{Call, Reply}
 use Rattle.queue_steps.specs.Parties.{SharedCall}
 use Rattle.shared_parties.specs.declared.known.CallState.{CallState}
 use Rattle.shared_parties.specs.Known.{view_of}

@@ -1,6 +1,6 @@
 -- A call that has left its fast steps.
 use Rattle.std.specs.Prelude.{◌-◌}
-use Rattle.law_common.specs.Vocabulary.{Call, SOLO_STEPS}
+use Rattle.queue_laws.specs.Common.Vocabulary.{Call, SOLO_STEPS}
 use Rattle.call_driver.specs.OnWay.{OnWay}
 use Rattle.call_driver.specs.declared.site.Site.{Ghosts}
 use Rattle.shared_calls.specs.declared.left.Left.{Left}

@@ -1,6 +1,6 @@
 -- A call that stands before one of its steps, after another of them.
 use Rattle.std.specs.Prelude.{◌-◌}
-use Rattle.law_common.specs.Vocabulary.{Call, Next, SOLO_STEPS}
+use Rattle.queue_laws.specs.Common.Vocabulary.{Call, Next, SOLO_STEPS}
 use Rattle.queue_steps.specs.Next.{next_of}
 use Rattle.call_driver.specs.OnWay.{Stood}
 use Rattle.call_driver.specs.declared.site.Site.{Ghosts}

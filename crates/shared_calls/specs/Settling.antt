@@ -1,9 +1,9 @@
 -- A call that goes on until it has had no effect yet where it stands, or ends: how far it is from that.
 use Rattle.std.specs.Prelude.{ℕ, suc, if◌then◌else◌}
-use Rattle.law_common.specs.Vocabulary.{Kind, Local, Next, BoundedLocal, UnboundedLocal}
+use Rattle.queue_laws.specs.Common.Vocabulary.{Kind, Local, Next, BoundedLocal, UnboundedLocal}
 use Rattle.queue_steps.specs.declared.steps.bounded.BoundedLocal.TheVariants as ring
 use Rattle.queue_steps.specs.declared.steps.unbounded.UnboundedLocal.TheVariants as chain
-use Rattle.law_chain.specs.ChainEarly.{IsBound}
+use Rattle.queue_laws.specs.Chain.ChainEarly.{IsBound}
 use Rattle.shared_calls.specs.Early.{is_early}
 
 -- of a call on a ring that has had its effect: how many steps it takes at most until it replies

@@ -2,7 +2,7 @@
 use Rattle.std.specs.Prelude.{◌≡◌, ℕ, Option}
 use Rattle.std.specs.ControlFlow.{MatchControlFlow}
 use Rattle.std.specs.declared.ops.ControlFlow.{ControlFlow}
-use Rattle.law_common.specs.Vocabulary.{Call, Reply}
+use Rattle.queue_laws.specs.Common.Vocabulary.{Call, Reply}
 use Rattle.queue_steps.specs.Kinds.{call_value}
 use Rattle.call_driver.specs.declared.site.Site.{Ghosts}
 use Rattle.shared_calls.specs.Leaving.{IsLeft}

@@ -5,7 +5,7 @@ ghost use Rattle.queue_steps.specs.declared.model.Call.TheVariants as calls;
 ghost use Rattle.queue_steps.specs.declared.model.Reply.TheVariants as replies;
 ghost use Rattle.queue_steps.specs.declared.steps.types.Next.{Next as SpecNext};
 ghost use Rattle.queue_steps.specs.Kinds.{call_value};
-ghost use Rattle.law_chain.specs.ChainEarly.{IsPush};
+ghost use Rattle.queue_laws.specs.Chain.ChainEarly.{IsPush};
 ghost use Rattle.shared_parties.specs.Calling.{cap_of};
 ghost use Rattle.shared_chain.specs.Turning.{web_of};
 ghost use Rattle.shared_calls.specs.InWeb.{RestsAt, EndedAt};

@@ -1,6 +1,6 @@
 -- The laws of a party's driver on a shared chain: what a step told leads on, and so does what a call does first.
 use Rattle.std.proofs.Common.{ℕ, ◌≡◌, ◌∙◌, Option, Some, None, List, [], refl, sym, ap, subst, inl, inr}
-use Rattle.law_common.specs.Vocabulary.{Call, Reply, Kind, Op, Touch, Word, Answer, Local, Next}
+use Rattle.queue_laws.specs.Common.Vocabulary.{Call, Reply, Kind, Op, Touch, Word, Answer, Local, Next}
 use Rattle.queue_steps.specs.Effect.{after}
 use Rattle.queue_steps.specs.Kinds.{call_kind, call_value, filled}
 use Rattle.queue_steps.specs.Next.{CanNext, next_of, first_local}
@@ -8,9 +8,9 @@ use Rattle.queue_steps.specs.Parties.{View, SharedCall}
 use Rattle.queue_steps.specs.UnboundedNext.{unbounded_begin}
 use Rattle.queue_steps.specs.Replies.{Tells, IsRightAt}
 use Rattle.queue_steps.specs.State.{State}
-use Rattle.law_common.proofs.Runs.{cap_after}
-use Rattle.law_chain.specs.ChainPasses.{spare_in}
-use Rattle.law_chain.proofs.ChainStart.{Begins, OnPosition, at_begun}
+use Rattle.queue_laws.proofs.Common.Runs.{cap_after}
+use Rattle.queue_laws.specs.Chain.ChainPasses.{spare_in}
+use Rattle.queue_laws.proofs.Chain.ChainStart.{Begins, OnPosition, at_begun}
 use Rattle.mem_blocks.specs.Web.{Sitter, sitter}
 use Rattle.mem_blocks.specs.Seats.{Sits}
 use Rattle.mem_blocks.specs.declared.block.BlockPtr.{BlockPtr as Place}

@@ -4,7 +4,7 @@ use denote.RawPtr.{Ptr, null_ptr}
 use Rattle.mem_blocks.specs.Web.{Block, alive_at, with_word}
 use Rattle.mem_blocks.specs.declared.sizes.TheConstants.{SLOTS}
 use Rattle.mem_blocks.specs.declared.hub.TheConstants.{PARTIES}
-use Rattle.law_chain.proofs.ChainFirst.{first, first_ok, first_idle, first_spares}
+use Rattle.queue_laws.proofs.Chain.ChainFirst.{first, first_ok, first_idle, first_spares}
 use Rattle.shared_parties.specs.CallStates.{is_busy}
 use Rattle.shared_parties.specs.CallsAt.{CallsAt}
 use Rattle.shared_parties.proofs.FirstParty.{first_rests, first_kept}

@@ -1,6 +1,6 @@
 -- The wait-free calls on a chain end by their second step.
 use Rattle.std.proofs.Common.{ℕ, ◌≡◌, true}
-use Rattle.law_common.specs.Vocabulary.{Call, Kind, Answer, Local}
+use Rattle.queue_laws.specs.Common.Vocabulary.{Call, Kind, Answer, Local}
 use Rattle.queue_steps.specs.declared.steps.unbounded.UnboundedLocal.TheVariants as chain
 use Rattle.queue_steps.specs.Kinds.{call_kind}
 use Rattle.queue_steps.specs.Next.{CanNext, next_of}

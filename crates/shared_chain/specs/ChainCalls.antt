@@ -1,12 +1,12 @@
 -- A chain that parties share, as a kind of queue.
 use Rattle.std.specs.Prelude.{◌≡◌, ◌≢◌, ◌⊎◌, ℕ, ◌%◌, Bool, true, false, List, [], ◌∷◌, Option, Some, None}
-use Rattle.law_common.specs.Vocabulary.{Kind, Local, BLOCK_SLOTS}
+use Rattle.queue_laws.specs.Common.Vocabulary.{Kind, Local, BLOCK_SLOTS}
 use Rattle.queue_steps.specs.declared.steps.unbounded.UnboundedLocal.TheVariants as chain
 use Rattle.queue_steps.specs.State.{State}
-use Rattle.law_common.specs.Stand.{Stand}
-use Rattle.law_chain.specs.ChainCells.{Wrote, Reading, Chain, queue_of, ChainOk, HoldsOnly, Nothing, writer_of}
-use Rattle.law_chain.specs.ChainPasses.{Passes, Spares, spare_in}
-use Rattle.law_chain.specs.ChainAt.{At}
+use Rattle.queue_laws.specs.Common.Stand.{Stand}
+use Rattle.queue_laws.specs.Chain.ChainCells.{Wrote, Reading, Chain, queue_of, ChainOk, HoldsOnly, Nothing, writer_of}
+use Rattle.queue_laws.specs.Chain.ChainPasses.{Passes, Spares, spare_in}
+use Rattle.queue_laws.specs.Chain.ChainAt.{At}
 use Rattle.shared_parties.specs.Calling.{CallsOf}
 
 -- a chain, and of which items the reader has the slot

@@ -3,7 +3,7 @@ use Rattle.std.specs.Prelude.{◌≡◌, ◌≢◌, ◌⊎◌, ℕ, zero, suc, �
 use mathlib.Core.Option.{some}
 use lib.ListN.{get_elem?}
 use denote.RawPtr.{null_ptr, InBlock, Testable}
-use Rattle.law_common.specs.Vocabulary.{LIMIT, BLOCK_SLOTS, WRITE, READ}
+use Rattle.queue_laws.specs.Common.Vocabulary.{LIMIT, BLOCK_SLOTS, WRITE, READ}
 use Rattle.mem_blocks.specs.Web.{Block, block, Lives, vacant, full}
 use Rattle.mem_blocks.specs.declared.block.BlockPtr.{BlockPtr}
 use Rattle.mem_blocks.specs.declared.sizes.TheConstants.{SLOTS}

@@ -1,7 +1,7 @@
 -- A call on a shared chain that is given up, or looked at.
 use Rattle.std.specs.Prelude.{◌≡◌, None}
 use Rattle.queue_steps.specs.Kinds.{call_value}
-use Rattle.law_chain.specs.ChainEarly.{IsEarly, IsBound, IsPush}
+use Rattle.queue_laws.specs.Chain.ChainEarly.{IsEarly, IsBound, IsPush}
 use Rattle.mem_blocks.specs.Web.{Sitter}
 use Rattle.shared_parties.specs.declared.known.CallState.{CallState}
 use Rattle.shared_parties.specs.declared.known.Work.TheVariants as work

@@ -3,10 +3,10 @@ use Rattle.std.specs.Prelude.{◌≡◌, ◌≢◌, ◌⊎◌, ℕ, ◌+◌, ◌
 use mathlib.Core.Option.{some}
 use lib.ListN.{get_elem?}
 use denote.RawPtr.{Ptr, null_ptr, Testable}
-use Rattle.law_common.specs.Vocabulary.{Effect, BLOCK_SLOTS, WRITE, READ}
+use Rattle.queue_laws.specs.Common.Vocabulary.{Effect, BLOCK_SLOTS, WRITE, READ}
 use Rattle.queue_steps.specs.Shares.{entire}
-use Rattle.law_chain.specs.ChainCells.{Writer, Free, Writing, Wrote, Reader, Unread, Reading, Done, Before, GivenUp, Use, Unused, Spare, Chained, item_at, LAST}
-use Rattle.law_chain.specs.ChainAnswers.{tail_word, head_word, last_of, shown_of, linked_of, IsState}
+use Rattle.queue_laws.specs.Chain.ChainCells.{Writer, Free, Writing, Wrote, Reader, Unread, Reading, Done, Before, GivenUp, Use, Unused, Spare, Chained, item_at, LAST}
+use Rattle.queue_laws.specs.Chain.ChainAnswers.{tail_word, head_word, last_of, shown_of, linked_of, IsState}
 use Rattle.mem_blocks.specs.Web.{Block, State, Home, block, Lives, word_of, away, vacant, full}
 use Rattle.mem_blocks.specs.declared.hub.TheConstants.{TAIL, PARTIES, HEAD}
 use Rattle.shared_parties.specs.declared.known.CallState.{CallState}

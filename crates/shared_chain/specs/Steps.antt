@@ -1,23 +1,23 @@
 -- What the step of a call does to the blocks of a web, and what it tells its seat.
 use Rattle.std.specs.Prelude.{◌≡◌, ◌≢◌, ℕ, ◌+◌, ◌-◌, ◌<◌, Bool, true, false, List, [], ◌∷◌, replicate, length, Option, Some, None}
 use denote.RawPtr.{Ptr, null_ptr}
-use Rattle.law_common.specs.Vocabulary.{Kind, Word, Link, Op, Touch, Answer, Local, Next, BLOCK_SLOTS}
+use Rattle.queue_laws.specs.Common.Vocabulary.{Kind, Word, Link, Op, Touch, Answer, Local, Next, BLOCK_SLOTS}
 use Rattle.queue_steps.specs.declared.steps.unbounded.UnboundedLocal.TheVariants as chain
 use Rattle.queue_steps.specs.Next.{CanNext, next_of}
 use Rattle.queue_steps.specs.State.{State}
 use Rattle.queue_steps.specs.UnboundedNext.{unbounded_next}
-use Rattle.law_common.specs.Stand.{Stand}
-use Rattle.law_chain.specs.ChainCells.{Reading, Chain}
-use Rattle.law_chain.specs.ChainAt.{At}
-use Rattle.law_chain.specs.ChainAnswers.{Answers, last_of, shown_of, linked_of}
-use Rattle.law_chain.specs.ChainPasses.{spare_in}
-use Rattle.law_chain.specs.ChainAfter.{left_by, chain_of, after_of}
+use Rattle.queue_laws.specs.Common.Stand.{Stand}
+use Rattle.queue_laws.specs.Chain.ChainCells.{Reading, Chain}
+use Rattle.queue_laws.specs.Chain.ChainAt.{At}
+use Rattle.queue_laws.specs.Chain.ChainAnswers.{Answers, last_of, shown_of, linked_of}
+use Rattle.queue_laws.specs.Chain.ChainPasses.{spare_in}
+use Rattle.queue_laws.specs.Chain.ChainAfter.{left_by, chain_of, after_of}
 use Rattle.mem_blocks.specs.Web.{Block, Hand, Sitter, Act, block, Lives, word_of, with_word, with_next, if_unset, alive_at, vacant, AllVacant, Mays, blocks_after, sitter_after}
 use Rattle.shared_parties.specs.declared.known.CallState.{CallState}
 use Rattle.shared_parties.specs.declared.known.InCall.{InCall}
 use Rattle.shared_parties.specs.Calling.{handed_by}
 use Rattle.shared_parties.specs.CallsAt.{Told}
-use Rattle.law_common.specs.Operations.{op_word, op_makes, answer_for}
+use Rattle.queue_laws.specs.Common.Operations.{op_word, op_makes, answer_for}
 use Rattle.shared_chain.specs.Spots.{spot}
 use Rattle.shared_chain.specs.Names.{state_block}
 use Rattle.shared_chain.specs.ChainCalls.{OutChain, SlotsAs, ChainLent, chain_calls}

@@ -1,7 +1,7 @@
 -- What a party's driver may do with a seat at a shared chain, and what that leaves: at run time, where names are places.
 use Rattle.std.specs.Prelude.{◌≡◌, ℕ, length, Option, Some, None, true}
 use denote.RawPtr.{Ptr, InBlock, null_ptr}
-use Rattle.law_common.specs.Vocabulary.{Call, Reply, Kind, Op, Touch, Answer, Local, Next, BLOCK_SLOTS}
+use Rattle.queue_laws.specs.Common.Vocabulary.{Call, Reply, Kind, Op, Touch, Answer, Local, Next, BLOCK_SLOTS}
 use Rattle.queue_steps.specs.Effect.{IsHistory}
 use Rattle.queue_steps.specs.Kinds.{call_kind, filled}
 use Rattle.queue_steps.specs.Next.{CanNext, next_of}

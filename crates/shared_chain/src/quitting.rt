@@ -1,6 +1,6 @@
 //! A call on a chain that has had no effect yet is given up.
 ghost use Rattle.std.specs.Prelude.{◌≡◌};
-ghost use Rattle.law_chain.specs.ChainPasses.{spare_in};
+ghost use Rattle.queue_laws.specs.Chain.ChainPasses.{spare_in};
 ghost use Rattle.mem_blocks.specs.Seats.{Same};
 ghost use Rattle.shared_parties.specs.declared.known.Work.TheVariants as work;
 ghost use Rattle.shared_parties.specs.Quitting.{its_call};

@@ -23,7 +23,7 @@ pub struct Steps<J> {
 }
 
 impl<T, J: CallTag<T>> Play<Item<T>, CallState<T>> for Steps<J> {
-    ghost use Rattle.law_common.specs.Operations.{answer_for};
+    ghost use Rattle.queue_laws.specs.Common.Operations.{answer_for};
     ghost use Rattle.shared_chain.specs.Steps.{Follows};
 
     ghost then = { λ st m n q. Follows J.call (answer_for J.call.op n) q };

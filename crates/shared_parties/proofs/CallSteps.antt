@@ -8,15 +8,15 @@ use lib.Seq.{map-set}
 use mathlib.Core.Logic.{dite}
 use native.Mathlib.Decide.{ℕ_discrete}
 use Rattle.atomic_table.proofs.Lists.{at_set, at_map, set_else}
-use Rattle.law_common.specs.Vocabulary.{Call, Effect, Op, Touch, Local, Next}
+use Rattle.queue_laws.specs.Common.Vocabulary.{Call, Effect, Op, Touch, Local, Next}
 use Rattle.queue_steps.specs.State.{State, start}
 use Rattle.queue_steps.specs.Effect.{Fits, IsHistory, made, after}
 use Rattle.queue_steps.specs.Kinds.{call_value}
 use Rattle.queue_steps.specs.Shares.{Share, IsEntire}
 use Rattle.queue_steps.specs.Parties.{IsWhole}
-use Rattle.law_common.proofs.Runs.{after_snoc, runs_snoc}
-use Rattle.law_common.specs.Effects.{Leads, with_effect, MayFront}
-use Rattle.law_common.specs.Stand.{stand}
+use Rattle.queue_laws.proofs.Common.Runs.{after_snoc, runs_snoc}
+use Rattle.queue_laws.specs.Common.Effects.{Leads, with_effect, MayFront}
+use Rattle.queue_laws.specs.Common.Stand.{stand}
 use Rattle.shared_parties.specs.declared.known.Known.{Known}
 use Rattle.shared_parties.specs.declared.known.InCall.{InCall}
 use Rattle.shared_parties.specs.declared.known.Work.{Work}

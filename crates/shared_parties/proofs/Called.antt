@@ -1,6 +1,6 @@
 -- A call is told by its kind and its value.
 use Rattle.std.proofs.Common.{◌≡◌, refl}
-use Rattle.law_common.specs.Vocabulary.{Call}
+use Rattle.queue_laws.specs.Common.Vocabulary.{Call}
 use Rattle.queue_steps.specs.Kinds.{call_kind, call_value, with_value}
 
 -- the kind and the value of a call are all of it

@@ -8,7 +8,7 @@ use mathlib.Core.Logic.{dite}
 use native.Mathlib.Decide.{dec_le}
 use native.Mathlib.Nat.{add-mod_right}
 use Rattle.atomic_table.proofs.Lists.{at_set, at_snoc, at_map, set_again, set_else, at_longer}
-use Rattle.law_common.specs.Vocabulary.{MAX_PARTIES}
+use Rattle.queue_laws.specs.Common.Vocabulary.{MAX_PARTIES}
 use Rattle.shared_parties.specs.declared.known.Known.{Known}
 use Rattle.shared_parties.specs.declared.known.CallState.{CallState}
 use Rattle.shared_parties.specs.Known.{nobody, looked, granted, refused, withdrawn, united, one_of, other_of, pair_of, Kept}

@@ -10,12 +10,12 @@ use lib.ListN.{get_elem?}
 use mathlib.Core.Logic.{dite}
 use native.Mathlib.Decide.{dec_le}
 use Rattle.atomic_table.proofs.Lists.{at_set, at_snoc}
-use Rattle.law_common.specs.Vocabulary.{Effect, MAX_PARTIES}
+use Rattle.queue_laws.specs.Common.Vocabulary.{Effect, MAX_PARTIES}
 use Rattle.queue_steps.specs.Effect.{Fits, IsHistory, after}
 use Rattle.queue_steps.specs.Shares.{Share, nothing, IsEntire, IsSome, IsPart, weight}
 use Rattle.shared_parties.specs.Counting.{times, once_below}
 use Rattle.queue_steps.proofs.ShareLaws.{weight_deeper, weight_plus, weight_halves, weight_none, none_weight, weight_entire, entire_weight, part_weight, plus_some, entire_plus}
-use Rattle.law_common.proofs.Runs.{runs_snoc}
+use Rattle.queue_laws.proofs.Common.Runs.{runs_snoc}
 use Rattle.shared_parties.specs.declared.known.Known.{Known}
 use Rattle.shared_parties.specs.Known.{total, party, nobody, has, share_of, portion, IsTrueOf, Divided, Kept, looked, gained, granted, refused, withdrawn, united, one_of, other_of, pair_of, Sees, Gains}
 use Rattle.shared_parties.proofs.Histories.{prefix_self, prefix_more, prefix_length, prefix_whole}

@@ -2,20 +2,20 @@
 use Rattle.std.proofs.Common.{◌≡◌, ℕ, ◌+◌, ◌≤◌, ◌||◌, not, inl, inr, Bool, true, List, [], ◌∷◌, ◌++◌, length, Option, Some, None, refl, ap, sym, ◌∙◌, subst, ⊎_elim, arith, length-append, append_assoc}
 use mathlib.Core.List.{IsPrefix}
 use Rattle.atomic_table.proofs.Lists.{at_longer, at_last}
-use Rattle.law_common.specs.Vocabulary.{Call, Reply, Effect, Op, Touch, Local}
+use Rattle.queue_laws.specs.Common.Vocabulary.{Call, Reply, Effect, Op, Touch, Local}
 use Rattle.queue_steps.specs.State.{State}
 use Rattle.queue_steps.specs.Effect.{IsHistory, after}
 use Rattle.queue_steps.specs.Replies.{Allows, Tells}
 use Rattle.queue_steps.specs.Shares.{Share}
 use Rattle.queue_steps.specs.Parties.{View, StandAt, Between, Displaces, SharedCall}
-use Rattle.law_common.specs.Moments.{SeenIn}
-use Rattle.law_common.specs.Effects.{with_effect, MayFront}
-use Rattle.law_common.specs.Stand.{stand}
-use Rattle.law_common.proofs.Tests.{or_true, not_true}
+use Rattle.queue_laws.specs.Common.Moments.{SeenIn}
+use Rattle.queue_laws.specs.Common.Effects.{with_effect, MayFront}
+use Rattle.queue_laws.specs.Common.Stand.{stand}
+use Rattle.queue_laws.proofs.Common.Tests.{or_true, not_true}
 use Rattle.shared_parties.specs.declared.known.Known.{Known}
 use Rattle.shared_parties.specs.declared.known.InCall.{InCall}
 use Rattle.shared_parties.specs.Known.{party, looked, gained, view_of}
-use Rattle.law_common.proofs.TellsAs.{TellsAs, displace, tells_as}
+use Rattle.queue_laws.proofs.Common.TellsAs.{TellsAs, displace, tells_as}
 use Rattle.queue_steps.proofs.Places.{below_at}
 use Rattle.shared_parties.proofs.Histories.{prefix_self, prefix_trans, prefix_length}
 use Rattle.shared_parties.specs.Calling.{CallsOf, cap_of, AreMoments, Opened, Waits, Standing}

@@ -8,9 +8,9 @@ use lib.Seq.{map-set}
 use mathlib.Core.Logic.{dite}
 use native.Mathlib.Decide.{ℕ_discrete}
 use Rattle.atomic_table.proofs.Lists.{at_set, at_map, set_else, set_again}
-use Rattle.law_common.specs.Vocabulary.{Call, Reply, Effect}
+use Rattle.queue_laws.specs.Common.Vocabulary.{Call, Reply, Effect}
 use Rattle.queue_steps.specs.Parties.{View, StandAt, SharedCall}
-use Rattle.law_common.proofs.Runs.{cap_after, history_before}
+use Rattle.queue_laws.proofs.Common.Runs.{cap_after, history_before}
 use Rattle.shared_parties.specs.declared.known.Known.{Known}
 use Rattle.shared_parties.specs.declared.known.InCall.{InCall}
 use Rattle.shared_parties.specs.declared.known.Work.TheVariants as work

@@ -4,7 +4,7 @@ use Rattle.std.proofs.lemmas.List.{append-nil}
 use Rattle.std.specs.List.{Contains}
 use mathlib.Core.List.{IsPrefix}
 use Rattle.atomic_table.proofs.Lists.{at_last}
-use Rattle.law_common.specs.Vocabulary.{Call, Reply, Effect}
+use Rattle.queue_laws.specs.Common.Vocabulary.{Call, Reply, Effect}
 use Rattle.queue_steps.specs.State.{State}
 use Rattle.queue_steps.specs.Effect.{IsHistory, after}
 use Rattle.queue_steps.specs.Replies.{IsRightAt, Tells}

@@ -3,7 +3,7 @@ use Rattle.std.proofs.Common.{◌≡◌, ◌≢◌, ℕ, suc, ◌<◌, ◌≤◌
 use Rattle.std.specs.List.{All, AllPairs}
 use Rattle.std.proofs.lemmas.List.Elements.{All-append, All-weaker, All-head, All-tail}
 use Rattle.std.proofs.lemmas.List.Kept.{AllPairs-cons}
-use Rattle.law_common.specs.Vocabulary.{Call, Reply}
+use Rattle.queue_laws.specs.Common.Vocabulary.{Call, Reply}
 use Rattle.queue_steps.specs.Shares.{IsEntire, IsSome, IsPart}
 use Rattle.queue_steps.specs.Parties.{View, IsView, IsWhole, SharedCall}
 use Rattle.queue_steps.proofs.Places.{stand_from, stand_once, stand_inside}

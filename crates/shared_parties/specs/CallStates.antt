@@ -2,7 +2,7 @@
 use Rattle.std.specs.Prelude.{◌≡◌, ◌<◌, ℕ, Bool, true, false, List, map, Option, None}
 use mathlib.Core.Option.{some}
 use lib.ListN.{get_elem?}
-use Rattle.law_common.specs.Vocabulary.{Effect}
+use Rattle.queue_laws.specs.Common.Vocabulary.{Effect}
 use Rattle.queue_steps.specs.Shares.{IsEntire}
 use Rattle.queue_steps.specs.Parties.{IsWhole}
 use Rattle.shared_parties.specs.declared.known.Known.{Known}

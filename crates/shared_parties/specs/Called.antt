@@ -1,6 +1,6 @@
 -- Which call a seat is at, told by its view and by the step that it is to do.
 use Rattle.std.specs.Prelude.{ℕ, [], Option, None}
-use Rattle.law_common.specs.Vocabulary.{Call, Op, Touch, Local}
+use Rattle.queue_laws.specs.Common.Vocabulary.{Call, Op, Touch, Local}
 use Rattle.queue_steps.specs.Shares.{nothing}
 use Rattle.queue_steps.specs.Kinds.{with_value}
 use Rattle.shared_parties.specs.declared.known.InCall.{InCall}

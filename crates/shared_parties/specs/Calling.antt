@@ -4,16 +4,16 @@ use mathlib.Core.Option.{some}
 use mathlib.Core.List.{IsPrefix}
 use lib.ListN.{get_elem?}
 use Rattle.atomic_table.specs.Table.{rest}
-use Rattle.law_common.specs.Vocabulary.{Call, Reply, Effect, Kind, Op, Touch, Answer, Next}
+use Rattle.queue_laws.specs.Common.Vocabulary.{Call, Reply, Effect, Kind, Op, Touch, Answer, Next}
 use Rattle.queue_steps.specs.State.{State}
 use Rattle.queue_steps.specs.Effect.{after}
 use Rattle.queue_steps.specs.Kinds.{call_kind, call_value, filled}
 use Rattle.queue_steps.specs.Next.{capacity_of, first_local, next_of}
 use Rattle.queue_steps.specs.Parties.{StandAt}
 use Rattle.queue_steps.specs.Replies.{IsRightAt, Allows, Tells}
-use Rattle.law_common.specs.Effects.{IsBetween, Touches}
-use Rattle.law_common.specs.Moments.{SeenIn, seen_by}
-use Rattle.law_common.specs.Stand.{Stand, stand}
+use Rattle.queue_laws.specs.Common.Effects.{IsBetween, Touches}
+use Rattle.queue_laws.specs.Common.Moments.{SeenIn, seen_by}
+use Rattle.queue_laws.specs.Common.Stand.{Stand, stand}
 use Rattle.shared_parties.specs.declared.known.Known.{Known}
 use Rattle.shared_parties.specs.declared.known.InCall.{InCall}
 use Rattle.shared_parties.specs.Known.{party}

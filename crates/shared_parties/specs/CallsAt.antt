@@ -2,7 +2,7 @@
 use Rattle.std.specs.Prelude.{◌≡◌, ◌⊎◌, ℕ, false, List, [], map, Option, Some}
 use mathlib.Core.Option.{some}
 use lib.ListN.{get_elem?}
-use Rattle.law_common.specs.Vocabulary.{Reply, Effect, Next}
+use Rattle.queue_laws.specs.Common.Vocabulary.{Reply, Effect, Next}
 use Rattle.queue_steps.specs.Effect.{after}
 use Rattle.queue_steps.specs.Kinds.{call_value, filled}
 use Rattle.queue_steps.specs.Parties.{View, SharedCall}

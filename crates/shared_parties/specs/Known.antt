@@ -3,7 +3,7 @@ use Rattle.std.specs.Prelude.{◌≡◌, ◌⊎◌, ℕ, ◌+◌, ◌^◌, ◌<�
 use mathlib.Core.Option.{some}
 use mathlib.Core.List.{IsPrefix}
 use lib.ListN.{get_elem?}
-use Rattle.law_common.specs.Vocabulary.{Effect, MAX_PARTIES}
+use Rattle.queue_laws.specs.Common.Vocabulary.{Effect, MAX_PARTIES}
 use Rattle.queue_steps.specs.Effect.{IsHistory}
 use Rattle.queue_steps.specs.Shares.{Share, nothing, half, plus, IsEntire, IsSome, IsPart, weight}
 use Rattle.queue_steps.specs.Parties.{View}

@@ -1,6 +1,6 @@
 -- How the parties of a queue are counted, parted, joined and brought together, whatever the queue is made of: what their seats know then.
 use Rattle.std.specs.Prelude.{◌≡◌, ◌≢◌, ℕ, ◌<◌, ◌≤◌, false, List, map, slice_set}
-use Rattle.law_common.specs.Vocabulary.{Effect, MAX_PARTIES}
+use Rattle.queue_laws.specs.Common.Vocabulary.{Effect, MAX_PARTIES}
 use Rattle.queue_steps.specs.Shares.{IsEntire}
 use Rattle.queue_steps.specs.Parties.{IsView, Split, Join, Meet}
 use Rattle.shared_parties.specs.declared.known.CallState.{CallState}

@@ -4,8 +4,8 @@ use mathlib.Core.Option.{some}
 use Rattle.atomic_table.specs.Table.{opening}
 use Rattle.queue_steps.specs.Words.{IsRing}
 use Rattle.queue_steps.specs.Shares.{entire}
-use Rattle.law_ring.specs.RingOpening.{numbers_below, opening_ring, opening_shared}
-use Rattle.law_ring.proofs.RingOpening.{opening_ok, opening_codes}
+use Rattle.queue_laws.specs.Ring.RingOpening.{numbers_below, opening_ring, opening_shared}
+use Rattle.queue_laws.proofs.Ring.RingOpening.{opening_ok, opening_codes}
 use Rattle.own_bounded.specs.RingWords.{words_behind}
 use Rattle.own_bounded.proofs.Openings.{homes_at}
 use Rattle.shared_parties.specs.declared.known.CallState.{CallState}

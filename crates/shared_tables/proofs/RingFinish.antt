@@ -8,11 +8,11 @@ use Rattle.queue_steps.specs.State.{State}
 use Rattle.queue_steps.specs.Effect.{after}
 use Rattle.queue_steps.specs.Legal.{IsShown}
 use Rattle.queue_steps.specs.Parties.{IsWhole}
-use Rattle.law_common.proofs.Tests.{none_if}
-use Rattle.law_ring.specs.RingCells.{Ring, queue_of, RingOk, owner}
-use Rattle.law_ring.specs.RingShared.{Shared}
-use Rattle.law_ring.specs.RingWords.{Codes, item_in}
-use Rattle.law_ring.proofs.RingIdle.{NobodyHolds, AtRest, at_rest}
+use Rattle.queue_laws.proofs.Common.Tests.{none_if}
+use Rattle.queue_laws.specs.Ring.RingCells.{Ring, queue_of, RingOk, owner}
+use Rattle.queue_laws.specs.Ring.RingShared.{Shared}
+use Rattle.queue_laws.specs.Ring.RingWords.{Codes, item_in}
+use Rattle.queue_laws.proofs.Ring.RingIdle.{NobodyHolds, AtRest, at_rest}
 use Rattle.shared_parties.specs.declared.known.CallState.{CallState}
 use Rattle.shared_parties.specs.Known.{view_of}
 use Rattle.shared_tables.specs.Seats.{count_of}

@@ -9,10 +9,10 @@ use Rattle.queue_steps.specs.Parties.{IsWhole}
 use Rattle.queue_steps.specs.Shares.{entire}
 use Rattle.queue_steps.specs.SingleNext.{is_marked}
 use Rattle.queue_steps.specs.State.{State}
-use Rattle.law_slot.specs.SlotHolder.{SlotHolder, Nobody}
-use Rattle.law_slot.specs.SlotRows.{Codes, free_empty, free_full, single}
-use Rattle.law_slot.specs.SlotCells.{Slot, queue_of, lent_by}
-use Rattle.law_slot.proofs.SlotCells.{all_nobody}
+use Rattle.queue_laws.specs.Slot.SlotHolder.{SlotHolder, Nobody}
+use Rattle.queue_laws.specs.Slot.SlotRows.{Codes, free_empty, free_full, single}
+use Rattle.queue_laws.specs.Slot.SlotCells.{Slot, queue_of, lent_by}
+use Rattle.queue_laws.proofs.Slot.SlotCells.{all_nobody}
 use Rattle.shared_parties.specs.declared.known.CallState.{CallState}
 use Rattle.shared_parties.specs.Known.{party, view_of}
 use Rattle.shared_tables.specs.Seats.{count_of}

@@ -3,7 +3,7 @@ use Rattle.std.proofs.Common.{◌≡◌, ℕ, List, ◌∷◌, get_or, set, Opti
 use mathlib.Core.Option.{some}
 use lib.ListN.{get_elem?}
 use Rattle.atomic_table.specs.Table.{Act, Valid, carried_after, homes_after, stepped, Allows}
-use Rattle.law_common.specs.Vocabulary.{Effect, Answer, Next}
+use Rattle.queue_laws.specs.Common.Vocabulary.{Effect, Answer, Next}
 use Rattle.queue_steps.specs.Next.{CanNext, next_of}
 use Rattle.shared_parties.specs.declared.known.InCall.{InCall}
 use Rattle.shared_parties.specs.declared.known.Work.TheVariants as work
@@ -11,7 +11,7 @@ use Rattle.shared_parties.specs.declared.known.CallState.{CallState}
 use Rattle.shared_tables.specs.Seats.{Table, Seated, count_of}
 use Rattle.shared_parties.specs.Calling.{CallsOf, stand_of, Standing, touched_list, handed_by, HasTouched}
 use Rattle.shared_tables.specs.TableRule.{TableOf, Rule, found_by, InTable, TakesOff, TableStepOk, TableLaws}
-use Rattle.law_common.specs.Operations.{op_word, op_makes, answer_for}
+use Rattle.queue_laws.specs.Common.Operations.{op_word, op_makes, answer_for}
 use Rattle.shared_tables.specs.TableTurns.{After, Follows}
 use Rattle.shared_parties.specs.CallsAt.{Ready, CallsAt, Told}
 use Rattle.shared_parties.proofs.Callings.{grown}

@@ -4,14 +4,14 @@ use Rattle.std.specs.Int.{bit_not}
 use mathlib.Core.Option.{some}
 use lib.ListN.{get_elem?}
 use Rattle.atomic_table.specs.Table.{Allows, stepped, carried_after}
-use Rattle.law_common.specs.Vocabulary.{Word, Op, Answer}
+use Rattle.queue_laws.specs.Common.Vocabulary.{Word, Op, Answer}
 use Rattle.queue_steps.specs.Next.{CanNext, next_of}
 use Rattle.shared_parties.specs.declared.known.InCall.{InCall}
 use Rattle.shared_tables.specs.Seats.{Table, Seated}
 use Rattle.shared_parties.specs.Calling.{touched_list, handed_by}
 use Rattle.shared_tables.specs.TableRule.{TableOf, Rule, TableLaws, InTable, TakesOff, found_by}
-use Rattle.law_common.specs.Operations.{op_word, op_makes, answer_for}
-use Rattle.law_common.proofs.Operations.{has_word}
+use Rattle.queue_laws.specs.Common.Operations.{op_word, op_makes, answer_for}
+use Rattle.queue_laws.proofs.Common.Operations.{has_word}
 use Rattle.shared_tables.specs.TableTurns.{After, Follows}
 use Rattle.shared_parties.specs.CallsAt.{Ready}
 use Rattle.shared_tables.proofs.TableAllows.{table_allows, takes_off}

@@ -1,7 +1,7 @@
 -- A seat whose slot is touched is at the same call as before.
 use Rattle.std.proofs.Common.{◌≡◌, ℕ, List, [], ◌∷◌, Option, refl, ap, sym, ◌∙◌, subst, inl, inr}
 use Rattle.atomic_table.specs.Table.{rest}
-use Rattle.law_common.specs.Vocabulary.{Call, Op, Touch, Local}
+use Rattle.queue_laws.specs.Common.Vocabulary.{Call, Op, Touch, Local}
 use Rattle.shared_parties.specs.declared.known.InCall.{InCall}
 use Rattle.shared_parties.specs.declared.known.Work.TheVariants as work
 use Rattle.shared_tables.specs.Seats.{Seated}

@@ -2,7 +2,7 @@
 use Rattle.std.specs.Prelude.{◌≡◌, ℕ, ◌∷◌, Option}
 use Rattle.atomic_table.specs.Table.{rest}
 use Rattle.atomic_table.specs.Seated.{TableId}
-use Rattle.law_common.specs.Vocabulary.{Call, Reply, Touch}
+use Rattle.queue_laws.specs.Common.Vocabulary.{Call, Reply, Touch}
 use Rattle.queue_steps.specs.Effect.{IsHistory}
 use Rattle.queue_steps.specs.Parties.{SharedCall}
 use Rattle.shared_tables.specs.Seats.{Seated, Rests, view_at}

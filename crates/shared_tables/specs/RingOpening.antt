@@ -1,6 +1,6 @@
 -- The words of a ring's table at the beginning.
 use Rattle.std.specs.Prelude.{ℕ, List, ◌∷◌}
-use Rattle.law_ring.specs.RingOpening.{numbers_below}
+use Rattle.queue_laws.specs.Ring.RingOpening.{numbers_below}
 use Rattle.own_bounded.specs.RingWords.{words_behind}
 
 -- one party, no item accepted and none taken, and each slot free for the position of its own number

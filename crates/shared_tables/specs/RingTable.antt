@@ -3,12 +3,12 @@ use Rattle.std.specs.Prelude.{◌≡◌, ℕ, ◌+◌, ◌<◌, List, [], length
 use mathlib.Core.Option.{some}
 use mathlib.Core.Option as maybe
 use lib.ListN.{get_elem?}
-use Rattle.law_common.specs.Vocabulary.{Kind, Word}
-use Rattle.law_ring.specs.RingCells.{Cell, Ring, queue_of, RingOk, owner}
-use Rattle.law_ring.specs.RingShared.{Shared, HasPlace}
-use Rattle.law_ring.specs.RingWords.{Codes, item_in}
-use Rattle.law_ring.specs.RingPasses.{Passes, Lent}
-use Rattle.law_ring.specs.RingAt.{At}
+use Rattle.queue_laws.specs.Common.Vocabulary.{Kind, Word}
+use Rattle.queue_laws.specs.Ring.RingCells.{Cell, Ring, queue_of, RingOk, owner}
+use Rattle.queue_laws.specs.Ring.RingShared.{Shared, HasPlace}
+use Rattle.queue_laws.specs.Ring.RingWords.{Codes, item_in}
+use Rattle.queue_laws.specs.Ring.RingPasses.{Passes, Lent}
+use Rattle.queue_laws.specs.Ring.RingAt.{At}
 use Rattle.own_bounded.specs.RingWords.{words_behind}
 use Rattle.own_bounded.specs.declared.ring_words.TheConstants.{TAIL, HEAD, STAMPS}
 use Rattle.shared_parties.specs.Calling.{CallsOf}

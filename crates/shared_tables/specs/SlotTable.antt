@@ -2,11 +2,11 @@
 use Rattle.std.specs.Prelude.{None, ◌≡◌, ℕ, List, [], ◌∷◌, Option}
 use mathlib.Core.Option.{some}
 use mathlib.Core.Option as maybe
-use Rattle.law_common.specs.Vocabulary.{Kind}
-use Rattle.law_slot.specs.SlotShared.{IsLock}
-use Rattle.law_slot.specs.SlotHolder.{SlotHolder, Nobody}
-use Rattle.law_slot.specs.SlotRows.{Codes, At}
-use Rattle.law_slot.specs.SlotCells.{Slot, queue_of, own_in, Passes, Lent}
+use Rattle.queue_laws.specs.Common.Vocabulary.{Kind}
+use Rattle.queue_laws.specs.Slot.SlotShared.{IsLock}
+use Rattle.queue_laws.specs.Slot.SlotHolder.{SlotHolder, Nobody}
+use Rattle.queue_laws.specs.Slot.SlotRows.{Codes, At}
+use Rattle.queue_laws.specs.Slot.SlotCells.{Slot, queue_of, own_in, Passes, Lent}
 use Rattle.shared_parties.specs.Calling.{CallsOf}
 use Rattle.shared_tables.specs.TableRule.{TableOf}
 

@@ -4,16 +4,16 @@ use Rattle.std.specs.Int.{w64, bit_not}
 use mathlib.Core.Option.{some}
 use mathlib.Core.Option as maybe
 use Rattle.atomic_table.specs.Table.{Act, Valid, carried_after, homes_after}
-use Rattle.law_common.specs.Vocabulary.{Call, Effect, Word, Op, Answer}
+use Rattle.queue_laws.specs.Common.Vocabulary.{Call, Effect, Word, Op, Answer}
 use Rattle.queue_steps.specs.Kinds.{call_kind, call_value}
 use Rattle.queue_steps.specs.Next.{CanNext, first_local, next_of}
 use Rattle.queue_steps.specs.WaitFree.{is_wait_free, EndsWaitFree}
 use Rattle.queue_steps.specs.State.{State}
-use Rattle.law_common.specs.Effects.{Leads, with_effect, MayFront}
-use Rattle.law_common.specs.Stand.{Stand}
+use Rattle.queue_laws.specs.Common.Effects.{Leads, with_effect, MayFront}
+use Rattle.queue_laws.specs.Common.Stand.{Stand}
 use Rattle.shared_tables.specs.Early.{IsEarly}
 use Rattle.shared_tables.specs.Seats.{Table, count_of}
-use Rattle.law_common.specs.Operations.{OnWord, op_word, op_makes, answer_for}
+use Rattle.queue_laws.specs.Common.Operations.{OnWord, op_word, op_makes, answer_for}
 use Rattle.shared_parties.specs.CallsAt.{CallsAt}
 use Rattle.shared_parties.specs.Calling.{CallsOf, CallLaws, touched_list, handed_by, NextOk, first_of, Opens}
 

@@ -1,6 +1,6 @@
 -- What a step of a call on a shared table asks of a party's seat, and what it tells; and so where a call stands for the driver.
 use Rattle.std.specs.Prelude.{◌≡◌, ℕ, Option, Some, None}
-use Rattle.law_common.specs.Vocabulary.{Call, Reply, Op, Touch, Answer, Local, Next}
+use Rattle.queue_laws.specs.Common.Vocabulary.{Call, Reply, Op, Touch, Answer, Local, Next}
 use Rattle.queue_steps.specs.Kinds.{filled}
 use Rattle.queue_steps.specs.Next.{CanNext, next_of}
 use Rattle.queue_steps.specs.Parties.{SharedCall}
@@ -11,7 +11,7 @@ use Rattle.shared_parties.specs.CallsAt.{begun_at, Ready}
 use Rattle.shared_parties.specs.CallStates.{HasAll}
 use Rattle.shared_parties.specs.Calling.{cap_of, handed_by, HasTouched, touched_list}
 use Rattle.shared_tables.specs.TableRule.{TableOf, InTable}
-use Rattle.law_common.specs.Operations.{answer_for}
+use Rattle.queue_laws.specs.Common.Operations.{answer_for}
 use Rattle.atomic_table.specs.Seated.{TableId}
 use Rattle.shared_tables.specs.AtTable.{TableSeat, Ended}
 use Rattle.shared_parties.specs.Called.{called_at}

@@ -47,7 +47,7 @@ impl<T> TableSteps<T> for Rings {
     ghost use Rattle.std.specs.Prelude.{refl};
     ghost use Rattle.queue_steps.specs.declared.sizes.TheConstants.{MAX_CAPACITY};
     ghost use Rattle.shared_tables.specs.Laws.RingSteps.{ring_table_laws};
-    ghost use Rattle.law_ring.specs.RingShared.{HasPlace};
+    ghost use Rattle.queue_laws.specs.Ring.RingShared.{HasPlace};
     ghost use Rattle.shared_tables.specs.RingTable.{word_index};
 
     ghost steps_fit = { λ slots. (slots, refl) };

@@ -2,7 +2,7 @@
 ghost use Rattle.std.specs.Prelude.{◌≡◌, ◌<◌, ◌≤◌, ℕ};
 ghost use Rattle.shared_parties.specs.Calling.{touched_list};
 ghost use Rattle.shared_tables.specs.TableRule.{TableOf, TableLaws, InTable};
-ghost use Rattle.law_common.specs.Operations.{answer_for};
+ghost use Rattle.queue_laws.specs.Common.Operations.{answer_for};
 ghost use Rattle.shared_tables.specs.TableTurns.{Follows, TableCan, TableDoes};
 ghost use Rattle.shared_parties.specs.CallsAt.{Ready};
 

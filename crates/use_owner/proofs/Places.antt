@@ -5,7 +5,7 @@ use Rattle.std.proofs.lemmas.List.Elements.{All-nil, All-push, All-head, All-con
 use Rattle.std.proofs.lemmas.List.Kept.{AllPairs-cons}
 use Rattle.std.proofs.lemmas.List.Quantifiers.{all_pairs_push}
 use Rattle.std.proofs.lemmas.Map.Made.{Contains-tail}
-use Rattle.law_histories.proofs.Numbers.{AreDistinct, distinct_few}
+use Rattle.queue_laws.proofs.History.Numbers.{AreDistinct, distinct_few}
 use Rattle.use_owner.specs.Pool.{Places, numbers, IsOut, Takes, GivesBack}
 
 pub numbers_below : (n : ℕ) → All (λ p. p < n) (numbers n)

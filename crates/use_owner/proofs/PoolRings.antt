@@ -13,7 +13,7 @@ use Rattle.queue_steps.specs.declared.errors.PopError.{PopError}
 use Rattle.queue_steps.specs.declared.errors.PopError.TheVariants as pop
 use Rattle.queue_steps.specs.declared.errors.PushError.{PushError}
 use Rattle.queue_steps.specs.declared.errors.PushError.TheVariants as push
-use Rattle.law_histories.proofs.Numbers.{AreDistinct}
+use Rattle.queue_laws.proofs.History.Numbers.{AreDistinct}
 use Rattle.use_owner.specs.Pool.{numbers, IsOut, TakesOne, Takes, GivesBack}
 use Rattle.use_owner.specs.PoolRings.{count_of, places_of, IsPool}
 use Rattle.use_owner.proofs.Places.{numbers_below, numbers_once, once_more, once_less, fits, takes_first, gives_last}

@@ -3,7 +3,7 @@ ghost use Rattle.std.specs.Prelude.{◌≡◌, ◌≢◌, ℕ, None};
 ghost use Rattle.queue_steps.specs.declared.model.Call.{Call as SpecCall};
 ghost use Rattle.queue_steps.specs.declared.model.Call.TheVariants as call;
 ghost use Rattle.queue_steps.specs.declared.steps.types.Next.{Next as SpecNext};
-ghost use Rattle.law_chain.specs.ChainEarly.{IsPush};
+ghost use Rattle.queue_laws.specs.Chain.ChainEarly.{IsPush};
 ghost use Rattle.shared_parties.specs.Calling.{cap_of};
 ghost use Rattle.shared_calls.specs.Settling.{MayWait};
 ghost use Rattle.shared_calls.specs.Trying.{SomeLeft, EndsOrQuits};

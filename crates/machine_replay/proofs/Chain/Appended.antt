@@ -3,10 +3,10 @@ use Rattle.std.proofs.Common.{ℕ, ◌<◌, ◌≤◌, ◌≡◌, Bool, Option, 
 use Rattle.queue_steps.specs.State.{State}
 use Rattle.machine_replay.specs.Vocabulary.{Kind, Op, Touch, Local, Running}
 use Rattle.queue_steps.specs.declared.steps.unbounded.UnboundedLocal.TheVariants as chain
-use Rattle.law_common.specs.Stand.{Stand}
+use Rattle.queue_laws.specs.Common.Stand.{Stand}
 use Rattle.machine_replay.proofs.Engine.StandOf.{running_of}
-use Rattle.law_chain.specs.ChainCells.{Chain}
-use Rattle.law_chain.specs.ChainAt.{At, laying, opening, chaining, writing}
+use Rattle.queue_laws.specs.Chain.ChainCells.{Chain}
+use Rattle.queue_laws.specs.Chain.ChainAt.{At, laying, opening, chaining, writing}
 use Rattle.machine_memory.specs.SharedMemory.{Shared}
 use Rattle.machine_steps.specs.Steps.{step_of}
 use Rattle.machine_replay.specs.Progress.{AppendsReplyWithin}

@@ -4,8 +4,8 @@ use Rattle.std.proofs.lemmas.Nat.{and_or_self, and_or_apart}
 use Rattle.std.proofs.lemmas.Bool.Decides.{eqb_tells}
 use Rattle.std.proofs.lemmas.Bool.{eq-eqb}
 use Rattle.machine_replay.specs.Vocabulary.{WRITE, READ, DESTROY}
-use Rattle.law_chain.specs.ChainCells.{Wrote, Done, Waits, Chain, item_at}
-use Rattle.law_chain.specs.ChainAnswers.{is_wrote, is_done, waits_at, IsState}
+use Rattle.queue_laws.specs.Chain.ChainCells.{Wrote, Done, Waits, Chain, item_at}
+use Rattle.queue_laws.specs.Chain.ChainAnswers.{is_wrote, is_done, waits_at, IsState}
 use Rattle.machine_replay.proofs.Chain.Codes.{wrote_in, wrote_alike}
 
 -- a bit that is set, and one that is left

@@ -3,13 +3,13 @@ use Rattle.std.proofs.Common.{ℕ, ◌≡◌, Bool, List}
 use Rattle.queue_steps.specs.State.{State}
 use Rattle.queue_steps.specs.UnboundedNext.{unbounded_next}
 use Rattle.machine_replay.specs.Vocabulary.{Kind}
-use Rattle.law_common.specs.Stand.{Stand}
+use Rattle.queue_laws.specs.Common.Stand.{Stand}
 use Rattle.machine_replay.proofs.Engine.StandOf.{running_of}
-use Rattle.law_chain.specs.ChainCells.{Chain, ChainOk}
-use Rattle.law_chain.specs.ChainAt.{At}
-use Rattle.law_chain.specs.ChainAnswers.{Answers}
-use Rattle.law_chain.specs.ChainAfter.{chain_of, carried_of, after_of, left_by}
-use Rattle.law_chain.proofs.ChainRight.{Gives}
+use Rattle.queue_laws.specs.Chain.ChainCells.{Chain, ChainOk}
+use Rattle.queue_laws.specs.Chain.ChainAt.{At}
+use Rattle.queue_laws.specs.Chain.ChainAnswers.{Answers}
+use Rattle.queue_laws.specs.Chain.ChainAfter.{chain_of, carried_of, after_of, left_by}
+use Rattle.queue_laws.proofs.Chain.ChainRight.{Gives}
 use Rattle.machine_memory.specs.SharedMemory.{Shared, CanTouch, CanOperate, slots_there, block_touched}
 use Rattle.machine_steps.specs.Steps.{after_touch, carried_then, answer_to, shared_then}
 use Rattle.machine_replay.proofs.Chain.Names.{Codes}

@@ -1,9 +1,9 @@
 -- The shared memory at each step of a call on a chain, wherever the call stands.
 use Rattle.std.proofs.Common.{ℕ, Bool, List}
 use Rattle.queue_steps.specs.State.{State}
-use Rattle.law_common.specs.Stand.{Stand}
-use Rattle.law_chain.specs.ChainCells.{Chain, ChainOk}
-use Rattle.law_chain.specs.ChainAt.{At, push_tail, push_block, asking, installing, showing, claiming, laying, opening, chaining, writing, spending, pop_head, pop_block, pop_tail, taking, following, peeking, passing, entering, awaiting, count_tail, count_head, count_again, empty_head, empty_tail, closing, closed_tail, walking, destroying, reading, beginning}
+use Rattle.queue_laws.specs.Common.Stand.{Stand}
+use Rattle.queue_laws.specs.Chain.ChainCells.{Chain, ChainOk}
+use Rattle.queue_laws.specs.Chain.ChainAt.{At, push_tail, push_block, asking, installing, showing, claiming, laying, opening, chaining, writing, spending, pop_head, pop_block, pop_tail, taking, following, peeking, passing, entering, awaiting, count_tail, count_head, count_again, empty_head, empty_tail, closing, closed_tail, walking, destroying, reading, beginning}
 use Rattle.machine_memory.specs.SharedMemory.{Shared}
 use Rattle.machine_replay.proofs.Chain.Coded.{CodesShared, Coded}
 use Rattle.machine_replay.proofs.Chain.CodedPush.{coded_push_tail, coded_push_block, coded_asking, coded_installing, coded_showing, coded_claiming, coded_laying, coded_opening, coded_chaining, coded_writing, coded_spending}

@@ -8,10 +8,10 @@ use Rattle.queue_steps.specs.Words.{IsWord, position_of}
 use Rattle.queue_steps.specs.ChainWords.{offset_of, items_before}
 use Rattle.queue_steps.specs.UnboundedNext.{unbounded_next}
 use Rattle.queue_steps.specs.declared.steps.unbounded.UnboundedLocal.TheVariants as chain
-use Rattle.law_common.specs.Moments.{HeadWas, SeenIn}
-use Rattle.law_chain.specs.ChainFacts.{place, head_of, HeadIs, IsNamed, HeadBlockIs, HeadBlockRead, IsMore, Got, SawEmpty}
-use Rattle.law_chain.specs.ChainCells.{Writer, Writing, Wrote, Reader, Reading, Done, Stands as Rested, Passing, Entering, GivenUp, Chain, FrontOk, ChainOk, Read, Head, HoldsOnly, Nothing, item_at, Free, ItemOk}
-use Rattle.law_chain.specs.ChainAnswers.{head_word, linked_of}
+use Rattle.queue_laws.specs.Common.Moments.{HeadWas, SeenIn}
+use Rattle.queue_laws.specs.Chain.ChainFacts.{place, head_of, HeadIs, IsNamed, HeadBlockIs, HeadBlockRead, IsMore, Got, SawEmpty}
+use Rattle.queue_laws.specs.Chain.ChainCells.{Writer, Writing, Wrote, Reader, Reading, Done, Stands as Rested, Passing, Entering, GivenUp, Chain, FrontOk, ChainOk, Read, Head, HoldsOnly, Nothing, item_at, Free, ItemOk}
+use Rattle.queue_laws.specs.Chain.ChainAnswers.{head_word, linked_of}
 use prog.Atomic.{either}
 use Rattle.machine_memory.specs.Blocks.{block_of, behind, behind_in, state_of}
 use Rattle.machine_memory.specs.SharedMemory.{Shared}
@@ -19,12 +19,12 @@ use Rattle.machine_replay.proofs.Chain.Names.{Codes}
 use Rattle.machine_replay.proofs.Chain.Blocks.{state_is}
 use Rattle.machine_replay.proofs.Chain.Gives.{codes_left, block_at, has_place, state_answers, one_block}
 use Rattle.machine_replay.proofs.Chain.Coded.{CodesShared, Coded}
-use Rattle.law_chain.proofs.ChainReads.{front_is}
-use Rattle.law_chain.specs.ChainTransitions.{taken}
-use Rattle.law_chain.specs.ChainAfter.{taken_if, if_taken}
-use Rattle.law_chain.proofs.ChainAnswers.{same_head, head_offset}
-use Rattle.law_chain.specs.ChainAt.{Only, Either, IsBehind, IsFurther, pop_head, pop_block, pop_tail, taking, following, peeking, passing, entering, awaiting, count_tail, count_head, count_again, empty_head, empty_tail, closing, closed_tail}
-use Rattle.law_chain.proofs.ChainReads.{not_given_up}
+use Rattle.queue_laws.proofs.Chain.ChainReads.{front_is}
+use Rattle.queue_laws.specs.Chain.ChainTransitions.{taken}
+use Rattle.queue_laws.specs.Chain.ChainAfter.{taken_if, if_taken}
+use Rattle.queue_laws.proofs.Chain.ChainAnswers.{same_head, head_offset}
+use Rattle.queue_laws.specs.Chain.ChainAt.{Only, Either, IsBehind, IsFurther, pop_head, pop_block, pop_tail, taking, following, peeking, passing, entering, awaiting, count_tail, count_head, count_again, empty_head, empty_tail, closing, closed_tail}
+use Rattle.queue_laws.proofs.Chain.ChainReads.{not_given_up}
 use Rattle.machine_replay.proofs.Chain.CodesPush.{codes_marked}
 use Rattle.machine_replay.proofs.Chain.CodesPop.{codes_taken, codes_passed, codes_entered}
 

@@ -7,12 +7,12 @@ use Rattle.queue_steps.specs.State.{State}
 use Rattle.queue_steps.specs.ChainWords.{offset_of}
 use Rattle.queue_steps.specs.UnboundedNext.{unbounded_next, chain_tail_found}
 use Rattle.queue_steps.specs.declared.steps.unbounded.UnboundedLocal.TheVariants as chain
-use Rattle.law_chain.specs.ChainCells.{Done, Rests, Laying, Opening, Linking, Showing, Spare, Chain, ChainOk, Write, Tail, Next as Behind, First, HoldsOnly, Nothing, item_at}
-use Rattle.law_chain.specs.ChainFacts.{open_tail_of, IsNamed, TailBlockIs, HasSpare, SawTail, Claimed}
-use Rattle.law_chain.specs.ChainAnswers.{tail_word, last_of, is_done}
-use Rattle.law_chain.proofs.ChainAnswers.{tail_small, same_tail}
-use Rattle.law_chain.proofs.ChainRight.{Gives}
-use Rattle.law_chain.specs.ChainAfter.{left_by, if_installed, claimed_if, if_claimed}
+use Rattle.queue_laws.specs.Chain.ChainCells.{Done, Rests, Laying, Opening, Linking, Showing, Spare, Chain, ChainOk, Write, Tail, Next as Behind, First, HoldsOnly, Nothing, item_at}
+use Rattle.queue_laws.specs.Chain.ChainFacts.{open_tail_of, IsNamed, TailBlockIs, HasSpare, SawTail, Claimed}
+use Rattle.queue_laws.specs.Chain.ChainAnswers.{tail_word, last_of, is_done}
+use Rattle.queue_laws.proofs.Chain.ChainAnswers.{tail_small, same_tail}
+use Rattle.queue_laws.proofs.Chain.ChainRight.{Gives}
+use Rattle.queue_laws.specs.Chain.ChainAfter.{left_by, if_installed, claimed_if, if_claimed}
 use prog.Atomic.{either}
 use Rattle.machine_memory.specs.Blocks.{without, blank, places_in, state_of, put_state, put_item}
 use Rattle.machine_memory.specs.SharedMemory.{Shared, installed}
@@ -22,10 +22,10 @@ use Rattle.machine_replay.proofs.Chain.Names.{Codes, Changed}
 use Rattle.machine_replay.proofs.Chain.Blocks.{placed, place_in, item_put, next_put, state_left, both_put}
 use Rattle.machine_replay.proofs.Chain.Gives.{codes_left, block_at, has_place, state_answers}
 use Rattle.machine_replay.proofs.Chain.Coded.{CodesShared, Coded}
-use Rattle.law_chain.specs.ChainTransitions.{appended}
-use Rattle.law_chain.specs.ChainTransitions as moves
-use Rattle.law_chain.specs.ChainAt.{Only, Either, IsLast, Asks, push_tail, push_block, asking, installing, showing, claiming, laying, opening, chaining, writing, spending}
-use Rattle.law_chain.proofs.ChainReads.{not_given_up}
+use Rattle.queue_laws.specs.Chain.ChainTransitions.{appended}
+use Rattle.queue_laws.specs.Chain.ChainTransitions as moves
+use Rattle.queue_laws.specs.Chain.ChainAt.{Only, Either, IsLast, Asks, push_tail, push_block, asking, installing, showing, claiming, laying, opening, chaining, writing, spending}
+use Rattle.queue_laws.proofs.Chain.ChainReads.{not_given_up}
 use Rattle.machine_replay.proofs.Chain.CodesPush.{codes_marked, codes_granted, codes_installed, codes_displayed, codes_appended, codes_laid_out, codes_opened}
 use Rattle.machine_replay.proofs.Chain.CodesAt.{unread_item, codes_chained, codes_written}
 

@@ -7,9 +7,9 @@ use Rattle.queue_steps.specs.State.{State}
 use Rattle.queue_steps.specs.ChainWords.{offset_of}
 use Rattle.queue_steps.specs.UnboundedNext.{at, walks, walks_on}
 use Rattle.queue_steps.specs.declared.steps.unbounded.UnboundedLocal.TheVariants as chain
-use Rattle.law_chain.specs.ChainCells.{Wrote, Reading, Done, Walker, Waits, GivenUp, Chain, ChainOk, Read, Passed, HoldsOnly, item_at, LAST, Walk, Before, Chained, WalkOk}
-use Rattle.law_chain.specs.ChainFacts.{head_of, IsNamed, Got}
-use Rattle.law_chain.specs.ChainAfter.{left_by}
+use Rattle.queue_laws.specs.Chain.ChainCells.{Wrote, Reading, Done, Walker, Waits, GivenUp, Chain, ChainOk, Read, Passed, HoldsOnly, item_at, LAST, Walk, Before, Chained, WalkOk}
+use Rattle.queue_laws.specs.Chain.ChainFacts.{head_of, IsNamed, Got}
+use Rattle.queue_laws.specs.Chain.ChainAfter.{left_by}
 use Rattle.machine_memory.specs.Blocks.{place_count, Block, without, blank, places_in, state_of, put_item, put_state}
 use Rattle.machine_memory.specs.SharedMemory.{Shared}
 use Rattle.machine_steps.specs.Steps.{spare_in}
@@ -18,14 +18,14 @@ use Rattle.machine_replay.proofs.Chain.Blocks.{there, place_in, item_put, state_
 use Rattle.machine_replay.proofs.Chain.Gives.{block_at, has_place, state_answers}
 use Rattle.machine_replay.proofs.Chain.Coded.{CodesShared, Coded}
 use Rattle.std.proofs.Common.{not, Ok, bit_and, get_or-set_other}
-use Rattle.law_common.proofs.Puts.{put_same}
-use Rattle.law_chain.specs.ChainTransitions.{walk_after, reads, walked}
-use Rattle.law_chain.specs.ChainAnswers.{is_done, waits_at, IsState, StateAnswers}
-use Rattle.law_chain.proofs.ChainAnswers.{done_is, head_offset}
-use Rattle.law_chain.proofs.ChainRead.{waits_is}
-use Rattle.law_chain.proofs.ChainWalk.{after_walker}
-use Rattle.law_chain.specs.ChainAt.{Only, IsLast, reading, beginning, walking, destroying}
-use Rattle.law_chain.proofs.ChainReads.{not_given_up}
+use Rattle.queue_laws.proofs.Common.Puts.{put_same}
+use Rattle.queue_laws.specs.Chain.ChainTransitions.{walk_after, reads, walked}
+use Rattle.queue_laws.specs.Chain.ChainAnswers.{is_done, waits_at, IsState, StateAnswers}
+use Rattle.queue_laws.proofs.Chain.ChainAnswers.{done_is, head_offset}
+use Rattle.queue_laws.proofs.Chain.ChainRead.{waits_is}
+use Rattle.queue_laws.proofs.Chain.ChainWalk.{after_walker}
+use Rattle.queue_laws.specs.Chain.ChainAt.{Only, IsLast, reading, beginning, walking, destroying}
+use Rattle.queue_laws.proofs.Chain.ChainReads.{not_given_up}
 use Rattle.machine_memory.specs.declared.blocks.BlockPlace.{BlockPlace}
 use Rattle.machine_replay.proofs.Chain.Codes.{BlockIs, lies}
 use Rattle.machine_replay.proofs.Chain.Fresh.{unwalked}

@@ -3,9 +3,9 @@ use Rattle.std.proofs.Common.{ℕ, ◌+◌, ◌<◌, ◌≡◌, ◌≢◌, not, 
 use Rattle.std.proofs.lemmas.List.{length-set}
 use Rattle.std.proofs.lemmas.Bool.Decides.{eqb_tells}
 use Rattle.machine_replay.specs.Vocabulary.{BLOCK_SLOTS}
-use Rattle.law_chain.specs.ChainCells.{Writer, Free, Writing, Wrote, Reader, Done, Chain, item_at, LAST}
-use Rattle.law_chain.specs.ChainAnswers.{linked_of, is_wrote, is_done, waits_at, IsState}
-use Rattle.law_chain.proofs.ChainAnswers.{done_is}
+use Rattle.queue_laws.specs.Chain.ChainCells.{Writer, Free, Writing, Wrote, Reader, Done, Chain, item_at, LAST}
+use Rattle.queue_laws.specs.Chain.ChainAnswers.{linked_of, is_wrote, is_done, waits_at, IsState}
+use Rattle.queue_laws.proofs.Chain.ChainAnswers.{done_is}
 use Rattle.machine_memory.specs.declared.blocks.BlockPlace.{BlockPlace}
 use Rattle.machine_memory.specs.Blocks.{blank}
 

@@ -2,12 +2,12 @@
 use Rattle.std.proofs.Common.{ℕ, ◌+◌, ◌/◌, ◌<◌, ◌≡◌, ◌≢◌, ◌∙◌, inl, inr, false, Option, Some, None, List, refl, sym, ap, subst, arith, get_or, set, bit_or}
 use Rattle.std.proofs.lemmas.Bool.Decides.{eqb_tells}
 use Rattle.machine_replay.specs.Vocabulary.{BLOCK_SLOTS, WRITE}
-use Rattle.law_common.specs.Puts.{put}
-use Rattle.law_common.proofs.Puts.{put_other, put_same}
-use Rattle.law_chain.specs.ChainCells.{Writer, Writing, Wrote, Reader, Done, LinkState, Linked, Walk, GivenUp, Chained, Chain, ItemOk, ChainOk, item_at}
-use Rattle.law_chain.specs.ChainTransitions.{chained, written}
-use Rattle.law_chain.specs.ChainFacts.{IsNamed}
-use Rattle.law_chain.specs.ChainAnswers.{linked_of, is_done}
+use Rattle.queue_laws.specs.Common.Puts.{put}
+use Rattle.queue_laws.proofs.Common.Puts.{put_other, put_same}
+use Rattle.queue_laws.specs.Chain.ChainCells.{Writer, Writing, Wrote, Reader, Done, LinkState, Linked, Walk, GivenUp, Chained, Chain, ItemOk, ChainOk, item_at}
+use Rattle.queue_laws.specs.Chain.ChainTransitions.{chained, written}
+use Rattle.queue_laws.specs.Chain.ChainFacts.{IsNamed}
+use Rattle.queue_laws.specs.Chain.ChainAnswers.{linked_of, is_done}
 use Rattle.machine_memory.specs.Blocks.{Block, blank}
 use Rattle.machine_replay.proofs.Chain.Codes.{BlockIs, wrote_in, lies, block_put, block_same}
 use Rattle.machine_replay.proofs.Chain.Bits.{state_written}

@@ -2,13 +2,13 @@
 use Rattle.std.proofs.Common.{ℕ, ◌+◌, ◌*◌, ◌%◌, ◌≡◌, ◌≢◌, ◌∙◌, ◌⊎◌, inl, inr, Bool, true, false, if◌then◌else◌, Option, Some, None, List, refl, sym, ap, subst, arith, get_or}
 use Rattle.machine_replay.specs.Vocabulary.{BLOCK_SLOTS, TAIL_STEP}
 use Rattle.queue_steps.specs.Words.{tail_of, position_of}
-use Rattle.law_common.proofs.Puts.{put_ok}
-use Rattle.law_common.proofs.Tails.{position_tail}
-use Rattle.law_chain.specs.ChainFacts.{place, head_of, IsNamed}
-use Rattle.law_chain.specs.ChainCells.{Unread, Reading, Passer, Stands, Passing, Entering, Chain, FrontOk, ChainOk, item_at}
-use Rattle.law_chain.specs.ChainTransitions.{taken, passed, entered}
-use Rattle.law_chain.proofs.ChainReads.{passer_sees}
-use Rattle.law_chain.specs.ChainAnswers.{head_place, shown_of, is_done}
+use Rattle.queue_laws.proofs.Common.Puts.{put_ok}
+use Rattle.queue_laws.proofs.Common.Tails.{position_tail}
+use Rattle.queue_laws.specs.Chain.ChainFacts.{place, head_of, IsNamed}
+use Rattle.queue_laws.specs.Chain.ChainCells.{Unread, Reading, Passer, Stands, Passing, Entering, Chain, FrontOk, ChainOk, item_at}
+use Rattle.queue_laws.specs.Chain.ChainTransitions.{taken, passed, entered}
+use Rattle.queue_laws.proofs.Chain.ChainReads.{passer_sees}
+use Rattle.queue_laws.specs.Chain.ChainAnswers.{head_place, shown_of, is_done}
 use Rattle.machine_memory.specs.Blocks.{Block}
 use Rattle.machine_replay.proofs.Chain.Names.{Codes, Keeps, name_kept, keeps_all}
 

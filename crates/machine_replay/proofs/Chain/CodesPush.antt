@@ -5,14 +5,14 @@ use Rattle.std.proofs.Math.Seq.{get_or-append_seam}
 use Rattle.std.proofs.lemmas.Bool.{cases_lt}
 use Rattle.machine_replay.specs.Vocabulary.{BLOCK_SLOTS, MARK, TAIL_STEP}
 use Rattle.queue_steps.specs.Words.{tail_of}
-use Rattle.law_common.specs.Puts.{put}
-use Rattle.law_common.proofs.Puts.{put_ok, put_other, put_same}
-use Rattle.law_common.proofs.Tails.{mark_tail, next_tail}
-use Rattle.law_chain.specs.ChainFacts.{place, open_tail_of, IsNamed}
-use Rattle.law_chain.specs.ChainCells.{Writing, Mover, Rests, Laying, Opening, LinkState, Linking, Linked, Shown, Showing, Seen, Unused, Spare, Chained, Chain, BlocksOk, LinkOk, ShownOk, ChainOk, item_at}
-use Rattle.law_chain.proofs.ChainTransitions.{next_free, no_front}
-use Rattle.law_chain.specs.ChainTransitions.{appended, installed, displayed, laid_out, opened, marked, renamed}
-use Rattle.law_chain.specs.ChainAnswers.{tail_place, shown_of, linked_of}
+use Rattle.queue_laws.specs.Common.Puts.{put}
+use Rattle.queue_laws.proofs.Common.Puts.{put_ok, put_other, put_same}
+use Rattle.queue_laws.proofs.Common.Tails.{mark_tail, next_tail}
+use Rattle.queue_laws.specs.Chain.ChainFacts.{place, open_tail_of, IsNamed}
+use Rattle.queue_laws.specs.Chain.ChainCells.{Writing, Mover, Rests, Laying, Opening, LinkState, Linking, Linked, Shown, Showing, Seen, Unused, Spare, Chained, Chain, BlocksOk, LinkOk, ShownOk, ChainOk, item_at}
+use Rattle.queue_laws.proofs.Chain.ChainTransitions.{next_free, no_front}
+use Rattle.queue_laws.specs.Chain.ChainTransitions.{appended, installed, displayed, laid_out, opened, marked, renamed}
+use Rattle.queue_laws.specs.Chain.ChainAnswers.{tail_place, shown_of, linked_of}
 use Rattle.machine_memory.specs.Blocks.{Block, fresh_block}
 use Rattle.machine_replay.proofs.Chain.Codes.{wrote_in}
 use Rattle.machine_replay.proofs.Chain.Names.{NameIs, Codes, Keeps, name_kept, keeps_all}

@@ -2,12 +2,12 @@
 use Rattle.std.proofs.Common.{ℕ, ◌+◌, ◌/◌, ◌<◌, ◌≡◌, ◌≢◌, ◌∙◌, ◌⊎◌, inl, inr, false, Option, Some, None, List, refl, sym, ap, subst, arith, get_or, set, bit_or}
 use Rattle.std.proofs.lemmas.Bool.Decides.{eqb_tells}
 use Rattle.machine_replay.specs.Vocabulary.{BLOCK_SLOTS, READ}
-use Rattle.law_common.specs.Puts.{put}
-use Rattle.law_common.proofs.Puts.{put_ok, put_other, put_same}
-use Rattle.law_chain.specs.ChainCells.{Done, Walk, GivenUp, Unused, Spare, Chained, Chain, ChainOk, item_at, LAST}
-use Rattle.law_chain.specs.ChainTransitions.{reads, walked, walk_after, given_up, lost_of}
-use Rattle.law_chain.specs.ChainFacts.{IsNamed}
-use Rattle.law_chain.specs.ChainAnswers.{is_done, waits_at, IsState}
+use Rattle.queue_laws.specs.Common.Puts.{put}
+use Rattle.queue_laws.proofs.Common.Puts.{put_ok, put_other, put_same}
+use Rattle.queue_laws.specs.Chain.ChainCells.{Done, Walk, GivenUp, Unused, Spare, Chained, Chain, ChainOk, item_at, LAST}
+use Rattle.queue_laws.specs.Chain.ChainTransitions.{reads, walked, walk_after, given_up, lost_of}
+use Rattle.queue_laws.specs.Chain.ChainFacts.{IsNamed}
+use Rattle.queue_laws.specs.Chain.ChainAnswers.{is_done, waits_at, IsState}
 use Rattle.machine_memory.specs.declared.blocks.BlockPlace.{BlockPlace}
 use Rattle.machine_memory.specs.Blocks.{Block, blank}
 use Rattle.machine_replay.proofs.Chain.Codes.{BlockIs, lies, block_put}

@@ -6,13 +6,13 @@ use Rattle.queue_steps.specs.State.{State}
 use Rattle.queue_steps.specs.Sequential.{blocks_of}
 use Rattle.machine_replay.specs.Vocabulary.{Call, Effect, Running}
 use Rattle.machine_replay.proofs.Engine.StandOf.{stand_of}
-use Rattle.law_chain.specs.ChainCells.{Walk, GivenUp, Use, Chained, Chain, queue_of, HoldsOnly, Nothing}
-use Rattle.law_chain.specs.ChainAt.{At}
-use Rattle.law_chain.specs.ChainPasses.{spare_in, Spares}
-use Rattle.law_chain.proofs.Count.{count, count_same, count_front}
-use Rattle.law_chain.proofs.ChainHands.{HandOf, in_hand, idle_hand}
-use Rattle.law_chain.proofs.ChainCount.{is_given_up, is_alive, alive, few_alive}
-use Rattle.law_chain.proofs.ChainSpan.{spans_if, held_items}
+use Rattle.queue_laws.specs.Chain.ChainCells.{Walk, GivenUp, Use, Chained, Chain, queue_of, HoldsOnly, Nothing}
+use Rattle.queue_laws.specs.Chain.ChainAt.{At}
+use Rattle.queue_laws.specs.Chain.ChainPasses.{spare_in, Spares}
+use Rattle.queue_laws.proofs.Chain.Count.{count, count_same, count_front}
+use Rattle.queue_laws.proofs.Chain.ChainHands.{HandOf, in_hand, idle_hand}
+use Rattle.queue_laws.proofs.Chain.ChainCount.{is_given_up, is_alive, alive, few_alive}
+use Rattle.queue_laws.proofs.Chain.ChainSpan.{spans_if, held_items}
 use Rattle.machine_memory.specs.Blocks.{Block}
 use Rattle.machine_replay.specs.Book.{Book}
 use Rattle.machine_memory.specs.SharedMemory.{Shared}

@@ -3,10 +3,10 @@ use Rattle.std.proofs.Common.{ℕ, ◌+◌, ◌-◌, ◌/◌, ◌%◌, ◌≡◌
 use Rattle.machine_replay.specs.Vocabulary.{Op, Touch, Local, UnboundedLocal, BLOCK_SLOTS, READ}
 use Rattle.queue_steps.specs.ChainWords.{offset_of}
 use Rattle.queue_steps.specs.declared.steps.unbounded.UnboundedLocal.TheVariants as chain
-use Rattle.law_chain.specs.ChainCells.{Writing, Reading, Laying, Passing, Linking, Showing, Spare, Chain, Part, Write, Read, Tail, Head, Next, First, Passed, writer_of, reader_of, mover_of, passer_of, linker_of, shower_of, HoldsOnly, Nothing}
-use Rattle.law_chain.specs.ChainFacts.{head_of, open_tail_of, IsNamed, Claimed, Got}
-use Rattle.law_chain.specs.ChainAt.{Only, Either}
-use Rattle.law_chain.proofs.ChainAnswers.{head_offset}
+use Rattle.queue_laws.specs.Chain.ChainCells.{Writing, Reading, Laying, Passing, Linking, Showing, Spare, Chain, Part, Write, Read, Tail, Head, Next, First, Passed, writer_of, reader_of, mover_of, passer_of, linker_of, shower_of, HoldsOnly, Nothing}
+use Rattle.queue_laws.specs.Chain.ChainFacts.{head_of, open_tail_of, IsNamed, Claimed, Got}
+use Rattle.queue_laws.specs.Chain.ChainAt.{Only, Either}
+use Rattle.queue_laws.proofs.Chain.ChainAnswers.{head_offset}
 use Rattle.machine_memory.specs.Blocks.{Block, put_state, put_item, put_next}
 use Rattle.machine_memory.specs.SharedMemory.{block_touched}
 use Rattle.machine_steps.specs.ChainLeft.{reached, settled_at, settled_by}

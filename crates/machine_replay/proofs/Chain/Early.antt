@@ -7,17 +7,17 @@ use Rattle.queue_steps.specs.Next.{next_of}
 use Rattle.queue_steps.specs.Words.{position_of}
 use Rattle.queue_steps.specs.UnboundedNext.{unbounded_next}
 use Rattle.queue_steps.specs.declared.steps.unbounded.UnboundedLocal.TheVariants as chain
-use Rattle.law_common.specs.Effects.{with_effect}
-use Rattle.law_common.specs.Stand.{Stand}
+use Rattle.queue_laws.specs.Common.Effects.{with_effect}
+use Rattle.queue_laws.specs.Common.Stand.{Stand}
 use Rattle.machine_replay.proofs.Engine.StandOf.{running_of}
-use Rattle.law_chain.specs.ChainAfter.{after_of, chain_of, left_by}
-use Rattle.law_chain.specs.ChainAnswers.{Answers, tail_word, head_word}
-use Rattle.law_chain.specs.ChainAt.{At, Only, push_tail, push_block, asking, installing, showing, claiming, spending, pop_head, pop_block, pop_tail, taking, following, peeking, passing, entering, awaiting, reading, beginning, walking, destroying, count_tail, count_head, count_again, empty_head, empty_tail, closing, closed_tail}
-use Rattle.law_chain.specs.ChainCells.{Shown, Hidden, Showing, Seen, Chain, ChainOk, ShownOk, First, owner, shower_of, HoldsOnly, Nothing, queue_of}
-use Rattle.law_chain.specs.ChainFacts.{head_of}
-use Rattle.law_chain.proofs.ChainRanks.{is_seen}
-use Rattle.law_chain.proofs.ChainRight.{NextOkSpares, step_right}
-use Rattle.law_chain.proofs.ChainStep.{is_chain}
+use Rattle.queue_laws.specs.Chain.ChainAfter.{after_of, chain_of, left_by}
+use Rattle.queue_laws.specs.Chain.ChainAnswers.{Answers, tail_word, head_word}
+use Rattle.queue_laws.specs.Chain.ChainAt.{At, Only, push_tail, push_block, asking, installing, showing, claiming, spending, pop_head, pop_block, pop_tail, taking, following, peeking, passing, entering, awaiting, reading, beginning, walking, destroying, count_tail, count_head, count_again, empty_head, empty_tail, closing, closed_tail}
+use Rattle.queue_laws.specs.Chain.ChainCells.{Shown, Hidden, Showing, Seen, Chain, ChainOk, ShownOk, First, owner, shower_of, HoldsOnly, Nothing, queue_of}
+use Rattle.queue_laws.specs.Chain.ChainFacts.{head_of}
+use Rattle.queue_laws.proofs.Chain.ChainRanks.{is_seen}
+use Rattle.queue_laws.proofs.Chain.ChainRight.{NextOkSpares, step_right}
+use Rattle.queue_laws.proofs.Chain.ChainStep.{is_chain}
 use Rattle.machine_memory.specs.SharedMemory.{Shared}
 use Rattle.machine_steps.specs.Steps.{answer_to, step_of, running_after, next_after, carried_then}
 use Rattle.machine_steps.specs.World.{World, call_at}

@@ -7,17 +7,17 @@ use Rattle.queue_steps.specs.State.{State}
 use Rattle.queue_steps.specs.Looks.{call_of_look}
 use Rattle.queue_steps.specs.ChainWords.{offset_of}
 use Rattle.queue_steps.specs.declared.steps.unbounded.UnboundedLocal.TheVariants as chain
-use Rattle.law_common.specs.Pushes.{pushes}
-use Rattle.law_common.proofs.Ranks.{either_small}
-use Rattle.law_common.specs.Stand.{Stand}
-use Rattle.law_chain.specs.ChainCells.{Shown, Seen, Chain, ChainOk, ShownOk, LAST}
-use Rattle.law_chain.specs.ChainAnswers.{tail_word, head_word, shown_of}
-use Rattle.law_chain.specs.ChainAt.{At, push_tail, push_block, asking, installing, showing, claiming, laying, opening, chaining, writing, spending, pop_block, pop_tail, taking, reading, walking, destroying, count_head, count_again, count_tail}
-use Rattle.law_chain.specs.ChainFacts.{head_of, open_tail_of}
-use Rattle.law_chain.proofs.ChainAnswers.{head_offset}
-use Rattle.law_chain.proofs.ChainRanks.{rank, lag, walk_rank, is_seen}
-use Rattle.law_chain.proofs.ChainRanksWalk.{last_claimed}
-use Rattle.law_chain.proofs.ChainRight.{NextOkSpares}
+use Rattle.queue_laws.specs.Common.Pushes.{pushes}
+use Rattle.queue_laws.proofs.Common.Ranks.{either_small}
+use Rattle.queue_laws.specs.Common.Stand.{Stand}
+use Rattle.queue_laws.specs.Chain.ChainCells.{Shown, Seen, Chain, ChainOk, ShownOk, LAST}
+use Rattle.queue_laws.specs.Chain.ChainAnswers.{tail_word, head_word, shown_of}
+use Rattle.queue_laws.specs.Chain.ChainAt.{At, push_tail, push_block, asking, installing, showing, claiming, laying, opening, chaining, writing, spending, pop_block, pop_tail, taking, reading, walking, destroying, count_head, count_again, count_tail}
+use Rattle.queue_laws.specs.Chain.ChainFacts.{head_of, open_tail_of}
+use Rattle.queue_laws.proofs.Chain.ChainAnswers.{head_offset}
+use Rattle.queue_laws.proofs.Chain.ChainRanks.{rank, lag, walk_rank, is_seen}
+use Rattle.queue_laws.proofs.Chain.ChainRanksWalk.{last_claimed}
+use Rattle.queue_laws.proofs.Chain.ChainRight.{NextOkSpares}
 use Rattle.machine_memory.specs.SharedMemory.{Shared}
 use Rattle.machine_steps.specs.Steps.{running_after}
 use Rattle.machine_replay.proofs.Chain.Names.{Codes}

@@ -4,20 +4,20 @@ use Rattle.queue_steps.specs.State.{State}
 use Rattle.queue_steps.specs.Kinds.{call_kind, call_value}
 use Rattle.queue_steps.specs.UnboundedNext.{unbounded_begin, unbounded_next}
 use Rattle.machine_replay.specs.Vocabulary.{Call, Reply, Effect, Kind, Answer, Next, Running}
-use Rattle.law_common.specs.Effects.{with_effect}
+use Rattle.queue_laws.specs.Common.Effects.{with_effect}
 use Rattle.machine_replay.proofs.Engine.StandOf.{stand_of}
-use Rattle.law_chain.specs.ChainCells.{Chain, queue_of, ChainOk, HoldsOnly, Nothing}
-use Rattle.law_chain.specs.ChainPasses.{Passes, Spares, spare_in}
-use Rattle.law_chain.proofs.ChainFacts.{holds_stays}
-use Rattle.law_chain.specs.ChainAt.{At}
-use Rattle.law_chain.proofs.ChainAt.{at_stays}
-use Rattle.law_chain.specs.ChainAnswers.{Answers}
-use Rattle.law_chain.specs.ChainAfter.{chain_of, after_of, carried_of, left_by}
-use Rattle.law_chain.proofs.ChainStart.{Begins, at_begun}
-use Rattle.law_chain.proofs.ChainGiven.{spares_stay}
-use Rattle.law_chain.proofs.ChainRight.{NextOkSpares, step_right}
-use Rattle.law_chain.proofs.ChainRanks.{rank, longest, rank_small, rank_some, Falls}
-use Rattle.law_chain.proofs.ChainRanksStep.{step_falls, wait_free_falls, wait_free_small}
+use Rattle.queue_laws.specs.Chain.ChainCells.{Chain, queue_of, ChainOk, HoldsOnly, Nothing}
+use Rattle.queue_laws.specs.Chain.ChainPasses.{Passes, Spares, spare_in}
+use Rattle.queue_laws.proofs.Chain.ChainFacts.{holds_stays}
+use Rattle.queue_laws.specs.Chain.ChainAt.{At}
+use Rattle.queue_laws.proofs.Chain.ChainAt.{at_stays}
+use Rattle.queue_laws.specs.Chain.ChainAnswers.{Answers}
+use Rattle.queue_laws.specs.Chain.ChainAfter.{chain_of, after_of, carried_of, left_by}
+use Rattle.queue_laws.proofs.Chain.ChainStart.{Begins, at_begun}
+use Rattle.queue_laws.proofs.Chain.ChainGiven.{spares_stay}
+use Rattle.queue_laws.proofs.Chain.ChainRight.{NextOkSpares, step_right}
+use Rattle.queue_laws.proofs.Chain.ChainRanks.{rank, longest, rank_small, rank_some, Falls}
+use Rattle.queue_laws.proofs.Chain.ChainRanksStep.{step_falls, wait_free_falls, wait_free_small}
 use Rattle.machine_replay.specs.Book.{Open, after_own, begun, is_wait_free, joined, watched}
 use Rattle.machine_memory.specs.SharedMemory.{Shared}
 use Rattle.machine_steps.specs.Steps.{CanStep, step_of, start_of, running_after, reply_after}

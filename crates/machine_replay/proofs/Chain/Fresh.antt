@@ -2,9 +2,9 @@
 use Rattle.std.proofs.Common.{ℕ, ◌+◌, ◌*◌, ◌≤◌, ◌≡◌, ◌≢◌, not, ◌∙◌, inl, inr, zero, suc, Some, None, refl, sym, ap, subst, arith}
 use Rattle.std.proofs.lemmas.List.{get_or-replicate, length-replicate}
 use Rattle.machine_replay.specs.Vocabulary.{BLOCK_SLOTS}
-use Rattle.law_chain.specs.ChainCells.{Free, Unread, Done, Mover, Rests, LinkState, Linked, Walk, Before, GivenUp, Chain, BlocksOk, LinkOk, WalkOk, ChainOk, item_at, LAST}
-use Rattle.law_chain.proofs.ChainTransitions.{item_free}
-use Rattle.law_chain.specs.ChainAnswers.{last_of, linked_of, is_wrote, is_done, waits_at, IsState}
+use Rattle.queue_laws.specs.Chain.ChainCells.{Free, Unread, Done, Mover, Rests, LinkState, Linked, Walk, Before, GivenUp, Chain, BlocksOk, LinkOk, WalkOk, ChainOk, item_at, LAST}
+use Rattle.queue_laws.proofs.Chain.ChainTransitions.{item_free}
+use Rattle.queue_laws.specs.Chain.ChainAnswers.{last_of, linked_of, is_wrote, is_done, waits_at, IsState}
 use Rattle.machine_memory.specs.Blocks.{blank, fresh_block}
 use Rattle.machine_replay.proofs.Chain.Codes.{BlockIs, lies}
 

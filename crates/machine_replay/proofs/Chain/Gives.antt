@@ -4,11 +4,11 @@ use Rattle.std.proofs.lemmas.List.{get_or_past, length-set}
 use Rattle.std.proofs.lemmas.Bool.Decides.{eqb_tells}
 use Rattle.std.proofs.lemmas.Bool.{cases_lt}
 use Rattle.machine_replay.specs.Vocabulary.{Answer, Next, BLOCK_SLOTS}
-use Rattle.law_chain.specs.ChainCells.{Done, GivenUp, Chained, Chain, ChainOk, item_at, LAST}
-use Rattle.law_chain.specs.ChainFacts.{IsNamed}
-use Rattle.law_chain.specs.ChainAnswers.{IsState, StateAnswers}
-use Rattle.law_chain.proofs.ChainRight.{Gives}
-use Rattle.law_chain.specs.ChainAfter.{left_by}
+use Rattle.queue_laws.specs.Chain.ChainCells.{Done, GivenUp, Chained, Chain, ChainOk, item_at, LAST}
+use Rattle.queue_laws.specs.Chain.ChainFacts.{IsNamed}
+use Rattle.queue_laws.specs.Chain.ChainAnswers.{IsState, StateAnswers}
+use Rattle.queue_laws.proofs.Chain.ChainRight.{Gives}
+use Rattle.queue_laws.specs.Chain.ChainAfter.{left_by}
 use Rattle.machine_memory.specs.Blocks.{Block, fresh_block, without, places_in, place_count}
 use Rattle.machine_steps.specs.Steps.{spare_in}
 use Rattle.machine_replay.proofs.Chain.Codes.{BlockIs}

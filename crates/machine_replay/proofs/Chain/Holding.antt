@@ -1,7 +1,7 @@
 -- What is so of a machine over a chain of blocks between its steps.
 use Rattle.std.proofs.Common.{◌≡◌}
 use Rattle.queue_steps.specs.State.{State}
-use Rattle.law_chain.specs.ChainCells.{Chain, queue_of, ChainOk}
+use Rattle.queue_laws.specs.Chain.ChainCells.{Chain, queue_of, ChainOk}
 use Rattle.machine_memory.specs.SharedMemory.{Shared}
 use Rattle.machine_replay.proofs.Chain.Names.{Codes}
 

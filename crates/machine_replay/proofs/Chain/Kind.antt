@@ -1,8 +1,8 @@
 -- All that a chain of blocks owes the machine.
 use Rattle.std.proofs.Common.{ℕ, Option, Some, None}
 use Rattle.machine_replay.specs.Vocabulary.{Kind, Running}
-use Rattle.law_chain.specs.ChainCells.{Chain}
-use Rattle.law_chain.proofs.ChainFirst.{first}
+use Rattle.queue_laws.specs.Chain.ChainCells.{Chain}
+use Rattle.queue_laws.proofs.Chain.ChainFirst.{first}
 use Rattle.machine_replay.specs.Book.{Book, Open}
 use Rattle.machine_memory.specs.SharedMemory.{Shared}
 use Rattle.machine_steps.specs.Steps.{CanStep, step_of, start_of}

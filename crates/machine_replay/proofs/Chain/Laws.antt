@@ -4,15 +4,15 @@ use Rattle.queue_steps.specs.State.{State}
 use Rattle.queue_steps.specs.Next.{CanNext, next_of}
 use Rattle.queue_steps.specs.UnboundedNext.{unbounded_next}
 use Rattle.machine_replay.specs.Vocabulary.{Call, Effect, Kind, Next, Running}
-use Rattle.law_common.specs.Effects.{with_effect}
+use Rattle.queue_laws.specs.Common.Effects.{with_effect}
 use Rattle.machine_replay.proofs.Engine.StandOf.{stand_of}
-use Rattle.law_chain.specs.ChainCells.{Chain, queue_of}
-use Rattle.law_chain.specs.ChainAt.{At}
-use Rattle.law_chain.specs.ChainAnswers.{Answers}
-use Rattle.law_chain.specs.ChainAfter.{chain_of, after_of, carried_of, left_by}
-use Rattle.law_chain.proofs.ChainStep.{is_chain}
-use Rattle.law_chain.specs.ChainPasses.{Spares, spare_in}
-use Rattle.law_chain.proofs.ChainRight.{NextOkSpares, step_right}
+use Rattle.queue_laws.specs.Chain.ChainCells.{Chain, queue_of}
+use Rattle.queue_laws.specs.Chain.ChainAt.{At}
+use Rattle.queue_laws.specs.Chain.ChainAnswers.{Answers}
+use Rattle.queue_laws.specs.Chain.ChainAfter.{chain_of, after_of, carried_of, left_by}
+use Rattle.queue_laws.proofs.Chain.ChainStep.{is_chain}
+use Rattle.queue_laws.specs.Chain.ChainPasses.{Spares, spare_in}
+use Rattle.queue_laws.proofs.Chain.ChainRight.{NextOkSpares, step_right}
 use Rattle.machine_replay.specs.Book.{Open, Moves, after_own}
 use Rattle.machine_memory.specs.SharedMemory.{Shared, CanTouch, CanOperate, block_touched, slots_there}
 use Rattle.machine_steps.specs.Steps.{CanReply, CanStep, after_touch, answer_to, carried_then, shared_then, next_after, running_after, reply_after, step_of, start_of}

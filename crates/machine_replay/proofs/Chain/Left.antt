@@ -5,11 +5,11 @@ use Rattle.std.proofs.lemmas.Bool.Decides.{eqb_tells}
 use Rattle.std.proofs.lemmas.List.{drop_all}
 use Rattle.queue_steps.specs.State.{State}
 use Rattle.machine_replay.specs.Vocabulary.{Kind, BLOCK_SLOTS, Running}
-use Rattle.law_chain.specs.ChainCells.{Reading, Done, Passer, Stands, Passing, Entering, Shown, Hidden, Showing, Seen, GivenUp, Before, Unused, Spare, Chained, Chain, ChainOk, FrontOk, ShownOk, item_at, LAST, Head, passer_of}
-use Rattle.law_chain.proofs.ChainTransitions.{no_block}
-use Rattle.law_chain.proofs.ChainCount.{number_of}
-use Rattle.law_chain.proofs.ChainSpan.{not_done}
-use Rattle.law_chain.proofs.Count.{count_all, count_into}
+use Rattle.queue_laws.specs.Chain.ChainCells.{Reading, Done, Passer, Stands, Passing, Entering, Shown, Hidden, Showing, Seen, GivenUp, Before, Unused, Spare, Chained, Chain, ChainOk, FrontOk, ShownOk, item_at, LAST, Head, passer_of}
+use Rattle.queue_laws.proofs.Chain.ChainTransitions.{no_block}
+use Rattle.queue_laws.proofs.Chain.ChainCount.{number_of}
+use Rattle.queue_laws.proofs.Chain.ChainSpan.{not_done}
+use Rattle.queue_laws.proofs.Chain.Count.{count_all, count_into}
 use Rattle.machine_memory.specs.Blocks.{Block, fresh_block, places_in, behind_in, without}
 use Rattle.machine_replay.specs.Book.{Book}
 use Rattle.machine_memory.specs.SharedMemory.{Shared}

@@ -2,9 +2,9 @@
 use Rattle.std.proofs.Common.{ℕ, suc, zero, ◌+◌, ◌-◌, ◌/◌, ◌<◌, ◌≡◌, ◌≢◌, ◌∙◌, ◌⊎◌, inl, inr, Option, Some, None, List, [], ◌∷◌, length, refl, sym, ap, subst, get_or, arith}
 use Rattle.std.proofs.lemmas.List.{get_or-replicate, length-replicate}
 use Rattle.machine_replay.specs.Vocabulary.{BLOCK_SLOTS, Running}
-use Rattle.law_chain.specs.ChainCells.{Mover, Rests, Laying, Opening, LinkState, Unlinked, Linking, Linked, Shown, Hidden, Showing, Seen, Spare, Chained, Chain, ChainOk, LinkOk, Next, First, Tail, mover_of, linker_of, shower_of}
-use Rattle.law_chain.specs.ChainAnswers.{linked_of, shown_of}
-use Rattle.law_chain.specs.ChainPasses.{spare_in, Spares}
+use Rattle.queue_laws.specs.Chain.ChainCells.{Mover, Rests, Laying, Opening, LinkState, Unlinked, Linking, Linked, Shown, Hidden, Showing, Seen, Spare, Chained, Chain, ChainOk, LinkOk, Next, First, Tail, mover_of, linker_of, shower_of}
+use Rattle.queue_laws.specs.Chain.ChainAnswers.{linked_of, shown_of}
+use Rattle.queue_laws.specs.Chain.ChainPasses.{spare_in, Spares}
 use Rattle.machine_memory.specs.declared.blocks.BlockPlace.{BlockPlace}
 use Rattle.machine_memory.specs.Blocks.{Block, blank, fresh_block}
 use Rattle.machine_steps.specs.ChainLeft.{unread, settled_front, front_at}

@@ -5,12 +5,12 @@ use Rattle.queue_steps.specs.State.{State}
 use Rattle.queue_steps.specs.Words.{is_shut}
 use Rattle.machine_replay.specs.Vocabulary.{Call, Reply, Effect, Kind, Answer, Local, UnboundedLocal, EffectKind}
 use Rattle.queue_steps.specs.declared.steps.unbounded.UnboundedLocal.TheVariants as chain
-use Rattle.law_common.specs.Moments.{SeenIn}
-use Rattle.law_common.specs.Effects.{Leads, with_effect}
-use Rattle.law_common.specs.Stand.{Stand}
-use Rattle.law_chain.specs.ChainCells.{Chain, queue_of}
-use Rattle.law_chain.specs.ChainAt.{At, laying, opening, chaining, writing, following, peeking, passing, entering, awaiting, reading, beginning, walking, destroying}
-use Rattle.law_chain.proofs.ChainStepOk.{IsEffect}
+use Rattle.queue_laws.specs.Common.Moments.{SeenIn}
+use Rattle.queue_laws.specs.Common.Effects.{Leads, with_effect}
+use Rattle.queue_laws.specs.Common.Stand.{Stand}
+use Rattle.queue_laws.specs.Chain.ChainCells.{Chain, queue_of}
+use Rattle.queue_laws.specs.Chain.ChainAt.{At, laying, opening, chaining, writing, following, peeking, passing, entering, awaiting, reading, beginning, walking, destroying}
+use Rattle.queue_laws.proofs.Chain.ChainStepOk.{IsEffect}
 use Rattle.machine_replay.specs.Book.{Open, Moves, Allows, IsBegun}
 use Rattle.machine_memory.specs.EffectOf.{effect_of}
 use Rattle.machine_replay.proofs.Engine.Moments.{any_in, begun_none, begun_append}

@@ -1,9 +1,9 @@
 -- How the words, links and blocks of the machine stand for a chain.
 use Rattle.std.proofs.Common.{ℕ, ◌+◌, ◌<◌, ◌≤◌, ◌≡◌, ◌≢◌, ◌∙◌, ◌⊎◌, inl, inr, Option, Some, None, List, length, refl, sym, ap, subst, get_or}
 use Rattle.machine_replay.specs.Vocabulary.{BLOCK_SLOTS}
-use Rattle.law_chain.specs.ChainCells.{item_at, GivenUp, Use, Unused, Spare, Chained, Chain}
-use Rattle.law_chain.specs.ChainFacts.{IsNamed}
-use Rattle.law_chain.specs.ChainAnswers.{tail_word, head_word, last_of, shown_of, linked_of, is_done, waits_at}
+use Rattle.queue_laws.specs.Chain.ChainCells.{item_at, GivenUp, Use, Unused, Spare, Chained, Chain}
+use Rattle.queue_laws.specs.Chain.ChainFacts.{IsNamed}
+use Rattle.queue_laws.specs.Chain.ChainAnswers.{tail_word, head_word, last_of, shown_of, linked_of, is_done, waits_at}
 use Rattle.machine_memory.specs.Blocks.{Block, fresh_block}
 use Rattle.machine_replay.proofs.Chain.Codes.{BlockIs, SameItem, wrote_in, block_same}
 

@@ -9,21 +9,21 @@ use Rattle.queue_steps.specs.ChainWords.{offset_of, items_before}
 use Rattle.queue_steps.specs.UnboundedNext as steps
 use Rattle.queue_steps.specs.UnboundedNext.{chain_tail_found, chain_head_found, head_block_found, tail_block_found, asks, claims, lays, writes, ends, loads, is_last_slot, unbounded_next}
 use Rattle.queue_steps.specs.declared.steps.unbounded.UnboundedLocal.TheVariants as chain
-use Rattle.law_common.proofs.Ranks.{either_small}
-use Rattle.law_common.proofs.Tails.{position_tail, shut_tail}
-use Rattle.law_common.specs.Stand.{Stand}
-use Rattle.law_chain.specs.ChainAfter.{after_of, chain_of, claimed_if, if_installed}
-use Rattle.law_chain.specs.ChainAnswers.{Answers, tail_place, tail_word, head_word, last_of, shown_of}
-use Rattle.law_chain.specs.ChainAt.{At, Only, push_tail, push_block, asking, installing, showing, claiming, laying, opening, chaining, writing, spending, pop_head, pop_block, pop_tail, taking, count_tail, count_head, count_again, empty_head, empty_tail, closing, closed_tail}
-use Rattle.law_chain.specs.ChainCells.{Rests, Stands, Shown, Seen, Chain, ChainOk, Tail, Head, First, HoldsOnly, Nothing}
-use Rattle.law_chain.specs.ChainFacts.{place, head_of, open_tail_of, HeadIs, TailIs, HasSpare}
-use Rattle.law_chain.specs.ChainTransitions.{installed}
-use Rattle.law_chain.proofs.ChainAnswers.{tail_items, resting_word}
-use Rattle.law_chain.proofs.ChainPush.{tail_ways}
-use Rattle.law_chain.proofs.ChainRanks.{is_seen, lag, lag_none, Falls, rests_if, stands_if}
-use Rattle.law_chain.proofs.ChainRanksPop.{head_falls}
-use Rattle.law_chain.proofs.ChainRanksPush.{push_tail_falls}
-use Rattle.law_chain.proofs.ChainTransitions.{no_block}
+use Rattle.queue_laws.proofs.Common.Ranks.{either_small}
+use Rattle.queue_laws.proofs.Common.Tails.{position_tail, shut_tail}
+use Rattle.queue_laws.specs.Common.Stand.{Stand}
+use Rattle.queue_laws.specs.Chain.ChainAfter.{after_of, chain_of, claimed_if, if_installed}
+use Rattle.queue_laws.specs.Chain.ChainAnswers.{Answers, tail_place, tail_word, head_word, last_of, shown_of}
+use Rattle.queue_laws.specs.Chain.ChainAt.{At, Only, push_tail, push_block, asking, installing, showing, claiming, laying, opening, chaining, writing, spending, pop_head, pop_block, pop_tail, taking, count_tail, count_head, count_again, empty_head, empty_tail, closing, closed_tail}
+use Rattle.queue_laws.specs.Chain.ChainCells.{Rests, Stands, Shown, Seen, Chain, ChainOk, Tail, Head, First, HoldsOnly, Nothing}
+use Rattle.queue_laws.specs.Chain.ChainFacts.{place, head_of, open_tail_of, HeadIs, TailIs, HasSpare}
+use Rattle.queue_laws.specs.Chain.ChainTransitions.{installed}
+use Rattle.queue_laws.proofs.Chain.ChainAnswers.{tail_items, resting_word}
+use Rattle.queue_laws.proofs.Chain.ChainPush.{tail_ways}
+use Rattle.queue_laws.proofs.Chain.ChainRanks.{is_seen, lag, lag_none, Falls, rests_if, stands_if}
+use Rattle.queue_laws.proofs.Chain.ChainRanksPop.{head_falls}
+use Rattle.queue_laws.proofs.Chain.ChainRanksPush.{push_tail_falls}
+use Rattle.queue_laws.proofs.Chain.ChainTransitions.{no_block}
 use Rattle.machine_replay.proofs.Chain.Far.{far_at, one_of_pop, lag_most}
 use Rattle.machine_replay.proofs.Chain.Taken.{ready_of, unheld}
 

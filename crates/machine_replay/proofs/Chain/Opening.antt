@@ -3,7 +3,7 @@ use Rattle.std.proofs.Common.{ℕ, None, [], refl, arith}
 use Rattle.std.proofs.lemmas.List.{get_or_past}
 use Rattle.queue_steps.specs.State.{start}
 use Rattle.machine_replay.specs.Vocabulary.{Kind}
-use Rattle.law_chain.proofs.ChainFirst.{first, first_ok, first_idle, first_spares}
+use Rattle.queue_laws.proofs.Chain.ChainFirst.{first, first_ok, first_idle, first_spares}
 use Rattle.machine_memory.specs.Opening.{opening_shared}
 use Rattle.machine_replay.proofs.Chain.Fits.{ChainIdle}
 use Rattle.machine_replay.proofs.Chain.Holding.{ChainHolds}

@@ -1,6 +1,6 @@
 -- Each step of a call on a chain leaves words, links and blocks that stand for the chain after it.
-use Rattle.law_chain.proofs.ChainStep.{step_good}
-use Rattle.law_chain.proofs.ChainRight.{step_right}
+use Rattle.queue_laws.proofs.Chain.ChainStep.{step_good}
+use Rattle.queue_laws.proofs.Chain.ChainRight.{step_right}
 use Rattle.machine_steps.specs.Steps.{answer_to}
 use Rattle.machine_replay.proofs.Chain.CodedAll.{coded}
 use Rattle.machine_replay.proofs.Chain.Laws.{StepsStand}

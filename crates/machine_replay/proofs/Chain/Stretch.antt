@@ -4,21 +4,21 @@ use Rattle.queue_steps.specs.State.{State}
 use Rattle.queue_steps.specs.Next.{next_of}
 use Rattle.queue_steps.specs.Words.{is_shut, tail_of}
 use Rattle.machine_replay.specs.Vocabulary.{Kind, Word, Link, Op, Touch, Next, MARK, EffectKind, Running}
-use Rattle.law_common.specs.Effects.{with_effect}
-use Rattle.law_common.proofs.Tails.{mark_tail, shut_tail}
-use Rattle.law_common.specs.Stand.{Stand}
+use Rattle.queue_laws.specs.Common.Effects.{with_effect}
+use Rattle.queue_laws.proofs.Common.Tails.{mark_tail, shut_tail}
+use Rattle.queue_laws.specs.Common.Stand.{Stand}
 use Rattle.machine_replay.proofs.Engine.StandOf.{running_of}
-use Rattle.law_chain.specs.ChainCells.{Chain, queue_of}
-use Rattle.law_chain.specs.ChainAfter.{after_of, left_by}
-use Rattle.law_chain.specs.ChainAnswers.{tail_place, tail_word}
-use Rattle.law_chain.specs.ChainAt.{At, push_tail, push_block, asking, installing, showing, claiming, spending, pop_head, pop_block, pop_tail, taking, count_tail, count_head, count_again, empty_head, empty_tail, closing, closed_tail}
-use Rattle.law_chain.proofs.ChainFirst.{first}
-use Rattle.law_chain.proofs.ChainRanks.{rank, rank_some, Falls, IsQuiet}
-use Rattle.law_chain.proofs.ChainRanksStep.{step_falls}
-use Rattle.law_chain.proofs.ChainRight.{NextOkSpares, step_right}
-use Rattle.law_chain.proofs.ChainStep.{is_chain}
+use Rattle.queue_laws.specs.Chain.ChainCells.{Chain, queue_of}
+use Rattle.queue_laws.specs.Chain.ChainAfter.{after_of, left_by}
+use Rattle.queue_laws.specs.Chain.ChainAnswers.{tail_place, tail_word}
+use Rattle.queue_laws.specs.Chain.ChainAt.{At, push_tail, push_block, asking, installing, showing, claiming, spending, pop_head, pop_block, pop_tail, taking, count_tail, count_head, count_again, empty_head, empty_tail, closing, closed_tail}
+use Rattle.queue_laws.proofs.Chain.ChainFirst.{first}
+use Rattle.queue_laws.proofs.Chain.ChainRanks.{rank, rank_some, Falls, IsQuiet}
+use Rattle.queue_laws.proofs.Chain.ChainRanksStep.{step_falls}
+use Rattle.queue_laws.proofs.Chain.ChainRight.{NextOkSpares, step_right}
+use Rattle.queue_laws.proofs.Chain.ChainStep.{is_chain}
 use prog.Atomic.{either}
-use Rattle.law_common.specs.Operations.{op_word, op_makes}
+use Rattle.queue_laws.specs.Common.Operations.{op_word, op_makes}
 use Rattle.machine_replay.specs.Book.{Open}
 use Rattle.machine_memory.specs.SharedMemory.{Shared, word_at, put_word, put_at, touched, operated, granted_if, block_touched}
 use Rattle.machine_steps.specs.Steps.{answer_to, step_of, running_after, next_after, carried_then, after_touch}

@@ -8,20 +8,20 @@ use Rattle.queue_steps.specs.Next.{next_of}
 use Rattle.queue_steps.specs.ChainWords.{offset_of}
 use Rattle.queue_steps.specs.UnboundedNext.{followed, written_found, ends, walks, walks_on, unbounded_next}
 use Rattle.queue_steps.specs.declared.steps.unbounded.UnboundedLocal.TheVariants as chain
-use Rattle.law_common.specs.Stand.{Stand}
-use Rattle.law_chain.specs.ChainCells as cells
-use Rattle.law_chain.specs.ChainCells.{Reader, Unread, Reading, Done, Shown, Seen, Chain, ChainOk, ItemOk, ShownOk, Part, Write, Read, Tail, Head, Passed, owner, item_at, LAST, HoldsOnly}
-use Rattle.law_chain.specs.ChainAfter.{chain_of}
-use Rattle.law_chain.specs.ChainAnswers.{Answers, IsState, linked_of, is_wrote}
-use Rattle.law_chain.specs.ChainAt.{Only, Either, At, showing, laying, opening, chaining, writing, following, peeking, passing, entering, awaiting, reading, beginning, walking, destroying}
-use Rattle.law_chain.proofs.ChainEarly.{early}
-use Rattle.law_chain.specs.ChainFacts.{head_of}
-use Rattle.law_chain.proofs.ChainAnswers.{head_offset}
-use Rattle.law_chain.proofs.ChainRanks.{rests_if}
-use Rattle.law_chain.proofs.ChainRanksPop.{wrote_then, linked_then}
-use Rattle.law_chain.proofs.ChainRanksWalk.{last_claimed}
-use Rattle.law_chain.proofs.ChainReads.{own_item}
-use Rattle.law_chain.proofs.ChainStep.{is_chain}
+use Rattle.queue_laws.specs.Common.Stand.{Stand}
+use Rattle.queue_laws.specs.Chain.ChainCells as cells
+use Rattle.queue_laws.specs.Chain.ChainCells.{Reader, Unread, Reading, Done, Shown, Seen, Chain, ChainOk, ItemOk, ShownOk, Part, Write, Read, Tail, Head, Passed, owner, item_at, LAST, HoldsOnly}
+use Rattle.queue_laws.specs.Chain.ChainAfter.{chain_of}
+use Rattle.queue_laws.specs.Chain.ChainAnswers.{Answers, IsState, linked_of, is_wrote}
+use Rattle.queue_laws.specs.Chain.ChainAt.{Only, Either, At, showing, laying, opening, chaining, writing, following, peeking, passing, entering, awaiting, reading, beginning, walking, destroying}
+use Rattle.queue_laws.proofs.Chain.ChainEarly.{early}
+use Rattle.queue_laws.specs.Chain.ChainFacts.{head_of}
+use Rattle.queue_laws.proofs.Chain.ChainAnswers.{head_offset}
+use Rattle.queue_laws.proofs.Chain.ChainRanks.{rests_if}
+use Rattle.queue_laws.proofs.Chain.ChainRanksPop.{wrote_then, linked_then}
+use Rattle.queue_laws.proofs.Chain.ChainRanksWalk.{last_claimed}
+use Rattle.queue_laws.proofs.Chain.ChainReads.{own_item}
+use Rattle.queue_laws.proofs.Chain.ChainStep.{is_chain}
 use Rattle.machine_replay.specs.Book.{Open}
 use Rattle.machine_memory.specs.SharedMemory.{Shared}
 use Rattle.machine_steps.specs.Steps.{answer_to, step_of, running_after, next_after, carried_then}

@@ -6,21 +6,21 @@ use Rattle.queue_steps.specs.Next.{next_of}
 use Rattle.queue_steps.specs.ChainWords.{offset_of}
 use Rattle.queue_steps.specs.UnboundedNext.{chain_tail_found, chain_head_found, chain_pop_tail_found, followed, written_found, unbounded_next}
 use Rattle.queue_steps.specs.declared.steps.unbounded.UnboundedLocal.TheVariants as chain
-use Rattle.law_common.specs.Stand.{Stand}
+use Rattle.queue_laws.specs.Common.Stand.{Stand}
 use Rattle.machine_replay.proofs.Engine.StandOf.{stand_of}
-use Rattle.law_chain.specs.ChainAfter.{chain_of}
-use Rattle.law_chain.specs.ChainAnswers.{Answers, IsState, tail_word, head_word, shown_of, linked_of, is_wrote}
-use Rattle.law_chain.specs.ChainAt.{At, push_tail, showing, laying, opening, chaining, writing, pop_head, pop_tail, following, peeking, passing, entering, awaiting, reading, beginning, walking, destroying}
-use Rattle.law_chain.proofs.ChainEarly.{early}
-use Rattle.law_chain.specs.ChainCells as cells
-use Rattle.law_chain.specs.ChainCells.{Passing, Shown, Seen, Chain, ChainOk, Part, Write, Read, Tail, Head, First, Passed, owner}
-use Rattle.law_chain.specs.ChainFacts.{head_of, open_tail_of}
-use Rattle.law_chain.proofs.ChainAnswers.{head_offset}
-use Rattle.law_chain.proofs.ChainRanks.{rank, tail_rank, is_seen, Falls, rests_if, stands_if}
-use Rattle.law_chain.proofs.ChainRanksPop.{head_falls, pop_tail_falls, following_falls, wrote_then, awaiting_falls}
-use Rattle.law_chain.proofs.ChainRanksPush.{push_tail_falls}
-use Rattle.law_chain.proofs.ChainReads.{own_item}
-use Rattle.law_chain.proofs.ChainStep.{is_chain}
+use Rattle.queue_laws.specs.Chain.ChainAfter.{chain_of}
+use Rattle.queue_laws.specs.Chain.ChainAnswers.{Answers, IsState, tail_word, head_word, shown_of, linked_of, is_wrote}
+use Rattle.queue_laws.specs.Chain.ChainAt.{At, push_tail, showing, laying, opening, chaining, writing, pop_head, pop_tail, following, peeking, passing, entering, awaiting, reading, beginning, walking, destroying}
+use Rattle.queue_laws.proofs.Chain.ChainEarly.{early}
+use Rattle.queue_laws.specs.Chain.ChainCells as cells
+use Rattle.queue_laws.specs.Chain.ChainCells.{Passing, Shown, Seen, Chain, ChainOk, Part, Write, Read, Tail, Head, First, Passed, owner}
+use Rattle.queue_laws.specs.Chain.ChainFacts.{head_of, open_tail_of}
+use Rattle.queue_laws.proofs.Chain.ChainAnswers.{head_offset}
+use Rattle.queue_laws.proofs.Chain.ChainRanks.{rank, tail_rank, is_seen, Falls, rests_if, stands_if}
+use Rattle.queue_laws.proofs.Chain.ChainRanksPop.{head_falls, pop_tail_falls, following_falls, wrote_then, awaiting_falls}
+use Rattle.queue_laws.proofs.Chain.ChainRanksPush.{push_tail_falls}
+use Rattle.queue_laws.proofs.Chain.ChainReads.{own_item}
+use Rattle.queue_laws.proofs.Chain.ChainStep.{is_chain}
 use Rattle.machine_steps.specs.Left.{opening_world}
 use Rattle.machine_memory.specs.SharedMemory.{Shared}
 use Rattle.machine_steps.specs.Steps.{answer_to, running_after, next_after, carried_then}

@@ -4,7 +4,7 @@ use Rattle.std.proofs.lemmas.List.{length-set}
 use Rattle.std.proofs.lemmas.Bool.Decides.{eqb_tells}
 use Rattle.machine_replay.specs.Vocabulary.{Touch, Running}
 use Rattle.queue_steps.specs.Words.{slot_at}
-use Rattle.law_ring.proofs.RingCells.{apart}
+use Rattle.queue_laws.proofs.Ring.RingCells.{apart}
 use Rattle.machine_steps.specs.Left.{written, written_by, all_written, gathered}
 
 -- whether a touch writes slot i

@@ -3,7 +3,7 @@ use Rattle.std.proofs.Common.{ℕ, ◌+◌, ◌-◌, ◌<◌, ◌≡◌, ◌≢�
 use Rattle.std.proofs.lemmas.List.{get_or_past, length-set}
 use Rattle.std.proofs.lemmas.Bool.{ltb-true, ltb-false}
 use Rattle.std.proofs.lemmas.Bool.Decides.{eqb_tells}
-use Rattle.law_common.proofs.Tests.{and_true, is_none_true}
+use Rattle.queue_laws.proofs.Common.Tests.{and_true, is_none_true}
 use Rattle.queue_steps.specs.State.{State}
 use Rattle.queue_steps.specs.Replies.{IsRightAt}
 use Rattle.machine_replay.specs.Vocabulary.{Call, Reply, Effect, Event, Begin, Step, Skipped}

@@ -4,9 +4,9 @@ use Rattle.std.specs.List.{Any}
 use Rattle.queue_steps.specs.State.{State, start}
 use Rattle.queue_steps.specs.Sequential.{sequential_reply}
 use Rattle.machine_replay.specs.Vocabulary.{Call, Reply, Effect, PushKind}
-use Rattle.law_common.specs.Moments as laws
-use Rattle.law_common.specs.Moments.{SeenIn}
-use Rattle.law_common.specs.Pushes.{pushes}
+use Rattle.queue_laws.specs.Common.Moments as laws
+use Rattle.queue_laws.specs.Common.Moments.{SeenIn}
+use Rattle.queue_laws.specs.Common.Pushes.{pushes}
 use Rattle.machine_replay.specs.Book.{IsBegun, seen_by}
 
 -- what was so at some moment is so at one of them

@@ -2,7 +2,7 @@
 use Rattle.std.proofs.Common.{◌≡◌, Bool, true, false, if◌then◌else◌, Option, Some, None, refl, sym, subst}
 use Rattle.queue_steps.specs.State.{State}
 use Rattle.machine_replay.specs.Vocabulary.{Effect, EffectKind}
-use Rattle.law_common.specs.Effects.{Leads, with_effect, Whether}
+use Rattle.queue_laws.specs.Common.Effects.{Leads, with_effect, Whether}
 use Rattle.machine_replay.specs.Book.{Open, Moves, MayMake, kind_of}
 
 -- a step without effect leaves the queue

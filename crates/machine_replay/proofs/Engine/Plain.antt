@@ -1,7 +1,7 @@
 -- Operations on the words of a queue with a capacity: they need no block, and where there is none, none comes.
 use Rattle.std.proofs.Common.{◌≡◌, ◌∙◌, ℕ, Bool, true, Option, Some, None, [], refl, ap}
 use Rattle.machine_replay.specs.Vocabulary.{Kind, Word, Op, Touch, Local, Running}
-use Rattle.law_common.specs.Operations.{OnWord, op_word, op_makes}
+use Rattle.queue_laws.specs.Common.Operations.{OnWord, op_word, op_makes}
 use Rattle.machine_memory.specs.Blocks.{without}
 use Rattle.machine_memory.specs.SharedMemory.{Shared, word_at, put_word, operated, block_touched, touched}
 use Rattle.machine_steps.specs.Steps.{after_touch, after_operation, shared_then, step_of, CanStep}

@@ -2,7 +2,7 @@
 use Rattle.std.proofs.Common.{◌≡◌, ◌∙◌, ℕ, ◌+◌, ◌<◌, ◌≤◌, ◌&&◌, nat_lt, Bool, true, false, cond, Option, Some, None, is_none, List, [], ◌∷◌, ◌++◌, length, get_or-set_same, refl, sym, ap, subst, arith, inl, inr}
 use Rattle.std.proofs.lemmas.Bool.{ltb-true}
 use Rattle.std.proofs.lemmas.Bool.Decides.{eqb_tells}
-use Rattle.law_common.proofs.Tests.{is_none_true}
+use Rattle.queue_laws.proofs.Common.Tests.{is_none_true}
 use Rattle.queue_steps.specs.State.{State}
 use Rattle.machine_replay.specs.Vocabulary.{Reply, Effect, Kind, Local, Event, Told, EffectKind, Begin, Step, Skipped, Ran, Running}
 use Rattle.machine_replay.specs.Book.{Book, Open, Happens, Steps, Moves, kind_of, at_open, put, joined, watched, begun, after_own}

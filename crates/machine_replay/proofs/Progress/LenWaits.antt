@@ -6,14 +6,14 @@ use Rattle.queue_steps.specs.State.{State}
 use Rattle.machine_replay.specs.Vocabulary.{Kind, Local, Next, BoundedLocal, MAX_CAPACITY, Event, Running}
 use Rattle.queue_steps.specs.declared.steps.single.SingleLocal.TheVariants.{Looking}
 use Rattle.queue_steps.specs.declared.steps.unbounded.UnboundedLocal.TheVariants as chain
-use Rattle.law_slot.specs.SlotHolder.{SlotHolder}
-use Rattle.law_slot.specs.SlotRows as slot
-use Rattle.law_common.specs.Stand.{Stand}
+use Rattle.queue_laws.specs.Slot.SlotHolder.{SlotHolder}
+use Rattle.queue_laws.specs.Slot.SlotRows as slot
+use Rattle.queue_laws.specs.Common.Stand.{Stand}
 use Rattle.machine_replay.proofs.Engine.StandOf.{running_of}
-use Rattle.law_ring.specs.RingCells.{Ring}
-use Rattle.law_ring.specs.RingAt as ring
-use Rattle.law_chain.specs.ChainCells.{Chain}
-use Rattle.law_chain.specs.ChainAt as links
+use Rattle.queue_laws.specs.Ring.RingCells.{Ring}
+use Rattle.queue_laws.specs.Ring.RingAt as ring
+use Rattle.queue_laws.specs.Chain.ChainCells.{Chain}
+use Rattle.queue_laws.specs.Chain.ChainAt as links
 use Rattle.machine_steps.specs.Left.{opening_world}
 use Rattle.machine_steps.specs.Machine.{event_of}
 use Rattle.machine_memory.specs.SharedMemory.{Shared}

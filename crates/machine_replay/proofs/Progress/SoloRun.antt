@@ -5,7 +5,7 @@ use Rattle.std.proofs.lemmas.Bool.Decides.{eqb_tells}
 use Rattle.std.proofs.lemmas.List.{drop-append-le, drop_all, take-append-le, take_all}
 use Rattle.std.proofs.lemmas.List.Elements.{Contains-push}
 use Rattle.std.proofs.lemmas.List.Sums.{sum_by-append}
-use Rattle.law_common.proofs.Tests.{none_if, is_none_true}
+use Rattle.queue_laws.proofs.Common.Tests.{none_if, is_none_true}
 use Rattle.machine_replay.specs.Vocabulary.{Call, Reply, SOLO_STEPS, WAIT_FREE_STEPS, Event, Told, Replay, Begin, Step, Skipped, Ran}
 use Rattle.machine_replay.specs.Book.{Book, Open, Happens, Run, fits, is_wait_free, opening, at_open, joined, watched, after_own, begun}
 use Rattle.machine_replay.specs.Conforms.{Conforms, party_of}

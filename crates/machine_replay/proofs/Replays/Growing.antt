@@ -3,7 +3,7 @@ use Rattle.std.proofs.Common.{◌≡◌, ◌∙◌, ℕ, ◌+◌, ◌≤◌, Opt
 use Rattle.queue_steps.specs.State.{State}
 use Rattle.queue_steps.specs.Effect.{made, rest, with_coming}
 use Rattle.machine_replay.specs.Vocabulary.{Effect, Event, Told, EffectKind, Begin, Step, Skipped, Ran}
-use Rattle.law_common.proofs.Runs.{cap_made}
+use Rattle.queue_laws.proofs.Common.Runs.{cap_made}
 use Rattle.machine_replay.specs.Book.{Book, Open, Moves, Happens, Run}
 
 length-rest : {T : Type 0} (xs : List T) → length (rest xs) ≤ length xs

@@ -6,9 +6,9 @@ use Rattle.queue_steps.specs.Replies.{IsRightAt}
 use Rattle.queue_steps.proofs.LookLaws.{look_right_tells}
 use Rattle.queue_steps.specs.Sequential.{Owned}
 use Rattle.machine_replay.specs.Vocabulary.{Call, Reply, Effect, EffectKind}
-use Rattle.law_common.specs.Effects.{MayFront}
-use Rattle.law_common.proofs.Alone.{Only, Alone, alone_more}
-use Rattle.law_moments.proofs.Table.{Agrees, Done, finish}
+use Rattle.queue_laws.specs.Common.Effects.{MayFront}
+use Rattle.queue_laws.proofs.Common.Alone.{Only, Alone, alone_more}
+use Rattle.queue_laws.proofs.Moment.Table.{Agrees, Done, finish}
 use Rattle.machine_replay.specs.Book.{Open, Allows, MayEnd, Moves, MayMake, kind_of, has_steps, after_own}
 
 only_at : {T : Type 0} (Q : State T) (ms : List (State T)) (k : ℕ) (x : State T) → Only Q ms → k < length ms → get_or ms k x ≡ x → x ≡ Q

@@ -2,7 +2,7 @@
 use Rattle.std.proofs.Common.{ℕ, ◌+◌, ◌<◌, ◌≡◌, ◌&&◌, ◌∙◌, nat_lt, Bool, true, false, Option, Some, None, is_some, is_none, List, [], ◌∷◌, ◌++◌, length, map, refl, sym, ap, subst, arith, inr}
 use Rattle.std.specs.Option.{option_to_list}
 use Rattle.std.proofs.lemmas.Bool.{ltb-true}
-use Rattle.law_common.proofs.Tests.{is_none_true}
+use Rattle.queue_laws.proofs.Common.Tests.{is_none_true}
 use Rattle.queue_steps.specs.State.{start}
 use Rattle.queue_steps.specs.Legal.{IsShown}
 use Rattle.queue_steps.specs.Sequential.{Owned, SequentialRun, fresh}
@@ -10,8 +10,8 @@ use Rattle.machine_replay.specs.Vocabulary.{Call, Reply, Event, Told, Replay, Be
 use Rattle.machine_replay.specs.Book.{Book, Open, Run, begun, after_own, opening}
 use Rattle.machine_replay.specs.Conforms.{Conforms, entries_from, reply_entry}
 use Rattle.machine_replay.specs.OneOwner.{begun_calls, reply_in, IsSequentialRun}
-use Rattle.law_common.proofs.Alone.{alone_first}
-use Rattle.law_moments.proofs.Table.{Agrees}
+use Rattle.queue_laws.proofs.Common.Alone.{alone_first}
+use Rattle.queue_laws.proofs.Moment.Table.{Agrees}
 use Rattle.machine_replay.proofs.Replays.OneOwner.{Ready, Midway, midway-more, midway-ends, at_once}
 use Rattle.machine_replay.proofs.Replays.Peaking.{Run-length}
 

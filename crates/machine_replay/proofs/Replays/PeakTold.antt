@@ -7,7 +7,7 @@ use Rattle.machine_replay.specs.Vocabulary.{Call, Reply, BLOCK_SLOTS, Event, Tol
 use Rattle.queue_steps.specs.State.{State, start}
 use Rattle.queue_steps.specs.Effect.{Runs, IsHistory, made, after_from}
 use Rattle.queue_steps.specs.Sequential.{blocks_of, spanned}
-use Rattle.law_common.proofs.Runs.{cap_made}
+use Rattle.queue_laws.proofs.Common.Runs.{cap_made}
 use Rattle.machine_replay.specs.Book.{Book, Run, kind_of, opening}
 use Rattle.machine_replay.specs.Conforms.{party_of, entries_from, effect_entry, reply_entry, skipped_entry}
 use Rattle.machine_replay.specs.Meaning.{Entry, chosen, effects_in, kinds_in}

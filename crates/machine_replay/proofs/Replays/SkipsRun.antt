@@ -5,7 +5,7 @@ use Rattle.std.proofs.lemmas.List.Elements.{Contains-push}
 use Rattle.std.proofs.lemmas.Option.{slice_get_within}
 use Rattle.std.proofs.lemmas.Bool.{ltb-true, lt-ltb}
 use Rattle.std.proofs.lemmas.Bool.Decides.{eqb_tells}
-use Rattle.law_common.proofs.Tests.{is_none_true}
+use Rattle.queue_laws.proofs.Common.Tests.{is_none_true}
 use Rattle.machine_replay.specs.Vocabulary.{Call, Reply, Event, Told, EffectKind, Begin, Step, Skipped, Ran}
 use Rattle.machine_replay.specs.Book.{Book, Open, fits, joined, watched, at_open}
 use Rattle.machine_replay.specs.Conforms.{party_of, entries_from, reply_entry, skipped_entry}

@@ -1,9 +1,9 @@
 -- The machine's words and slots at each step of a call on a ring: what the laws of the ring say of them.
 use Rattle.std.proofs.Common.{ℕ, ◌+◌, ◌<◌, ◌^◌, ◌≡◌, ◌∙◌, true, Option, None, refl, sym, ap, subst}
 use Rattle.machine_replay.specs.Vocabulary.{Word, Op, Touch, Answer, Running}
-use Rattle.law_common.specs.Operations.{op_word, op_makes, answer_for}
-use Rattle.law_ring.specs.RingShared as ring
-use Rattle.law_ring.proofs.RingStepOk.{operates_on}
+use Rattle.queue_laws.specs.Common.Operations.{op_word, op_makes, answer_for}
+use Rattle.queue_laws.specs.Ring.RingShared as ring
+use Rattle.queue_laws.proofs.Ring.RingStepOk.{operates_on}
 use Rattle.machine_memory.specs.SharedMemory.{Shared, HasWord, word_at, put_word, CanTouch, CanOperate, slots_there, block_touched, answered, operated, touched, handed}
 use Rattle.machine_steps.specs.Steps.{after_touch, after_operation, answer_to, carried_then}
 use Rattle.machine_replay.proofs.Engine.Plain.{IsPlainWord, IsPlain, plain-untouched}

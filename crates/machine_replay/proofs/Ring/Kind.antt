@@ -4,9 +4,9 @@ use Rattle.queue_steps.specs.Words.{IsRing}
 use Rattle.machine_replay.specs.Vocabulary.{Kind}
 use Rattle.machine_replay.proofs.Engine.KindLaws.{KindLaws}
 use Rattle.machine_replay.proofs.Engine.Counted.{counted-none}
-use Rattle.law_ring.specs.RingCells.{Ring}
+use Rattle.queue_laws.specs.Ring.RingCells.{Ring}
 use Rattle.machine_replay.proofs.Ring.Laws.{RingHolds, RingIdle, RingFits, ring_steps}
-use Rattle.law_ring.specs.RingOpening.{opening_ring}
+use Rattle.queue_laws.specs.Ring.RingOpening.{opening_ring}
 use Rattle.machine_replay.proofs.Ring.Opening.{ring_opens, ring_all_idle}
 use Rattle.machine_replay.proofs.Ring.Left.{ring_leaves}
 

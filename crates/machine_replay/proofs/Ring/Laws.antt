@@ -5,19 +5,19 @@ use Rattle.queue_steps.specs.Next.{CanNext, next_of}
 use Rattle.queue_steps.specs.WaitFree.{is_wait_free}
 use Rattle.queue_steps.specs.Replies.{IsRightAt}
 use Rattle.machine_replay.specs.Vocabulary.{Call, Reply, Effect, Kind, Next, Running}
-use Rattle.law_common.specs.Effects.{Leads, with_effect}
+use Rattle.queue_laws.specs.Common.Effects.{Leads, with_effect}
 use Rattle.machine_replay.proofs.Engine.StandOf.{stand_of}
-use Rattle.law_ring.specs.RingShared as ring
-use Rattle.law_ring.specs.RingCells.{Ring, queue_of, RingOk, HoldsNone}
-use Rattle.law_ring.specs.RingPasses.{Passes}
-use Rattle.law_ring.proofs.RingPasses.{none_stays}
-use Rattle.law_ring.specs.RingAt.{At}
-use Rattle.law_ring.proofs.RingAt.{at_stays}
-use Rattle.law_ring.specs.RingWords.{Codes}
-use Rattle.law_ring.proofs.RingRanks.{rank, rank_small, rank_some, longest, wait_free_rank}
-use Rattle.law_ring.proofs.RingStepOk.{IsQuiet, NextOk, IsEffect}
-use Rattle.law_ring.proofs.RingStep.{step_good}
-use Rattle.law_ring.proofs.RingStart.{at_first}
+use Rattle.queue_laws.specs.Ring.RingShared as ring
+use Rattle.queue_laws.specs.Ring.RingCells.{Ring, queue_of, RingOk, HoldsNone}
+use Rattle.queue_laws.specs.Ring.RingPasses.{Passes}
+use Rattle.queue_laws.proofs.Ring.RingPasses.{none_stays}
+use Rattle.queue_laws.specs.Ring.RingAt.{At}
+use Rattle.queue_laws.proofs.Ring.RingAt.{at_stays}
+use Rattle.queue_laws.specs.Ring.RingWords.{Codes}
+use Rattle.queue_laws.proofs.Ring.RingRanks.{rank, rank_small, rank_some, longest, wait_free_rank}
+use Rattle.queue_laws.proofs.Ring.RingStepOk.{IsQuiet, NextOk, IsEffect}
+use Rattle.queue_laws.proofs.Ring.RingStep.{step_good}
+use Rattle.queue_laws.proofs.Ring.RingStart.{at_first}
 use Rattle.machine_replay.specs.Book.{Open, Allows, after_own, begun, joined}
 use Rattle.machine_steps.specs.World.{Made}
 use Rattle.machine_memory.specs.SharedMemory.{Shared, CanTouch, CanOperate, slots_there, block_touched}

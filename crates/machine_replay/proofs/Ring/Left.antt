@@ -5,7 +5,7 @@ use Rattle.std.proofs.lemmas.Bool.Decides.{eqb_tells}
 use Rattle.queue_steps.specs.State.{State}
 use Rattle.queue_steps.specs.Words.{position_of, slot_at}
 use Rattle.machine_replay.specs.Vocabulary.{Kind, Touch, Running}
-use Rattle.law_common.proofs.Tails.{position_tail}
+use Rattle.queue_laws.proofs.Common.Tails.{position_tail}
 use Rattle.machine_replay.specs.Book.{Book, Open}
 use Rattle.machine_steps.specs.World.{World}
 use Rattle.machine_memory.specs.SharedMemory.{Shared}
@@ -14,14 +14,14 @@ use Rattle.machine_steps.specs.Left.{left_of, all_written, gathered}
 use Rattle.machine_replay.proofs.Engine.Events as engine
 use Rattle.machine_replay.proofs.Engine.KindLaws.{SimulatesOf}
 use Rattle.machine_replay.proofs.Engine.AllWritten.{writes, writes_slot, all_written-none, all_written-one, nth, gathered-items}
-use Rattle.law_common.specs.Stand.{Stand}
-use Rattle.law_ring.specs.RingCells.{Cell, Free, Written, Full, Read, Coming, Swapped, Ring, CellOk, RingOk, owner}
-use Rattle.law_ring.proofs.RingCells.{wraps, apart}
-use Rattle.law_ring.proofs.RingIdle.{same_position}
-use Rattle.law_ring.proofs.RingTransitions.{in_ring}
-use Rattle.law_ring.specs.RingWords.{item_in}
-use Rattle.law_ring.specs.RingAt.{At, filling, arriving, swapping, emptying}
-use Rattle.law_ring.proofs.RingStart.{holds_none}
+use Rattle.queue_laws.specs.Common.Stand.{Stand}
+use Rattle.queue_laws.specs.Ring.RingCells.{Cell, Free, Written, Full, Read, Coming, Swapped, Ring, CellOk, RingOk, owner}
+use Rattle.queue_laws.proofs.Ring.RingCells.{wraps, apart}
+use Rattle.queue_laws.proofs.Ring.RingIdle.{same_position}
+use Rattle.queue_laws.proofs.Ring.RingTransitions.{in_ring}
+use Rattle.queue_laws.specs.Ring.RingWords.{item_in}
+use Rattle.queue_laws.specs.Ring.RingAt.{At, filling, arriving, swapping, emptying}
+use Rattle.queue_laws.proofs.Ring.RingStart.{holds_none}
 use Rattle.machine_replay.proofs.Ring.Laws.{RingHolds, RingIdle, RingFits}
 
 -- what a slot will hold that its holder has written: the item of its push

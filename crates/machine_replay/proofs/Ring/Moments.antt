@@ -4,11 +4,11 @@ use Rattle.queue_steps.specs.State.{State}
 use Rattle.queue_steps.specs.Words.{position_of, is_shut}
 use Rattle.machine_replay.specs.Vocabulary.{Reply, Effect, Kind, Answer, Local, EffectKind}
 use Rattle.queue_steps.specs.declared.steps.bounded.BoundedLocal.TheVariants as ring
-use Rattle.law_common.specs.Effects.{Leads, Whether, with_effect}
-use Rattle.law_common.specs.Stand.{Stand}
-use Rattle.law_ring.specs.RingCells.{Ring}
-use Rattle.law_ring.specs.RingAt.{At, filling, arriving, swapping, emptying}
-use Rattle.law_ring.proofs.RingStepOk.{IsEffect}
+use Rattle.queue_laws.specs.Common.Effects.{Leads, Whether, with_effect}
+use Rattle.queue_laws.specs.Common.Stand.{Stand}
+use Rattle.queue_laws.specs.Ring.RingCells.{Ring}
+use Rattle.queue_laws.specs.Ring.RingAt.{At, filling, arriving, swapping, emptying}
+use Rattle.queue_laws.proofs.Ring.RingStepOk.{IsEffect}
 use Rattle.machine_replay.specs.Book.{IsBegun, Open, Moves}
 use Rattle.machine_memory.specs.EffectOf.{effect_of}
 use Rattle.machine_replay.proofs.Engine.Moments.{begun_none, begun_append}

@@ -4,8 +4,8 @@ use Rattle.queue_steps.specs.State.{start}
 use Rattle.queue_steps.specs.Words.{IsRing}
 use Rattle.machine_replay.specs.Vocabulary.{Kind}
 use Rattle.machine_memory.specs.Opening.{opening_shared}
-use Rattle.law_ring.specs.RingOpening.{opening_ring}
-use Rattle.law_ring.proofs.RingOpening.{opening_ok, opening_codes}
+use Rattle.queue_laws.specs.Ring.RingOpening.{opening_ring}
+use Rattle.queue_laws.proofs.Ring.RingOpening.{opening_ok, opening_codes}
 use Rattle.machine_replay.proofs.Ring.Laws.{RingHolds, RingIdle}
 
 pub ring_opens : (A : Type 0) (cap : ℕ) → IsRing cap → RingHolds {A = A} cap (opening_shared (Kind.Bounded cap)) (start (Some cap) 0) (opening_ring A)

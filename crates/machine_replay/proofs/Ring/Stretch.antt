@@ -9,22 +9,22 @@ use Rattle.queue_steps.specs.BoundedNext.{lap_found, loads, push_stamp_found}
 use Rattle.queue_steps.specs.Words.{IsRing, position_of, is_shut, slot_at, stamp_filled, stamp_free, tail_of}
 use Rattle.queue_steps.specs.Next.{next_of}
 use Rattle.machine_replay.specs.Vocabulary.{Call, Effect, Kind, Word, Op, Touch, Local, Next, PushKind, BoundedLocal, TAIL_STEP, Running}
-use Rattle.law_common.specs.Effects.{with_effect}
-use Rattle.law_common.proofs.Ranks.{either_small}
-use Rattle.law_common.proofs.Tails.{position_tail, shut_tail}
-use Rattle.law_common.specs.Stand.{Stand}
+use Rattle.queue_laws.specs.Common.Effects.{with_effect}
+use Rattle.queue_laws.proofs.Common.Ranks.{either_small}
+use Rattle.queue_laws.proofs.Common.Tails.{position_tail, shut_tail}
+use Rattle.queue_laws.specs.Common.Stand.{Stand}
 use Rattle.machine_replay.proofs.Engine.StandOf.{running_of}
-use Rattle.law_ring.specs.RingShared as ring
-use Rattle.law_ring.specs.RingCells.{Cell, Free, Written, Read, Coming, Swapped, Ring, RingOk, CellOk, owner, queue_of}
-use Rattle.law_ring.specs.RingAt.{At, push_stamp, claiming, filling, push_head, displacing, arriving, swapping, pop_stamp, taking, emptying, pop_tail, count_head, count_again}
-use Rattle.law_ring.proofs.RingStart.{holds_none}
-use Rattle.law_ring.specs.RingOpening.{opening_ring}
-use Rattle.law_ring.specs.RingWords.{Codes, stamp_in}
-use Rattle.law_ring.proofs.RingStepOk.{NextOk, IsQuiet}
-use Rattle.law_ring.proofs.RingRanks.{rank, rank_some}
-use Rattle.law_ring.proofs.RingSlots.{nobody}
-use Rattle.law_ring.proofs.RingTransitions.{in_ring}
-use Rattle.law_ring.proofs.RingStep.{step_good}
+use Rattle.queue_laws.specs.Ring.RingShared as ring
+use Rattle.queue_laws.specs.Ring.RingCells.{Cell, Free, Written, Read, Coming, Swapped, Ring, RingOk, CellOk, owner, queue_of}
+use Rattle.queue_laws.specs.Ring.RingAt.{At, push_stamp, claiming, filling, push_head, displacing, arriving, swapping, pop_stamp, taking, emptying, pop_tail, count_head, count_again}
+use Rattle.queue_laws.proofs.Ring.RingStart.{holds_none}
+use Rattle.queue_laws.specs.Ring.RingOpening.{opening_ring}
+use Rattle.queue_laws.specs.Ring.RingWords.{Codes, stamp_in}
+use Rattle.queue_laws.proofs.Ring.RingStepOk.{NextOk, IsQuiet}
+use Rattle.queue_laws.proofs.Ring.RingRanks.{rank, rank_some}
+use Rattle.queue_laws.proofs.Ring.RingSlots.{nobody}
+use Rattle.queue_laws.proofs.Ring.RingTransitions.{in_ring}
+use Rattle.queue_laws.proofs.Ring.RingStep.{step_good}
 use Rattle.machine_replay.specs.Book.{Open}
 use Rattle.machine_memory.specs.SharedMemory.{Shared, word_at}
 use Rattle.machine_steps.specs.Steps.{step_of, running_after, carried_then, after_operation}

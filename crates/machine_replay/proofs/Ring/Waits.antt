@@ -7,14 +7,14 @@ use Rattle.queue_steps.specs.State.{State}
 use Rattle.queue_steps.specs.BoundedNext.{push_stamp_found, pop_stamp_found}
 use Rattle.queue_steps.specs.Words.{IsRing, position_of, slot_at}
 use Rattle.machine_replay.specs.Vocabulary.{Kind, Word, Op, Touch, Local, Next, PushKind, BoundedLocal, Running}
-use Rattle.law_common.proofs.Tails.{position_tail}
-use Rattle.law_common.specs.Stand.{Stand}
-use Rattle.law_ring.specs.RingCells.{Cell, Free, Written, Full, Read, Coming, Swapped, Ring, CellOk, owner}
-use Rattle.law_ring.specs.RingAt.{At, push_stamp, filling, arriving, swapping, pop_stamp, emptying}
-use Rattle.law_ring.proofs.RingStart.{holds_none}
-use Rattle.law_ring.specs.RingWords.{stamp_in}
-use Rattle.law_ring.proofs.RingCells.{together, wraps}
-use Rattle.law_ring.proofs.RingTransitions.{in_ring}
+use Rattle.queue_laws.proofs.Common.Tails.{position_tail}
+use Rattle.queue_laws.specs.Common.Stand.{Stand}
+use Rattle.queue_laws.specs.Ring.RingCells.{Cell, Free, Written, Full, Read, Coming, Swapped, Ring, CellOk, owner}
+use Rattle.queue_laws.specs.Ring.RingAt.{At, push_stamp, filling, arriving, swapping, pop_stamp, emptying}
+use Rattle.queue_laws.proofs.Ring.RingStart.{holds_none}
+use Rattle.queue_laws.specs.Ring.RingWords.{stamp_in}
+use Rattle.queue_laws.proofs.Ring.RingCells.{together, wraps}
+use Rattle.queue_laws.proofs.Ring.RingTransitions.{in_ring}
 use Rattle.machine_steps.specs.Left.{opening_world}
 use Rattle.machine_memory.specs.SharedMemory.{Shared, word_at}
 use Rattle.machine_steps.specs.Steps.{step_of, running_after}

@@ -5,14 +5,14 @@ use Rattle.queue_steps.specs.Next.{next_of, CanNext}
 use Rattle.queue_steps.specs.WaitFree.{is_wait_free}
 use Rattle.queue_steps.specs.Replies.{IsRightAt}
 use Rattle.machine_replay.specs.Vocabulary.{Call, Reply, Effect, Kind, Next, Running}
-use Rattle.law_common.specs.Effects.{with_effect}
+use Rattle.queue_laws.specs.Common.Effects.{with_effect}
 use Rattle.machine_replay.proofs.Engine.StandOf.{stand_of}
-use Rattle.law_slot.specs.SlotShared as slot
-use Rattle.law_slot.specs.SlotHolder.{SlotHolder, Nobody, Keeps, Idle, own_of}
-use Rattle.law_slot.specs.SlotRows.{Codes, At, push_try, force_try_empty, pop_try, close_try, look_at, single, NextOk, IsEffect}
-use Rattle.law_slot.proofs.SlotSteps.{step_good}
-use Rattle.law_slot.proofs.SlotRanks.{rank, rank_small, rank_some, Falls, step_falls, IsReplying, wait_free_ends, wait_free_one, can_operate}
-use Rattle.law_slot.proofs.SlotHolder.{share_of, next_who, own_self, own_other, own_alone}
+use Rattle.queue_laws.specs.Slot.SlotShared as slot
+use Rattle.queue_laws.specs.Slot.SlotHolder.{SlotHolder, Nobody, Keeps, Idle, own_of}
+use Rattle.queue_laws.specs.Slot.SlotRows.{Codes, At, push_try, force_try_empty, pop_try, close_try, look_at, single, NextOk, IsEffect}
+use Rattle.queue_laws.proofs.Slot.SlotSteps.{step_good}
+use Rattle.queue_laws.proofs.Slot.SlotRanks.{rank, rank_small, rank_some, Falls, step_falls, IsReplying, wait_free_ends, wait_free_one, can_operate}
+use Rattle.queue_laws.proofs.Slot.SlotHolder.{share_of, next_who, own_self, own_other, own_alone}
 use Rattle.machine_replay.specs.Book.{Open, Allows, after_own, begun}
 use Rattle.machine_memory.specs.SharedMemory.{Shared}
 use Rattle.machine_steps.specs.Steps.{CanStep, CanReply, answer_to, step_of, start_of, running_after, reply_after, next_after, carried_then, shared_then}

@@ -6,9 +6,9 @@ use Rattle.std.proofs.lemmas.Bool.Decides.{eqb_tells}
 use Rattle.queue_steps.specs.SingleNext.{is_pushed}
 use Rattle.queue_steps.specs.State.{State}
 use Rattle.machine_replay.specs.Vocabulary.{Kind, Running}
-use Rattle.law_common.specs.Stand.{Stand}
-use Rattle.law_slot.specs.SlotHolder.{SlotHolder, Nobody, Filling, Swapping, Keeps, Idle, own_of}
-use Rattle.law_slot.specs.SlotRows.{Codes, free_empty, free_full, filling, swapping, taking, At, push_put, force_put_empty, force_put_full}
+use Rattle.queue_laws.specs.Common.Stand.{Stand}
+use Rattle.queue_laws.specs.Slot.SlotHolder.{SlotHolder, Nobody, Filling, Swapping, Keeps, Idle, own_of}
+use Rattle.queue_laws.specs.Slot.SlotRows.{Codes, free_empty, free_full, filling, swapping, taking, At, push_put, force_put_empty, force_put_full}
 use Rattle.machine_replay.specs.Book.{Book, Open}
 use Rattle.machine_memory.specs.SharedMemory.{Shared}
 use Rattle.machine_steps.specs.Steps.{CanStep, step_of, start_of}

@@ -4,10 +4,10 @@ use Rattle.queue_steps.specs.State.{State}
 use Rattle.queue_steps.specs.SingleNext.{is_marked}
 use Rattle.machine_replay.specs.Vocabulary.{Reply, Effect, Kind, Answer, Local, PushKind, EffectKind}
 use Rattle.queue_steps.specs.declared.steps.single.SingleLocal.TheVariants.{Pushing, Forcing, Popping, Closing}
-use Rattle.law_common.specs.Effects.{Leads, with_effect, Whether}
-use Rattle.law_common.specs.Stand.{Stand}
-use Rattle.law_slot.specs.SlotHolder.{SlotHolder}
-use Rattle.law_slot.specs.SlotRows.{At, push_put, force_put_empty, force_put_full, pop_take, IsEffect}
+use Rattle.queue_laws.specs.Common.Effects.{Leads, with_effect, Whether}
+use Rattle.queue_laws.specs.Common.Stand.{Stand}
+use Rattle.queue_laws.specs.Slot.SlotHolder.{SlotHolder}
+use Rattle.queue_laws.specs.Slot.SlotRows.{At, push_put, force_put_empty, force_put_full, pop_take, IsEffect}
 use Rattle.machine_replay.specs.Book.{IsBegun, Open, Moves}
 use Rattle.machine_memory.specs.EffectOf.{effect_of}
 use Rattle.machine_replay.proofs.Engine.Moments.{begun_none, begun_append}

@@ -5,13 +5,13 @@ use Rattle.queue_steps.specs.State.{State}
 use Rattle.machine_replay.specs.Vocabulary.{Kind, Local, Next, Running}
 use Rattle.queue_steps.specs.Next.{next_of}
 use Rattle.queue_steps.specs.declared.steps.single.SingleLocal.TheVariants.{Pushed, Forced, Popped}
-use Rattle.law_common.specs.Stand.{Stand}
+use Rattle.queue_laws.specs.Common.Stand.{Stand}
 use Rattle.machine_replay.proofs.Engine.StandOf.{running_of}
-use Rattle.law_slot.specs.SlotShared as slot
-use Rattle.law_slot.specs.SlotHolder.{SlotHolder, Nobody, Taking, Keeps, Idle}
-use Rattle.law_slot.specs.SlotRows.{Codes, free_empty, At, push_try, push_put, force_put_empty, force_put_full, pop_take, code}
-use Rattle.law_slot.proofs.SlotHolder.{own_alone}
-use Rattle.law_slot.proofs.SlotRanks.{rank, rank_small, rank_some, Falls, step_falls}
+use Rattle.queue_laws.specs.Slot.SlotShared as slot
+use Rattle.queue_laws.specs.Slot.SlotHolder.{SlotHolder, Nobody, Taking, Keeps, Idle}
+use Rattle.queue_laws.specs.Slot.SlotRows.{Codes, free_empty, At, push_try, push_put, force_put_empty, force_put_full, pop_take, code}
+use Rattle.queue_laws.proofs.Slot.SlotHolder.{own_alone}
+use Rattle.queue_laws.proofs.Slot.SlotRanks.{rank, rank_small, rank_some, Falls, step_falls}
 use Rattle.machine_replay.specs.Book.{Open}
 use Rattle.machine_memory.specs.SharedMemory.{Shared}
 use Rattle.machine_steps.specs.Steps.{step_of, running_after, next_after, carried_then, shared_then}

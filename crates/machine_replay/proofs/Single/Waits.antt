@@ -5,11 +5,11 @@ use Rattle.queue_steps.specs.Next.{next_of}
 use Rattle.queue_steps.specs.SingleNext.{unlocked}
 use Rattle.machine_replay.specs.Vocabulary.{Kind, Answer, Local, Running}
 use Rattle.queue_steps.specs.declared.steps.single.SingleLocal.TheVariants.{Pushing, Pushed, Forcing, Forced, Popping, Popped}
-use Rattle.law_common.specs.Stand.{Stand}
+use Rattle.queue_laws.specs.Common.Stand.{Stand}
 use Rattle.machine_replay.proofs.Engine.StandOf.{stand_of}
-use Rattle.law_slot.specs.SlotShared as slot
-use Rattle.law_slot.specs.SlotHolder.{SlotHolder, Nobody, Taking, Keeps}
-use Rattle.law_slot.specs.SlotRows.{Codes, free_empty, free_full, filling, swapping, taking, At, push_try, push_put, force_put_empty, force_put_full, pop_take}
+use Rattle.queue_laws.specs.Slot.SlotShared as slot
+use Rattle.queue_laws.specs.Slot.SlotHolder.{SlotHolder, Nobody, Taking, Keeps}
+use Rattle.queue_laws.specs.Slot.SlotRows.{Codes, free_empty, free_full, filling, swapping, taking, At, push_try, push_put, force_put_empty, force_put_full, pop_take}
 use Rattle.machine_steps.specs.Left.{opening_world}
 use Rattle.machine_memory.specs.SharedMemory.{Shared}
 use Rattle.machine_steps.specs.Steps.{step_of, running_after, carried_then}

@@ -7,17 +7,17 @@ use Rattle.queue_steps.specs.State.{State, start}
 use Rattle.queue_steps.specs.Effect.{IsHistory}
 use Rattle.queue_steps.specs.Replies.{IsRightAt, Allows, Tells}
 use Rattle.machine_replay.specs.Vocabulary.{Call, Reply, Effect, Event, Begin, Step}
-use Rattle.law_common.proofs.Runs.{cap_after}
-use Rattle.law_moments.specs.Moments.{IsGlance}
-use Rattle.law_moments.specs.Entries.{Entry, effects_in, state_before, front_first, fronts_at, other_first, other_entries, settle_first, settle, SeesNoMove, KeepsFronts, own_of, SettlesInto}
-use Rattle.law_moments.proofs.Naming.{Rising}
-use Rattle.law_moments.proofs.Choosing.{before, both_parts}
-use Rattle.law_moments.proofs.Glances.{cases_before, middle_or}
-use Rattle.law_moments.proofs.Shut.{In, each_with, each_in, each_append, closed_by}
-use Rattle.law_moments.proofs.Settling.{sound_start, sound_after}
-use Rattle.law_moments.proofs.Histories.{rising, histories_settle}
-use Rattle.law_moments.proofs.Owning.{is_few}
-use Rattle.law_moments.proofs.Together.{settle_paired, stands_together}
+use Rattle.queue_laws.proofs.Common.Runs.{cap_after}
+use Rattle.queue_laws.specs.Moment.Moments.{IsGlance}
+use Rattle.queue_laws.specs.Moment.Entries.{Entry, effects_in, state_before, front_first, fronts_at, other_first, other_entries, settle_first, settle, SeesNoMove, KeepsFronts, own_of, SettlesInto}
+use Rattle.queue_laws.proofs.Moment.Naming.{Rising}
+use Rattle.queue_laws.proofs.Moment.Choosing.{before, both_parts}
+use Rattle.queue_laws.proofs.Moment.Glances.{cases_before, middle_or}
+use Rattle.queue_laws.proofs.Moment.Shut.{In, each_with, each_in, each_append, closed_by}
+use Rattle.queue_laws.proofs.Moment.Settling.{sound_start, sound_after}
+use Rattle.queue_laws.proofs.Moment.Histories.{rising, histories_settle}
+use Rattle.queue_laws.proofs.Moment.Owning.{is_few}
+use Rattle.queue_laws.proofs.Moment.Together.{settle_paired, stands_together}
 use Rattle.machine_replay.specs.Book.{IsBegun, has_steps}
 use Rattle.machine_replay.specs.InCall.{IsStepOf, IsUnanswered, IsInCall}
 use Rattle.machine_replay.specs.Meaning.{state_after, own_effects, SawOpen, IsOwn, EndsCall, RepliesAtOnce, IsAnswer}

@@ -3,7 +3,7 @@ use Rattle.std.proofs.Common.{◌≡◌, ℕ, ◌<◌, Option, Some, None, is_so
 use Rattle.std.specs.List.{AllByRecursion}
 use Rattle.queue_steps.specs.State.{State}
 use Rattle.queue_steps.specs.Effect.{made, after_from}
-use Rattle.law_common.proofs.TellsAs.{TellsAs, displace, tells_as}
+use Rattle.queue_laws.proofs.Common.TellsAs.{TellsAs, displace, tells_as}
 use Rattle.machine_replay.specs.Vocabulary.{Call, Reply, Effect}
 use Rattle.machine_replay.specs.Book.{IsBegun}
 use Rattle.machine_replay.specs.Meaning.{Entry, effects_in, displacing, IsArrivalOf, FrontsArrive}

@@ -5,7 +5,7 @@ use Rattle.std.proofs.lemmas.List.Elements.{All-from_recursion}
 use Rattle.std.proofs.lemmas.List.Quantifiers.{all_pairs_push}
 use Rattle.queue_steps.specs.State.{State, start}
 use Rattle.queue_steps.specs.Effect.{Fits, made, Runs, after_from}
-use Rattle.law_common.proofs.Runs.{after_snoc, runs_snoc}
+use Rattle.queue_laws.proofs.Common.Runs.{after_snoc, runs_snoc}
 use Rattle.machine_replay.specs.Vocabulary.{Reply, Effect, Event, Told, Begin}
 use Rattle.machine_replay.specs.Book.{Book, Open, IsBegun, kind_of}
 use Rattle.machine_replay.specs.Conforms.{party_of, entries_from, reply_entry, effect_entry}

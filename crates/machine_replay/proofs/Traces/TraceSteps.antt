@@ -2,7 +2,7 @@
 use Rattle.std.proofs.Common.{◌≡◌, ◌≢◌, ◌⊎◌, ◌∙◌, ℕ, zero, suc, ◌+◌, ◌<◌, ◌≤◌, ◌||◌, not, Bool, true, Option, Some, None, List, [], ◌∷◌, ◌++◌, length, refl, sym, ap, subst, arith, inl, inr, get_or, append-nil, is_some, Contains}
 use Rattle.std.specs.List.{AllByRecursion, Any}
 use Rattle.std.proofs.lemmas.Bool.Decides.{eqb_tells}
-use Rattle.law_common.proofs.Tests.{or_true, not_true}
+use Rattle.queue_laws.proofs.Common.Tests.{or_true, not_true}
 use Rattle.queue_steps.specs.State.{State, start}
 use Rattle.queue_steps.specs.Effect.{after_from}
 use Rattle.machine_replay.specs.Vocabulary.{Reply, Effect, Event, EffectKind, Step, Ran}

@@ -11,21 +11,21 @@ use Rattle.queue_steps.specs.Replies.{IsRightAt, LacksMemory, Tells}
 use Rattle.queue_steps.specs.Words.{position_of}
 use Rattle.queue_steps.specs.Sequential.{Sequential, sequential_reply, sequential_state, moved}
 use Rattle.queue_steps.proofs.Rows.{does_row}
-use Rattle.law_common.specs.Vocabulary.{Call, Reply, Effect, PushError, ForcePushError, Kind, Op, Touch, Answer, Next, SOLO_STEPS}
-use Rattle.law_common.specs.Effects.{FrontOpen, with_effect}
-use Rattle.law_common.specs.Moments.{SeenIn}
-use Rattle.law_common.proofs.Alone.{Alone, alone_first, alone_more, only_seen}
-use Rattle.law_ring.specs.RingShared.{answered, touched, handed}
-use Rattle.law_ring.specs.RingCells.{Ring, queue_of, RingOk, HoldsNone}
-use Rattle.law_ring.specs.RingWords.{Codes}
-use Rattle.law_ring.proofs.RingIdle.{AtRest, at_rest}
-use Rattle.law_ring.proofs.RingTransitions.{not_single}
-use Rattle.law_ring.proofs.RingRanks.{rank, rank_some}
-use Rattle.law_ring.proofs.RingSlots.{nobody}
-use Rattle.law_ring.proofs.RingStepOk.{IsQuiet, NextOk}
-use Rattle.law_ring.proofs.RingFronts.{may_front}
-use Rattle.law_ring.proofs.RingStart.{at_first}
-use Rattle.law_ring.proofs.RingStep.{step_good}
+use Rattle.queue_laws.specs.Common.Vocabulary.{Call, Reply, Effect, PushError, ForcePushError, Kind, Op, Touch, Answer, Next, SOLO_STEPS}
+use Rattle.queue_laws.specs.Common.Effects.{FrontOpen, with_effect}
+use Rattle.queue_laws.specs.Common.Moments.{SeenIn}
+use Rattle.queue_laws.proofs.Common.Alone.{Alone, alone_first, alone_more, only_seen}
+use Rattle.queue_laws.specs.Ring.RingShared.{answered, touched, handed}
+use Rattle.queue_laws.specs.Ring.RingCells.{Ring, queue_of, RingOk, HoldsNone}
+use Rattle.queue_laws.specs.Ring.RingWords.{Codes}
+use Rattle.queue_laws.proofs.Ring.RingIdle.{AtRest, at_rest}
+use Rattle.queue_laws.proofs.Ring.RingTransitions.{not_single}
+use Rattle.queue_laws.proofs.Ring.RingRanks.{rank, rank_some}
+use Rattle.queue_laws.proofs.Ring.RingSlots.{nobody}
+use Rattle.queue_laws.proofs.Ring.RingStepOk.{IsQuiet, NextOk}
+use Rattle.queue_laws.proofs.Ring.RingFronts.{may_front}
+use Rattle.queue_laws.proofs.Ring.RingStart.{at_first}
+use Rattle.queue_laws.proofs.Ring.RingStep.{step_good}
 use Rattle.call_driver.specs.EndsIn.{EndsIn, EndsRight, Released, Replied, Answered}
 use Rattle.own_bounded.specs.RingCells.{RingState, kind_of_ring, ring_touchable, ring_touched, ring_operable, ring_performed, ring_can_touch, ring_touches, ring_can_perform, ring_performs, ring_can_release, ring_releases}
 use Rattle.own_bounded.specs.RingOwned.{IsIdle, ring_queue, ring_owned}

@@ -4,10 +4,10 @@ use Rattle.std.proofs.Math.Nat.{div-add-mod, add-mod_right}
 use Rattle.std.proofs.lemmas.Bool.Decides.{eqb_tells}
 use Rattle.std.proofs.lemmas.Nat.{mod-mul-add}
 use Rattle.queue_steps.specs.Words.{position_of, is_shut, tail_of, slot_at}
-use Rattle.law_ring.specs.RingShared.{Shared}
-use Rattle.law_ring.specs.RingCells.{Cell, Free, Full, Ring, CellOk, RingOk, owner}
-use Rattle.law_ring.specs.RingWords.{Codes, stamp_in, item_in}
-use Rattle.law_ring.proofs.RingIdle.{NobodyHolds}
+use Rattle.queue_laws.specs.Ring.RingShared.{Shared}
+use Rattle.queue_laws.specs.Ring.RingCells.{Cell, Free, Full, Ring, CellOk, RingOk, owner}
+use Rattle.queue_laws.specs.Ring.RingWords.{Codes, stamp_in, item_in}
+use Rattle.queue_laws.proofs.Ring.RingIdle.{NobodyHolds}
 use Rattle.own_bounded.specs.RingCells.{RingState, stamp_at, item_at}
 use Rattle.own_bounded.specs.RingOwned.{at_position, items_of, IsIdle, ring_queue}
 use Rattle.own_bounded.specs.Laws.Numbers.{below_or_not}

@@ -1,12 +1,12 @@
 -- A ring of the laws of parties of which nobody has a slot is one with one owner, between calls and in the same state.
 use Rattle.std.proofs.Common.{◌≡◌, ℕ, zero, suc, ◌+◌, ◌-◌, ◌%◌, ◌<◌, ◌≤◌, List, [], ◌∷◌, length, get_or, Option, Some, None, refl, ap, sym, ◌∙◌, subst, arith, slice_get}
 use Rattle.queue_steps.specs.Words.{position_of, is_shut, stamp_filled}
-use Rattle.law_common.proofs.Tails.{position_tail, shut_tail}
-use Rattle.law_ring.specs.RingCells.{Ring, queue_of, RingOk}
-use Rattle.law_ring.specs.RingShared.{Shared}
-use Rattle.law_ring.proofs.RingTransitions.{in_ring}
-use Rattle.law_ring.specs.RingWords.{Codes}
-use Rattle.law_ring.proofs.RingIdle.{AtRest}
+use Rattle.queue_laws.proofs.Common.Tails.{position_tail, shut_tail}
+use Rattle.queue_laws.specs.Ring.RingCells.{Ring, queue_of, RingOk}
+use Rattle.queue_laws.specs.Ring.RingShared.{Shared}
+use Rattle.queue_laws.proofs.Ring.RingTransitions.{in_ring}
+use Rattle.queue_laws.specs.Ring.RingWords.{Codes}
+use Rattle.queue_laws.proofs.Ring.RingIdle.{AtRest}
 use Rattle.own_bounded.specs.RingCells.{RingState}
 use Rattle.own_bounded.specs.RingOwned.{at_position, HoldsItems, put_in, items_of, IsIdle, ring_queue}
 

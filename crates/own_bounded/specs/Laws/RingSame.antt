@@ -4,11 +4,11 @@ use Rattle.std.proofs.Common.{◌≡◌, ℕ, ◌+◌, ◌%◌, ◌^◌, Bool, t
 use Rattle.std.proofs.Math.Nat.{mod-eq_of_lt}
 use prog.Atomic.{either}
 use Rattle.queue_steps.specs.State.{State}
-use Rattle.law_common.specs.Vocabulary.{Word, Op, Touch}
-use Rattle.law_common.specs.Stand.{Stand}
-use Rattle.law_ring.specs.RingShared.{CanTouch, CanOperate, answered, operated, touched, handed, put_word}
-use Rattle.law_ring.specs.RingCells.{Ring}
-use Rattle.law_ring.specs.RingAt.{At, push_tail}
+use Rattle.queue_laws.specs.Common.Vocabulary.{Word, Op, Touch}
+use Rattle.queue_laws.specs.Common.Stand.{Stand}
+use Rattle.queue_laws.specs.Ring.RingShared.{CanTouch, CanOperate, answered, operated, touched, handed, put_word}
+use Rattle.queue_laws.specs.Ring.RingCells.{Ring}
+use Rattle.queue_laws.specs.Ring.RingAt.{At, push_tail}
 use Rattle.own_bounded.specs.RingCells.{RingState, ring_touchable, ring_touched, ring_operable, ring_performed}
 use Rattle.own_bounded.specs.Laws.Numbers.{less}
 use Rattle.own_bounded.specs.Laws.RingParty.{part}

@@ -1,6 +1,6 @@
 -- The laws of `Site` for a shared chain: where a call stands after a step is what the step told.
 use Rattle.std.proofs.Common.{◌≡◌, ℕ, suc, Option, Some, None, refl, sym, ap, subst}
-use Rattle.law_common.specs.Vocabulary.{Call, Kind, Answer, Local, Next, SOLO_STEPS}
+use Rattle.queue_laws.specs.Common.Vocabulary.{Call, Kind, Answer, Local, Next, SOLO_STEPS}
 use Rattle.queue_steps.specs.Kinds.{call_kind, call_value}
 use Rattle.queue_steps.specs.Next.{next_of, first_local}
 use Rattle.mem_blocks.specs.Web.{sitter}

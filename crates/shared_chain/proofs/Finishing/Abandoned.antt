@@ -3,12 +3,12 @@
 use Rattle.std.proofs.Common.{◌≡◌, ◌≢◌, ◌⊎◌, ◌∙◌, inl, inr, ℕ, ◌+◌, ◌*◌, ◌<◌, ◌≤◌, Bool, true, bit_and, List, length, refl, sym, ap, subst, arith}
 use mathlib.Core.Option.{some}
 use denote.RawPtr.{Ptr, null_ptr, InBlock, Testable}
-use Rattle.law_common.specs.Vocabulary.{LIMIT, BLOCK_SLOTS, WRITE, READ}
+use Rattle.queue_laws.specs.Common.Vocabulary.{LIMIT, BLOCK_SLOTS, WRITE, READ}
 use Rattle.queue_steps.specs.Words.{position_of}
 use Rattle.queue_steps.specs.ChainWords.{offset_of, items_before}
-use Rattle.law_chain.specs.ChainCells.{Writer, Wrote, Reader, Unread, Done, Mover, Rests, Stands, LinkState as Joint, Linked, Shown, Seen, Passer, Before, GivenUp, Chain, ItemOk, BlocksOk, LinkOk, ShownOk, ChainOk, item_at}
-use Rattle.law_chain.proofs.ChainAnswers.{tail_items, head_items, head_is_standing}
-use Rattle.law_chain.specs.ChainAnswers.{linked_of, shown_of}
+use Rattle.queue_laws.specs.Chain.ChainCells.{Writer, Wrote, Reader, Unread, Done, Mover, Rests, Stands, LinkState as Joint, Linked, Shown, Seen, Passer, Before, GivenUp, Chain, ItemOk, BlocksOk, LinkOk, ShownOk, ChainOk, item_at}
+use Rattle.queue_laws.proofs.Chain.ChainAnswers.{tail_items, head_items, head_is_standing}
+use Rattle.queue_laws.specs.Chain.ChainAnswers.{linked_of, shown_of}
 use Rattle.mem_blocks.specs.Web.{Block, block, vacant, full, Lives, without, word_of, LastBlocks}
 use Rattle.mem_blocks.specs.declared.hub.TheConstants.{TAIL, HEAD}
 use Rattle.own_unbounded.specs.ChainMemory.{block_of}

@@ -4,9 +4,9 @@ use Rattle.std.proofs.lemmas.List.{get_or-drop, length-drop}
 use mathlib.Core.Option.{some, some-injective}
 use lib.ListN.{get_elem?}
 use denote.RawPtr.{Ptr, null_ptr, InBlock}
-use Rattle.law_common.specs.Vocabulary.{BLOCK_SLOTS, WRITE}
-use Rattle.law_chain.specs.ChainCells.{Before, GivenUp, Chain, ChainOk, item_at}
-use Rattle.law_chain.specs.ChainAnswers.{linked_of}
+use Rattle.queue_laws.specs.Common.Vocabulary.{BLOCK_SLOTS, WRITE}
+use Rattle.queue_laws.specs.Chain.ChainCells.{Before, GivenUp, Chain, ChainOk, item_at}
+use Rattle.queue_laws.specs.Chain.ChainAnswers.{linked_of}
 use Rattle.mem_blocks.specs.Web.{Block, Home, Content, block}
 use Rattle.mem_blocks.specs.declared.block.BlockPtr.{BlockPtr}
 use Rattle.own_unbounded.specs.OwnChainCells.{Piece, piece_at, state_in, item_in}

@@ -1,16 +1,16 @@
 -- What is left of a shared chain that its only party ended is a chain with one owner, in the state after the history.
 use Rattle.std.proofs.Common.{◌≡◌, ◌⊎◌, ◌∙◌, inl, inr, ℕ, suc, ◌+◌, ◌-◌, ◌*◌, ◌/◌, ◌%◌, ◌<◌, ◌≤◌, ◌==◌, Bool, true, List, [], ◌∷◌, length, slice_get, Option, Some, None, refl, sym, ap, subst, arith}
 use denote.RawPtr.{Ptr}
-use Rattle.law_common.specs.Vocabulary.{BLOCK_SLOTS}
+use Rattle.queue_laws.specs.Common.Vocabulary.{BLOCK_SLOTS}
 use Rattle.queue_steps.specs.Legal.{IsShown}
 use Rattle.queue_steps.specs.Words.{is_shut, tail_of}
 use Rattle.queue_steps.specs.ChainWords.{offset_at, offset_of}
-use Rattle.law_common.proofs.Tails.{position_tail, shut_tail}
-use Rattle.law_chain.specs.ChainFacts.{place}
-use Rattle.law_chain.proofs.ChainPlaces.{place_offset}
-use Rattle.law_chain.specs.ChainCells.{Shown, Seen, Passer, Chain, queue_of, ChainOk, ShownOk}
-use Rattle.law_chain.specs.ChainAnswers.{tail_word, head_word, last_of, shown_of}
-use Rattle.law_chain.proofs.ChainAnswers.{tail_items, head_items, resting_word, standing_word}
+use Rattle.queue_laws.proofs.Common.Tails.{position_tail, shut_tail}
+use Rattle.queue_laws.specs.Chain.ChainFacts.{place}
+use Rattle.queue_laws.proofs.Chain.ChainPlaces.{place_offset}
+use Rattle.queue_laws.specs.Chain.ChainCells.{Shown, Seen, Passer, Chain, queue_of, ChainOk, ShownOk}
+use Rattle.queue_laws.specs.Chain.ChainAnswers.{tail_word, head_word, last_of, shown_of}
+use Rattle.queue_laws.proofs.Chain.ChainAnswers.{tail_items, head_items, resting_word, standing_word}
 use Rattle.mem_blocks.specs.Web.{Block, block, word_of}
 use Rattle.mem_blocks.specs.declared.block.BlockPtr.{BlockPtr}
 use Rattle.mem_blocks.specs.declared.hub.TheConstants.{TAIL, HEAD}

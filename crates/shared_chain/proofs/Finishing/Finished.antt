@@ -7,7 +7,7 @@ use Rattle.queue_steps.specs.Effect.{after}
 use Rattle.queue_steps.specs.Legal.{IsShown}
 use Rattle.queue_steps.specs.Parties.{IsWhole}
 use Rattle.queue_steps.specs.State.{State as Queue}
-use Rattle.law_chain.specs.ChainCells.{Before, GivenUp, queue_of}
+use Rattle.queue_laws.specs.Chain.ChainCells.{Before, GivenUp, queue_of}
 use Rattle.mem_blocks.specs.Web.{Block, block, gone, Lives, AllGone, without, word_of, LastBlocksBy}
 use Rattle.mem_blocks.specs.declared.block.BlockPtr.{BlockPtr}
 use Rattle.mem_blocks.specs.declared.hub.TheConstants.{TAIL, PARTIES, HEAD}

@@ -5,7 +5,7 @@ use Rattle.atomic_table.proofs.Lists.{set_else}
 use mathlib.Core.Option.{some, some-injective}
 use lib.ListN.{get_elem?}
 use denote.RawPtr.{Ptr, null_ptr, InBlock, Testable}
-use Rattle.law_common.specs.Vocabulary.{LIMIT, BLOCK_SLOTS, WRITE, READ}
+use Rattle.queue_laws.specs.Common.Vocabulary.{LIMIT, BLOCK_SLOTS, WRITE, READ}
 use Rattle.mem_blocks.specs.Web.{Block, Home, block, homed, with_home, without, vacant, full, AllVacant, Lives}
 use Rattle.mem_blocks.specs.declared.block.BlockPtr.{BlockPtr}
 use Rattle.mem_blocks.specs.declared.sizes.TheConstants.{SLOTS}

@@ -3,13 +3,13 @@ use Rattle.std.proofs.Common.{ℕ, ◌+◌, ◌<◌, ◌≤◌, ◌≡◌, ◌�
 use Rattle.std.proofs.lemmas.List.{set-get_or}
 use mathlib.Core.Option.{some}
 use denote.RawPtr.{Ptr, Testable}
-use Rattle.law_common.specs.Vocabulary.{Next, BLOCK_SLOTS}
-use Rattle.law_common.specs.Puts.{put}
-use Rattle.law_common.proofs.Puts.{put_ok}
-use Rattle.law_chain.specs.ChainCells.{GivenUp, Unused, Spare, Chained, Use, Chain, item_at}
-use Rattle.law_chain.specs.ChainAnswers.{linked_of, is_wrote, is_done, waits_at}
-use Rattle.law_chain.specs.ChainTransitions.{lost_of, renamed}
-use Rattle.law_chain.specs.ChainAfter.{left_by}
+use Rattle.queue_laws.specs.Common.Vocabulary.{Next, BLOCK_SLOTS}
+use Rattle.queue_laws.specs.Common.Puts.{put}
+use Rattle.queue_laws.proofs.Common.Puts.{put_ok}
+use Rattle.queue_laws.specs.Chain.ChainCells.{GivenUp, Unused, Spare, Chained, Use, Chain, item_at}
+use Rattle.queue_laws.specs.Chain.ChainAnswers.{linked_of, is_wrote, is_done, waits_at}
+use Rattle.queue_laws.specs.Chain.ChainTransitions.{lost_of, renamed}
+use Rattle.queue_laws.specs.Chain.ChainAfter.{left_by}
 use Rattle.mem_blocks.specs.Web.{Block, block, worded, linked, homed, gone, with_word, with_next, with_home, without, word_of, Home, Lives}
 use Rattle.shared_chain.specs.Spots.{spot}
 use Rattle.shared_chain.specs.ChainCalls.{OutChain}

@@ -6,9 +6,9 @@ use mathlib.Core.Option as maybe
 use lib.ListN.{get_elem?}
 use denote.RawPtr.{Ptr}
 use Rattle.atomic_table.proofs.Lists.{set_here, set_else}
-use Rattle.law_common.specs.Vocabulary.{BLOCK_SLOTS}
-use Rattle.law_chain.specs.ChainCells.{Writer, Writing, Reader, Done, Walk, Before, GivenUp, Chain, ChainOk, ItemOk, WalkOk, IsWalked, item_at, LAST}
-use Rattle.law_chain.specs.ChainAnswers.{waits_at, is_wrote, is_done, IsState}
+use Rattle.queue_laws.specs.Common.Vocabulary.{BLOCK_SLOTS}
+use Rattle.queue_laws.specs.Chain.ChainCells.{Writer, Writing, Reader, Done, Walk, Before, GivenUp, Chain, ChainOk, ItemOk, WalkOk, IsWalked, item_at, LAST}
+use Rattle.queue_laws.specs.Chain.ChainAnswers.{waits_at, is_wrote, is_done, IsState}
 use Rattle.mem_blocks.specs.Web.{Block, Home, block, worded, homed, gone, with_word, with_home, without, word_of, vacant, AllVacant}
 use Rattle.shared_chain.specs.ChainCalls.{OutChain}
 use Rattle.shared_chain.specs.Rule.{home_of, plain_state, BlockIs, IsThere, Codes}

@@ -1,6 +1,6 @@
 -- The steps of a chain ask nothing of the names of blocks: with other names the next step is the same, with those names.
 use Rattle.std.proofs.Common.{ℕ, ◌+◌, ◌%◌, ◌≡◌, ◌==◌, Bool, true, false, not, if◌then◌else◌, Option, Some, None, IsSome, refl, bit_and, nat_lt, is_some}
-use Rattle.law_common.specs.Vocabulary.{Call, Kind, Answer, Local, Next, PushKind, UnboundedLocal, LIMIT, BLOCK_SLOTS, WRITE, READ, DESTROY}
+use Rattle.queue_laws.specs.Common.Vocabulary.{Call, Kind, Answer, Local, Next, PushKind, UnboundedLocal, LIMIT, BLOCK_SLOTS, WRITE, READ, DESTROY}
 use Rattle.queue_steps.specs.declared.steps.types.Answer.TheVariants.{Start, Found, Linked, Granted}
 use Rattle.queue_steps.specs.declared.steps.unbounded.UnboundedLocal.TheVariants as chain
 use Rattle.queue_steps.specs.Words.{position_of, is_shut}

@@ -5,21 +5,21 @@ use mathlib.Core.Option.{some}
 use lib.ListN.{get_elem?}
 use denote.RawPtr.{Ptr}
 use Rattle.atomic_table.proofs.Lists.{set_here, set_else}
-use Rattle.law_common.specs.Vocabulary.{Op, Local, Next, BLOCK_SLOTS, WRITE, READ}
+use Rattle.queue_laws.specs.Common.Vocabulary.{Op, Local, Next, BLOCK_SLOTS, WRITE, READ}
 use Rattle.queue_steps.specs.State.{State}
 use Rattle.queue_steps.specs.UnboundedNext.{unbounded_next}
-use Rattle.law_common.specs.Stand.{Stand}
-use Rattle.law_chain.specs.ChainCells.{Writer, Free, Wrote, Reader, Unread, Reading, Done, Chain, Write, Read, reader_of, HoldsOnly, Nothing, item_at}
-use Rattle.law_chain.specs.ChainAt.{At}
-use Rattle.law_chain.specs.ChainAfter.{chain_of, after_of, left_by}
-use Rattle.law_chain.specs.ChainAnswers.{Answers, linked_of, last_of, shown_of, tail_word, head_word, is_wrote, is_done, waits_at}
-use Rattle.law_chain.proofs.ChainAnswers.{done_is}
-use Rattle.law_chain.specs.ChainPasses.{spare_in}
-use Rattle.law_chain.proofs.ChainGiven.{holds_given}
+use Rattle.queue_laws.specs.Common.Stand.{Stand}
+use Rattle.queue_laws.specs.Chain.ChainCells.{Writer, Free, Wrote, Reader, Unread, Reading, Done, Chain, Write, Read, reader_of, HoldsOnly, Nothing, item_at}
+use Rattle.queue_laws.specs.Chain.ChainAt.{At}
+use Rattle.queue_laws.specs.Chain.ChainAfter.{chain_of, after_of, left_by}
+use Rattle.queue_laws.specs.Chain.ChainAnswers.{Answers, linked_of, last_of, shown_of, tail_word, head_word, is_wrote, is_done, waits_at}
+use Rattle.queue_laws.proofs.Chain.ChainAnswers.{done_is}
+use Rattle.queue_laws.specs.Chain.ChainPasses.{spare_in}
+use Rattle.queue_laws.proofs.Chain.ChainGiven.{holds_given}
 use Rattle.mem_blocks.specs.Web.{Block, Home, Sitter, Act, Mays, blocks_after, sitter_after, Lives, block, worded, homed, with_word, vacant, AllVacant}
 use Rattle.mem_blocks.specs.declared.hub.TheConstants.{TAIL, HEAD}
 use Rattle.shared_parties.specs.declared.known.CallState.{CallState}
-use Rattle.law_common.specs.Operations.{op_word}
+use Rattle.queue_laws.specs.Common.Operations.{op_word}
 use Rattle.shared_chain.specs.Spots.{spot}
 use Rattle.shared_chain.specs.ChainCalls.{OutChain, HasOut, ChainLent}
 use Rattle.shared_chain.specs.Rule.{home_of, plain_state, lead_of, IsThere, Codes}

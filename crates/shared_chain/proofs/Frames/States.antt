@@ -3,23 +3,23 @@ use Rattle.std.proofs.Common.{ℕ, ◌+◌, ◌<◌, ◌≡◌, ◌≢◌, ◌==
 use Rattle.std.proofs.lemmas.Bool.{lt-ltb, le-ltb}
 use Rattle.std.proofs.lemmas.Nat.{and_or_apart}
 use denote.RawPtr.{Ptr}
-use Rattle.law_common.specs.Puts.{put}
-use Rattle.law_common.proofs.Puts.{put_other}
-use Rattle.law_common.specs.Vocabulary.{Call, Reply, Effect, Word, Op, Touch, Answer, Local, Next, BLOCK_SLOTS}
+use Rattle.queue_laws.specs.Common.Puts.{put}
+use Rattle.queue_laws.proofs.Common.Puts.{put_other}
+use Rattle.queue_laws.specs.Common.Vocabulary.{Call, Reply, Effect, Word, Op, Touch, Answer, Local, Next, BLOCK_SLOTS}
 use Rattle.queue_steps.specs.State.{State}
 use Rattle.queue_steps.specs.declared.steps.unbounded.UnboundedLocal.TheVariants as chain
 use Rattle.queue_steps.specs.UnboundedNext.{unbounded_next, walks_on}
-use Rattle.law_common.specs.Stand.{Stand, stand}
-use Rattle.law_chain.specs.ChainCells.{Reading, Done, Walk, Walker, GivenUp, Chained, Chain, ChainOk, Part, Write, Read, Passed, HoldsOnly, reader_of, item_at, LAST}
-use Rattle.law_chain.specs.ChainTransitions.{walk_after}
-use Rattle.law_chain.specs.ChainFacts.{IsNamed}
-use Rattle.law_chain.specs.ChainAt.{At, Only}
-use Rattle.law_chain.specs.ChainAnswers.{StateAnswers, IsState, Answers}
-use Rattle.law_chain.specs.ChainAfter.{chain_of, after_of, left_by}
-use Rattle.law_chain.proofs.ChainWalk.{after_walker}
+use Rattle.queue_laws.specs.Common.Stand.{Stand, stand}
+use Rattle.queue_laws.specs.Chain.ChainCells.{Reading, Done, Walk, Walker, GivenUp, Chained, Chain, ChainOk, Part, Write, Read, Passed, HoldsOnly, reader_of, item_at, LAST}
+use Rattle.queue_laws.specs.Chain.ChainTransitions.{walk_after}
+use Rattle.queue_laws.specs.Chain.ChainFacts.{IsNamed}
+use Rattle.queue_laws.specs.Chain.ChainAt.{At, Only}
+use Rattle.queue_laws.specs.Chain.ChainAnswers.{StateAnswers, IsState, Answers}
+use Rattle.queue_laws.specs.Chain.ChainAfter.{chain_of, after_of, left_by}
+use Rattle.queue_laws.proofs.Chain.ChainWalk.{after_walker}
 use Rattle.mem_blocks.specs.Web.{Block, Sitter, Act, lifts, block, Lives, word_of, with_word, without, AllVacant, acted, May, Mays, blocks_after, sitter_acted, sitter_after}
 use Rattle.shared_parties.specs.declared.known.CallState.{CallState}
-use Rattle.law_common.specs.Operations.{op_word}
+use Rattle.queue_laws.specs.Common.Operations.{op_word}
 use Rattle.shared_chain.specs.Spots.{spot}
 use Rattle.shared_chain.specs.ChainCalls.{OutChain, HasOut, ChainLent}
 use Rattle.shared_chain.specs.Rule.{Codes}

@@ -3,12 +3,12 @@ use Rattle.std.proofs.Common.{ℕ, zero, suc, ◌+◌, ◌<◌, ◌≡◌, ◌�
 use mathlib.Core.Logic.{dite}
 use native.Mathlib.Decide.{ℕ_discrete}
 use denote.RawPtr.{Ptr, Testable}
-use Rattle.law_common.specs.Vocabulary.{Op}
-use Rattle.law_chain.specs.ChainCells.{LinkState, Linked, Shown, Seen, Use, Chained, ChainOk, LinkOk, ShownOk}
-use Rattle.law_chain.specs.ChainAnswers.{last_of, shown_of, linked_of}
+use Rattle.queue_laws.specs.Common.Vocabulary.{Op}
+use Rattle.queue_laws.specs.Chain.ChainCells.{LinkState, Linked, Shown, Seen, Use, Chained, ChainOk, LinkOk, ShownOk}
+use Rattle.queue_laws.specs.Chain.ChainAnswers.{last_of, shown_of, linked_of}
 use Rattle.mem_blocks.specs.Web.{Block, Home, Act, takes, gives, lays, lifts, block, word_of, homed, gone, linked, worded, with_word, with_next, with_home, without, acted, blocks_after, if_unset}
 use Rattle.mem_blocks.specs.declared.hub.TheConstants.{PARTIES}
-use Rattle.law_common.specs.Operations.{op_word, op_makes}
+use Rattle.queue_laws.specs.Common.Operations.{op_word, op_makes}
 use Rattle.shared_chain.specs.Spots.{spot}
 use Rattle.shared_chain.specs.ChainCalls.{OutChain}
 use Rattle.shared_chain.specs.Rule.{lead_of, IsUsed, IsThere, Codes}

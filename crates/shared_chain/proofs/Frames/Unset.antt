@@ -2,15 +2,15 @@
 use Rattle.std.proofs.Common.{ℕ, ◌+◌, ◌/◌, ◌%◌, ◌^◌, ◌<◌, ◌≡◌, ◌==◌, ◌∙◌, not, true, false, ap, arith, lit<, bit_and, bit_or, List}
 use Rattle.std.proofs.lemmas.Bool.{eqb-true}
 use Rattle.std.proofs.lemmas.Nat.{or_disjoint, or_lt}
-use Rattle.law_common.specs.Vocabulary.{Op, BLOCK_SLOTS, WRITE, READ}
+use Rattle.queue_laws.specs.Common.Vocabulary.{Op, BLOCK_SLOTS, WRITE, READ}
 use Rattle.queue_steps.specs.State.{State}
-use Rattle.law_common.specs.Operations.{answer_for}
-use Rattle.law_common.specs.Stand.{Stand}
-use Rattle.law_chain.specs.ChainCells.{Chain, item_at}
-use Rattle.law_chain.proofs.ChainReads.{own_item}
-use Rattle.law_chain.specs.ChainAt.{At, writing, reading, spending, destroying, closing}
-use Rattle.law_chain.specs.ChainAnswers.{Answers, is_wrote, is_done}
-use Rattle.law_chain.proofs.ChainAnswers.{head_offset}
+use Rattle.queue_laws.specs.Common.Operations.{answer_for}
+use Rattle.queue_laws.specs.Common.Stand.{Stand}
+use Rattle.queue_laws.specs.Chain.ChainCells.{Chain, item_at}
+use Rattle.queue_laws.proofs.Chain.ChainReads.{own_item}
+use Rattle.queue_laws.specs.Chain.ChainAt.{At, writing, reading, spending, destroying, closing}
+use Rattle.queue_laws.specs.Chain.ChainAnswers.{Answers, is_wrote, is_done}
+use Rattle.queue_laws.proofs.Chain.ChainAnswers.{head_offset}
 use Rattle.shared_chain.specs.Names.{is_set_once}
 
 -- where the operation sets bits that are set once, to set them is to add them

@@ -3,16 +3,16 @@ use Rattle.std.proofs.Common.{ℕ, ◌+◌, ◌%◌, ◌^◌, ◌<◌, ◌≡◌
 use mathlib.Core.Option.{some}
 use lib.ListN.{get_elem?}
 use denote.RawPtr.{Ptr, Testable}
-use Rattle.law_common.specs.Vocabulary.{Word, Link, Op, Answer}
-use Rattle.law_chain.specs.ChainCells.{Chain}
-use Rattle.law_chain.specs.ChainAnswers.{Answers, last_of}
+use Rattle.queue_laws.specs.Common.Vocabulary.{Word, Link, Op, Answer}
+use Rattle.queue_laws.specs.Chain.ChainCells.{Chain}
+use Rattle.queue_laws.specs.Chain.ChainAnswers.{Answers, last_of}
 use Rattle.mem_blocks.specs.Web.{Block, State, Sitter, Lives, viewed, block, word_of, with_word, with_next, blocks_after, sitter_after, KeepsRule, Allows, AllowsLink}
 use Rattle.mem_blocks.specs.declared.hub.TheConstants.{PARTIES}
 use Rattle.shared_parties.specs.declared.known.CallState.{CallState}
 use Rattle.shared_parties.specs.declared.known.InCall.{InCall}
 use Rattle.shared_parties.specs.Calling.{Standing, touched_list}
 use Rattle.shared_parties.specs.CallsAt.{Ready}
-use Rattle.law_common.specs.Operations.{OnWord, op_word, op_makes, answer_for}
+use Rattle.queue_laws.specs.Common.Operations.{OnWord, op_word, op_makes, answer_for}
 use Rattle.shared_parties.proofs.CallSteps.{stands_at}
 use Rattle.shared_chain.specs.ChainCalls.{chain_calls}
 use Rattle.shared_chain.specs.Rule.{lead_of, Rule}

@@ -4,18 +4,18 @@ use Rattle.std.proofs.Common.{ℕ, ◌≡◌, ◌≢◌, ◌||◌, not, Bool, Op
 use mathlib.Core.Option.{some}
 use lib.ListN.{get_elem?}
 use denote.RawPtr.{Ptr}
-use Rattle.law_common.specs.Vocabulary.{Call, Effect, Kind, Answer, Local, Next}
+use Rattle.queue_laws.specs.Common.Vocabulary.{Call, Effect, Kind, Answer, Local, Next}
 use Rattle.queue_steps.specs.Next.{CanNext, next_of}
 use Rattle.queue_steps.specs.State.{State as Queue}
 use Rattle.queue_steps.specs.UnboundedNext.{FitsChain, unbounded_next}
-use Rattle.law_common.specs.Effects.{Leads, with_effect, MayFront}
-use Rattle.law_common.specs.Stand.{Stand}
-use Rattle.law_chain.specs.ChainCells.{Reading, Chain, queue_of}
-use Rattle.law_chain.specs.ChainAt.{At}
-use Rattle.law_chain.specs.ChainAnswers.{Answers}
-use Rattle.law_chain.proofs.ChainRight.{NextOkSpares, Right, step_right}
-use Rattle.law_chain.specs.ChainAfter.{chain_of, carried_of, after_of}
-use Rattle.law_chain.proofs.ChainStep.{is_chain}
+use Rattle.queue_laws.specs.Common.Effects.{Leads, with_effect, MayFront}
+use Rattle.queue_laws.specs.Common.Stand.{Stand}
+use Rattle.queue_laws.specs.Chain.ChainCells.{Reading, Chain, queue_of}
+use Rattle.queue_laws.specs.Chain.ChainAt.{At}
+use Rattle.queue_laws.specs.Chain.ChainAnswers.{Answers}
+use Rattle.queue_laws.proofs.Chain.ChainRight.{NextOkSpares, Right, step_right}
+use Rattle.queue_laws.specs.Chain.ChainAfter.{chain_of, carried_of, after_of}
+use Rattle.queue_laws.proofs.Chain.ChainStep.{is_chain}
 use Rattle.mem_blocks.specs.Web.{Block, State, Sitter, word_of, viewed}
 use Rattle.mem_blocks.specs.declared.hub.TheConstants.{PARTIES}
 use Rattle.shared_parties.specs.declared.known.CallState.{CallState}

@@ -3,10 +3,10 @@ use Rattle.std.proofs.Common.{ℕ, ◌≡◌, ◌∙◌, Option, Some, None, Lis
 use mathlib.Core.Option.{some}
 use lib.ListN.{get_elem?}
 use denote.RawPtr.{Ptr, block_ptr, null_ptr, InBlock, Testable}
-use Rattle.law_common.specs.Vocabulary.{Op, Answer}
+use Rattle.queue_laws.specs.Common.Vocabulary.{Op, Answer}
 use Rattle.queue_steps.specs.State.{State as Queue}
-use Rattle.law_common.specs.Stand.{Stand}
-use Rattle.law_chain.specs.ChainAt.{At, asking}
+use Rattle.queue_laws.specs.Common.Stand.{Stand}
+use Rattle.queue_laws.specs.Chain.ChainAt.{At, asking}
 use Rattle.mem_blocks.specs.Web.{Block, State, Sitter, word_of, KeepsRule, Allows}
 use Rattle.mem_blocks.specs.declared.hub.TheConstants.{TAIL, PARTIES}
 use Rattle.shared_parties.specs.declared.known.CallState.{CallState}

@@ -2,20 +2,20 @@
 use Rattle.std.proofs.Common.{ℕ, ◌+◌, ◌/◌, ◌%◌, ◌<◌, ◌≡◌, ◌≢◌, ◌==◌, ◌∙◌, not, inl, inr, Bool, true, false, if◌then◌else◌, Option, Some, None, List, [], ◌∷◌, length, refl, sym, ap, subst, arith, bit_and, get_or}
 use mathlib.Core.Option.{some}
 use denote.RawPtr.{Ptr}
-use Rattle.law_common.specs.Puts.{put}
-use Rattle.law_common.proofs.Puts.{put_same, put_other}
-use Rattle.law_common.specs.Vocabulary.{Word, Op, Touch, Local, Next, BLOCK_SLOTS, WRITE, READ}
+use Rattle.queue_laws.specs.Common.Puts.{put}
+use Rattle.queue_laws.proofs.Common.Puts.{put_same, put_other}
+use Rattle.queue_laws.specs.Common.Vocabulary.{Word, Op, Touch, Local, Next, BLOCK_SLOTS, WRITE, READ}
 use Rattle.queue_steps.specs.State.{State}
 use Rattle.queue_steps.specs.ChainWords.{offset_of}
 use Rattle.queue_steps.specs.UnboundedNext.{at, walks, awaits, is_last_slot, written_found}
 use Rattle.queue_steps.specs.declared.steps.unbounded.UnboundedLocal.TheVariants as chain
-use Rattle.law_chain.specs.ChainCells.{Writer, Wrote, Reading, Done, GivenUp, ChainOk, Write, Read, HoldsOnly, value, reader_of, item_at}
-use Rattle.law_chain.proofs.ChainReads.{own_item}
-use Rattle.law_chain.specs.ChainFacts.{head_of, Got}
-use Rattle.law_chain.specs.ChainAt.{Only, awaiting}
-use Rattle.law_chain.specs.ChainAnswers.{IsState, is_wrote}
-use Rattle.law_chain.proofs.ChainAnswers.{head_offset}
-use Rattle.law_chain.specs.ChainPasses.{spare_in}
+use Rattle.queue_laws.specs.Chain.ChainCells.{Writer, Wrote, Reading, Done, GivenUp, ChainOk, Write, Read, HoldsOnly, value, reader_of, item_at}
+use Rattle.queue_laws.proofs.Chain.ChainReads.{own_item}
+use Rattle.queue_laws.specs.Chain.ChainFacts.{head_of, Got}
+use Rattle.queue_laws.specs.Chain.ChainAt.{Only, awaiting}
+use Rattle.queue_laws.specs.Chain.ChainAnswers.{IsState, is_wrote}
+use Rattle.queue_laws.proofs.Chain.ChainAnswers.{head_offset}
+use Rattle.queue_laws.specs.Chain.ChainPasses.{spare_in}
 use Rattle.mem_blocks.specs.Web.{Block, Sitter, takes, block, Lives, word_of, with_home, away, full}
 use Rattle.shared_parties.specs.declared.known.CallState.{CallState}
 use Rattle.shared_chain.specs.Spots.{spot}

@@ -2,9 +2,9 @@
 use Rattle.std.proofs.Common.{ℕ, Option, List}
 use denote.RawPtr.{Ptr}
 use Rattle.queue_steps.specs.State.{State}
-use Rattle.law_common.specs.Stand.{Stand}
-use Rattle.law_chain.specs.ChainCells.{ChainOk}
-use Rattle.law_chain.specs.ChainAt.{At, push_tail, push_block, asking, installing, showing, claiming, laying, opening, chaining, writing, spending, pop_head, pop_block, pop_tail, taking, following, peeking, passing, entering, awaiting, reading, beginning, walking, destroying, count_tail, count_head, count_again, empty_head, empty_tail, closing, closed_tail}
+use Rattle.queue_laws.specs.Common.Stand.{Stand}
+use Rattle.queue_laws.specs.Chain.ChainCells.{ChainOk}
+use Rattle.queue_laws.specs.Chain.ChainAt.{At, push_tail, push_block, asking, installing, showing, claiming, laying, opening, chaining, writing, spending, pop_head, pop_block, pop_tail, taking, following, peeking, passing, entering, awaiting, reading, beginning, walking, destroying, count_tail, count_head, count_again, empty_head, empty_tail, closing, closed_tail}
 use Rattle.mem_blocks.specs.Web.{Block, Sitter}
 use Rattle.shared_parties.specs.declared.known.CallState.{CallState}
 use Rattle.shared_parties.specs.Calling.{touched_list}

@@ -3,24 +3,24 @@ use Rattle.std.proofs.Common.{ℕ, ◌+◌, ◌/◌, ◌%◌, ◌<◌, ◌≤◌
 use Rattle.std.proofs.lemmas.Bool.Decides.{eqb_tells}
 use denote.RawPtr.{Ptr}
 use mathlib.Core.Option.{some}
-use Rattle.law_common.specs.Vocabulary.{Word, Op, Answer, Local, Next, PushKind, BLOCK_SLOTS, TAIL_STEP}
+use Rattle.queue_laws.specs.Common.Vocabulary.{Word, Op, Answer, Local, Next, PushKind, BLOCK_SLOTS, TAIL_STEP}
 use Rattle.queue_steps.specs.State.{State}
 use Rattle.queue_steps.specs.Words.{tail_of}
 use Rattle.queue_steps.specs.ChainWords.{offset_of}
 use Rattle.queue_steps.specs.UnboundedNext.{unbounded_next, chain_tail_found, lays, writes}
 use Rattle.queue_steps.specs.declared.steps.unbounded.UnboundedLocal.TheVariants as chain
-use Rattle.law_common.specs.Puts.{put}
-use Rattle.law_common.proofs.Puts.{put_ok, put_same, put_other}
-use Rattle.law_common.specs.Stand.{brings}
-use Rattle.law_chain.specs.ChainCells.{Free, Writing, Unread, Done, Mover, Rests, Laying, GivenUp, Chain, ChainOk, WalkOk, Read, HoldsOnly, Nothing, writer_of, reader_of, item_at, LAST}
-use Rattle.law_chain.specs.ChainTransitions.{appended}
-use Rattle.law_chain.proofs.ChainTransitions.{item_free, next_free}
-use Rattle.law_chain.specs.ChainAfter.{if_claimed}
-use Rattle.law_chain.specs.ChainFacts.{open_tail_of, IsNamed, TailBlockIs, HasSpare, SawTail}
-use Rattle.law_chain.specs.ChainAt.{At, IsLast, claiming}
-use Rattle.law_chain.specs.ChainAnswers.{Answers, tail_word, tail_place, is_wrote}
-use Rattle.law_chain.proofs.ChainAnswers.{same_tail}
-use Rattle.law_chain.specs.ChainPasses.{spare_in}
+use Rattle.queue_laws.specs.Common.Puts.{put}
+use Rattle.queue_laws.proofs.Common.Puts.{put_ok, put_same, put_other}
+use Rattle.queue_laws.specs.Common.Stand.{brings}
+use Rattle.queue_laws.specs.Chain.ChainCells.{Free, Writing, Unread, Done, Mover, Rests, Laying, GivenUp, Chain, ChainOk, WalkOk, Read, HoldsOnly, Nothing, writer_of, reader_of, item_at, LAST}
+use Rattle.queue_laws.specs.Chain.ChainTransitions.{appended}
+use Rattle.queue_laws.proofs.Chain.ChainTransitions.{item_free, next_free}
+use Rattle.queue_laws.specs.Chain.ChainAfter.{if_claimed}
+use Rattle.queue_laws.specs.Chain.ChainFacts.{open_tail_of, IsNamed, TailBlockIs, HasSpare, SawTail}
+use Rattle.queue_laws.specs.Chain.ChainAt.{At, IsLast, claiming}
+use Rattle.queue_laws.specs.Chain.ChainAnswers.{Answers, tail_word, tail_place, is_wrote}
+use Rattle.queue_laws.proofs.Chain.ChainAnswers.{same_tail}
+use Rattle.queue_laws.specs.Chain.ChainPasses.{spare_in}
 use Rattle.mem_blocks.specs.Web.{Block, Sitter, block, Lives, Rests as AtHome, worded, homed, takes, away, word_of, with_word, with_home}
 use Rattle.mem_blocks.specs.declared.hub.TheConstants.{TAIL}
 use Rattle.shared_parties.specs.declared.known.CallState.{CallState}

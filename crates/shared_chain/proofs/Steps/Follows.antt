@@ -1,20 +1,20 @@
 -- The loads of links: they change nothing, and tell where a link leads.
 use Rattle.std.proofs.Common.{ℕ, ◌+◌, ◌-◌, ◌/◌, ◌%◌, ◌≡◌, ◌≢◌, ◌==◌, ◌∙◌, zero, suc, Bool, true, false, if◌then◌else◌, Option, Some, None, is_some, List, [], refl, sym, ap, subst, arith}
 use denote.RawPtr.{Ptr}
-use Rattle.law_common.specs.Vocabulary.{Call, Effect, Word, Link, Op, Touch, Answer, Local, PushKind, BLOCK_SLOTS, TAIL_STEP}
+use Rattle.queue_laws.specs.Common.Vocabulary.{Call, Effect, Word, Link, Op, Touch, Answer, Local, PushKind, BLOCK_SLOTS, TAIL_STEP}
 use Rattle.queue_steps.specs.declared.steps.unbounded.UnboundedLocal.TheVariants as chain
 use Rattle.queue_steps.specs.ChainWords.{offset_of}
 use Rattle.queue_steps.specs.State.{State}
 use Rattle.queue_steps.specs.UnboundedNext.{unbounded_next, tail_block_found, asks, claims, head_block_found, followed}
-use Rattle.law_common.specs.Stand.{stand}
-use Rattle.law_chain.specs.ChainCells.{Reading, Done, Passing, GivenUp, Chain, item_at, ChainOk, Read, Head, HoldsOnly, Nothing}
-use Rattle.law_chain.specs.ChainFacts.{head_of, open_tail_of, HeadIs, IsMore, IsNamed, HasSpare, SawTail, Got}
-use Rattle.law_chain.specs.ChainAt.{Either, At, IsBehind, push_block, pop_block, following, peeking}
-use Rattle.law_chain.specs.ChainAnswers.{Answers, last_of, shown_of, linked_of}
-use Rattle.law_chain.proofs.ChainPush.{none_spare}
-use Rattle.law_chain.proofs.ChainSpan.{not_done}
-use Rattle.law_chain.specs.ChainAfter.{chain_of, after_of}
-use Rattle.law_chain.proofs.ChainReads.{not_given_up}
+use Rattle.queue_laws.specs.Common.Stand.{stand}
+use Rattle.queue_laws.specs.Chain.ChainCells.{Reading, Done, Passing, GivenUp, Chain, item_at, ChainOk, Read, Head, HoldsOnly, Nothing}
+use Rattle.queue_laws.specs.Chain.ChainFacts.{head_of, open_tail_of, HeadIs, IsMore, IsNamed, HasSpare, SawTail, Got}
+use Rattle.queue_laws.specs.Chain.ChainAt.{Either, At, IsBehind, push_block, pop_block, following, peeking}
+use Rattle.queue_laws.specs.Chain.ChainAnswers.{Answers, last_of, shown_of, linked_of}
+use Rattle.queue_laws.proofs.Chain.ChainPush.{none_spare}
+use Rattle.queue_laws.proofs.Chain.ChainSpan.{not_done}
+use Rattle.queue_laws.specs.Chain.ChainAfter.{chain_of, after_of}
+use Rattle.queue_laws.proofs.Chain.ChainReads.{not_given_up}
 use Rattle.mem_blocks.specs.Web.{Block, Sitter, block, Lives}
 use Rattle.shared_parties.specs.declared.known.CallState.{CallState}
 use Rattle.shared_chain.specs.Spots.{spot}

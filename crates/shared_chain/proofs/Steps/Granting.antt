@@ -1,15 +1,15 @@
 -- A push that asks for a block: the blocks stand for the chain where the block is its spare, and where it was refused.
 use Rattle.std.proofs.Common.{ℕ, ◌+◌, ◌≤◌, ◌≡◌, ◌∙◌, inl, inr, Option, Some, None, List, refl, sym, ap, subst, arith}
 use denote.RawPtr.{Ptr, block_ptr, Testable}
-use Rattle.law_common.specs.Vocabulary.{Word, Op, Touch, Answer, Local, PushKind, TAIL_STEP}
+use Rattle.queue_laws.specs.Common.Vocabulary.{Word, Op, Touch, Answer, Local, PushKind, TAIL_STEP}
 use Rattle.queue_steps.specs.declared.steps.unbounded.UnboundedLocal.TheVariants as chain
 use Rattle.queue_steps.specs.UnboundedNext.{unbounded_next, granted}
-use Rattle.law_common.proofs.Puts.{put_ok, put_other}
-use Rattle.law_chain.specs.ChainCells.{Spare, HoldsOnly, Nothing}
-use Rattle.law_chain.specs.ChainTransitions.{renamed}
-use Rattle.law_chain.specs.ChainFacts.{open_tail_of}
-use Rattle.law_chain.specs.ChainAnswers.{Answers}
-use Rattle.law_chain.specs.ChainAfter.{if_granted}
+use Rattle.queue_laws.proofs.Common.Puts.{put_ok, put_other}
+use Rattle.queue_laws.specs.Chain.ChainCells.{Spare, HoldsOnly, Nothing}
+use Rattle.queue_laws.specs.Chain.ChainTransitions.{renamed}
+use Rattle.queue_laws.specs.Chain.ChainFacts.{open_tail_of}
+use Rattle.queue_laws.specs.Chain.ChainAnswers.{Answers}
+use Rattle.queue_laws.specs.Chain.ChainAfter.{if_granted}
 use Rattle.mem_blocks.specs.Web.{Block, Sitter}
 use Rattle.shared_parties.specs.declared.known.CallState.{CallState}
 use Rattle.shared_chain.specs.Spots.{spot}

@@ -5,20 +5,20 @@ use Rattle.std.proofs.lemmas.List.{get_or_append_left, get_or_push, length_push,
 use Rattle.atomic_table.proofs.Lists.{at_index}
 use mathlib.Core.Option.{some}
 use denote.RawPtr.{Ptr, Testable}
-use Rattle.law_common.specs.Vocabulary.{Word, Link, Op, Touch, Answer, Local, PushKind, BLOCK_SLOTS, TAIL_STEP}
+use Rattle.queue_laws.specs.Common.Vocabulary.{Word, Link, Op, Touch, Answer, Local, PushKind, BLOCK_SLOTS, TAIL_STEP}
 use Rattle.queue_steps.specs.declared.steps.unbounded.UnboundedLocal.TheVariants as chain
 use Rattle.queue_steps.specs.Words.{tail_of}
 use Rattle.queue_steps.specs.State.{State}
 use Rattle.queue_steps.specs.UnboundedNext.{unbounded_next}
-use Rattle.law_common.specs.Puts.{put}
-use Rattle.law_common.proofs.Puts.{put_ok, put_same, put_other}
-use Rattle.law_chain.specs.ChainCells.{Free, Unread, Done, Mover, Laying, Opening, Passer, LinkState, Linking, Linked, Shown, Showing, Seen, Walk, Before, GivenUp, Unused, Spare, Chained, Chain, BlocksOk, LinkOk, ShownOk, WalkOk, item_at, LAST, ChainOk, Write, Tail, HoldsOnly, Nothing}
-use Rattle.law_chain.specs.ChainTransitions as moves
-use Rattle.law_chain.proofs.ChainTransitions.{item_free, no_block, no_front}
-use Rattle.law_chain.specs.ChainFacts.{open_tail_of, SawTail, Claimed}
-use Rattle.law_chain.specs.ChainAt.{Either, installing, laying}
-use Rattle.law_chain.specs.ChainAfter.{if_installed}
-use Rattle.law_chain.specs.ChainAnswers.{tail_place, last_of, shown_of, linked_of, is_wrote, is_done, waits_at, IsState}
+use Rattle.queue_laws.specs.Common.Puts.{put}
+use Rattle.queue_laws.proofs.Common.Puts.{put_ok, put_same, put_other}
+use Rattle.queue_laws.specs.Chain.ChainCells.{Free, Unread, Done, Mover, Laying, Opening, Passer, LinkState, Linking, Linked, Shown, Showing, Seen, Walk, Before, GivenUp, Unused, Spare, Chained, Chain, BlocksOk, LinkOk, ShownOk, WalkOk, item_at, LAST, ChainOk, Write, Tail, HoldsOnly, Nothing}
+use Rattle.queue_laws.specs.Chain.ChainTransitions as moves
+use Rattle.queue_laws.proofs.Chain.ChainTransitions.{item_free, no_block, no_front}
+use Rattle.queue_laws.specs.Chain.ChainFacts.{open_tail_of, SawTail, Claimed}
+use Rattle.queue_laws.specs.Chain.ChainAt.{Either, installing, laying}
+use Rattle.queue_laws.specs.Chain.ChainAfter.{if_installed}
+use Rattle.queue_laws.specs.Chain.ChainAnswers.{tail_place, last_of, shown_of, linked_of, is_wrote, is_done, waits_at, IsState}
 use Rattle.mem_blocks.specs.Web.{Block, Home, Sitter, Act, lays, block, linked, vacant, with_next, if_unset, Mays, blocks_after, sitter_after}
 use Rattle.shared_parties.specs.declared.known.CallState.{CallState}
 use Rattle.shared_chain.specs.Spots.{spot}

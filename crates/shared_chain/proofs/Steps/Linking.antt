@@ -2,20 +2,20 @@
 use Rattle.std.proofs.Common.{ℕ, ◌+◌, ◌*◌, ◌/◌, ◌%◌, ◌<◌, ◌≡◌, ◌≢◌, ◌∙◌, inl, inr, Bool, true, false, if◌then◌else◌, Option, Some, None, List, [], refl, sym, ap, subst, arith, length-set, get_or-set_same}
 use Rattle.std.proofs.lemmas.Bool.Decides.{eqb_tells}
 use denote.RawPtr.{Ptr}
-use Rattle.law_common.specs.Vocabulary.{Word, Link, Op, Touch, Local, PushKind, BLOCK_SLOTS, TAIL_STEP, WRITE}
+use Rattle.queue_laws.specs.Common.Vocabulary.{Word, Link, Op, Touch, Local, PushKind, BLOCK_SLOTS, TAIL_STEP, WRITE}
 use Rattle.queue_steps.specs.declared.steps.unbounded.UnboundedLocal.TheVariants as chain
 use Rattle.queue_steps.specs.ChainWords.{offset_of}
 use Rattle.queue_steps.specs.Words.{position_of, tail_of}
 use Rattle.queue_steps.specs.State.{State}
-use Rattle.law_common.proofs.Puts.{put_same, put_other}
-use Rattle.law_common.proofs.Tails.{position_tail}
-use Rattle.law_chain.specs.ChainFacts.{place, head_of, open_tail_of, IsNamed, SawTail, Claimed, Got}
-use Rattle.law_chain.specs.ChainCells.{Writer, Writing, Reader, Done, Passer, Stands, Passing, Entering, Linking, Linked, Shown, Showing, Seen, ItemOk, FrontOk, ShownOk, ChainOk, Write, Read, Head, Next, First, HoldsOnly}
-use Rattle.law_chain.specs.ChainTransitions.{displayed, chained, passed, entered}
-use Rattle.law_chain.proofs.ChainReads.{passer_sees}
-use Rattle.law_chain.specs.ChainAt.{Only, Either, IsBehind, IsFurther, showing, chaining, passing, entering}
-use Rattle.law_chain.specs.ChainAnswers.{head_place, head_word, shown_of, linked_of}
-use Rattle.law_chain.proofs.ChainReads.{not_given_up}
+use Rattle.queue_laws.proofs.Common.Puts.{put_same, put_other}
+use Rattle.queue_laws.proofs.Common.Tails.{position_tail}
+use Rattle.queue_laws.specs.Chain.ChainFacts.{place, head_of, open_tail_of, IsNamed, SawTail, Claimed, Got}
+use Rattle.queue_laws.specs.Chain.ChainCells.{Writer, Writing, Reader, Done, Passer, Stands, Passing, Entering, Linking, Linked, Shown, Showing, Seen, ItemOk, FrontOk, ShownOk, ChainOk, Write, Read, Head, Next, First, HoldsOnly}
+use Rattle.queue_laws.specs.Chain.ChainTransitions.{displayed, chained, passed, entered}
+use Rattle.queue_laws.proofs.Chain.ChainReads.{passer_sees}
+use Rattle.queue_laws.specs.Chain.ChainAt.{Only, Either, IsBehind, IsFurther, showing, chaining, passing, entering}
+use Rattle.queue_laws.specs.Chain.ChainAnswers.{head_place, head_word, shown_of, linked_of}
+use Rattle.queue_laws.proofs.Chain.ChainReads.{not_given_up}
 use Rattle.mem_blocks.specs.Web.{Block, Sitter, block, linked, worded, with_word, with_next}
 use Rattle.shared_parties.specs.declared.known.CallState.{CallState}
 use Rattle.shared_chain.specs.Spots.{spot}

@@ -2,22 +2,22 @@
 use Rattle.std.proofs.Common.{ℕ, ◌≡◌, ◌≤◌, inl, inr, false, Option, Some, None, List, refl, ap}
 use Rattle.std.proofs.lemmas.Bool.Decides.{eqb_tells}
 use denote.RawPtr.{Ptr}
-use Rattle.law_common.specs.Vocabulary.{Call, Effect, Word, Op, Touch, Answer, Local, PushKind, BLOCK_SLOTS, Look}
+use Rattle.queue_laws.specs.Common.Vocabulary.{Call, Effect, Word, Op, Touch, Answer, Local, PushKind, BLOCK_SLOTS, Look}
 use Rattle.queue_steps.specs.State.{State}
 use Rattle.queue_steps.specs.Looks.{IsCount}
 use Rattle.queue_steps.specs.Words.{IsWord, position_of}
 use Rattle.queue_steps.specs.ChainWords.{block_at, offset_of, items_before}
 use Rattle.queue_steps.specs.UnboundedNext.{unbounded_next, chain_tail_found, chain_pop_tail_found, chain_head_found}
 use Rattle.queue_steps.specs.declared.steps.unbounded.UnboundedLocal.TheVariants as chain
-use Rattle.law_common.specs.Moments.{SeenIn, HeadWas}
-use Rattle.law_common.specs.Stand.{stand}
-use Rattle.law_chain.specs.ChainCells.{HoldsOnly, Nothing}
-use Rattle.law_chain.specs.ChainFacts.{head_of, HasSpare, HeadIs, HeadBlockRead, SawEmpty}
-use Rattle.law_chain.specs.ChainAt.{At, push_tail, pop_head, pop_tail, count_tail, count_head, count_again, empty_head, empty_tail, closed_tail}
-use Rattle.law_chain.specs.ChainAnswers.{Answers}
-use Rattle.law_chain.specs.ChainPasses.{spare_in}
-use Rattle.law_chain.proofs.ChainPush.{tail_ways}
-use Rattle.law_chain.specs.ChainAfter.{chain_of, after_of}
+use Rattle.queue_laws.specs.Common.Moments.{SeenIn, HeadWas}
+use Rattle.queue_laws.specs.Common.Stand.{stand}
+use Rattle.queue_laws.specs.Chain.ChainCells.{HoldsOnly, Nothing}
+use Rattle.queue_laws.specs.Chain.ChainFacts.{head_of, HasSpare, HeadIs, HeadBlockRead, SawEmpty}
+use Rattle.queue_laws.specs.Chain.ChainAt.{At, push_tail, pop_head, pop_tail, count_tail, count_head, count_again, empty_head, empty_tail, closed_tail}
+use Rattle.queue_laws.specs.Chain.ChainAnswers.{Answers}
+use Rattle.queue_laws.specs.Chain.ChainPasses.{spare_in}
+use Rattle.queue_laws.proofs.Chain.ChainPush.{tail_ways}
+use Rattle.queue_laws.specs.Chain.ChainAfter.{chain_of, after_of}
 use Rattle.mem_blocks.specs.Web.{Block, Sitter, Lives, word_of}
 use Rattle.shared_parties.specs.declared.known.CallState.{CallState}
 use Rattle.shared_chain.specs.ChainCalls.{OutChain, ChainLent}

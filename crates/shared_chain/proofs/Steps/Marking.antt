@@ -1,20 +1,20 @@
 -- The steps that add to the tail's word, or set its mark: the tail moves over a block's end, and the queue is closed.
 use Rattle.std.proofs.Common.{ℕ, ◌+◌, ◌-◌, ◌/◌, ◌%◌, ◌^◌, ◌≤◌, ◌≡◌, ◌==◌, ◌∙◌, ◌⊎◌, Option, List, [], refl, ap, arith, bit_or}
 use denote.RawPtr.{Ptr}
-use Rattle.law_common.specs.Vocabulary.{Reply, Word, Op, Answer, Local, PushKind, LIMIT, BLOCK_SLOTS, MARK, TAIL_STEP}
+use Rattle.queue_laws.specs.Common.Vocabulary.{Reply, Word, Op, Answer, Local, PushKind, LIMIT, BLOCK_SLOTS, MARK, TAIL_STEP}
 use Rattle.queue_steps.specs.State.{State}
 use Rattle.queue_steps.specs.Words.{tail_of}
 use Rattle.queue_steps.specs.declared.steps.types.Next.TheVariants as next
 use Rattle.queue_steps.specs.BoundedNext.{closed_reply}
 use Rattle.queue_steps.specs.UnboundedNext.{ends}
 use Rattle.queue_steps.specs.declared.steps.unbounded.UnboundedLocal.TheVariants as chain
-use Rattle.law_common.proofs.Tails.{mark_tail, next_tail}
-use Rattle.law_chain.specs.ChainFacts.{place, open_tail_of, IsNamed, HasSpare, Claimed}
-use Rattle.law_chain.specs.ChainCells.{Opening, Linking, Chain, ChainOk, Write, Tail, Next, HoldsOnly, Nothing}
-use Rattle.law_chain.specs.ChainTransitions.{opened, marked}
-use Rattle.law_chain.specs.ChainAt.{opening, spending, closing}
-use Rattle.law_chain.specs.ChainAnswers.{tail_place, tail_word}
-use Rattle.law_chain.proofs.ChainAnswers.{tail_small}
+use Rattle.queue_laws.proofs.Common.Tails.{mark_tail, next_tail}
+use Rattle.queue_laws.specs.Chain.ChainFacts.{place, open_tail_of, IsNamed, HasSpare, Claimed}
+use Rattle.queue_laws.specs.Chain.ChainCells.{Opening, Linking, Chain, ChainOk, Write, Tail, Next, HoldsOnly, Nothing}
+use Rattle.queue_laws.specs.Chain.ChainTransitions.{opened, marked}
+use Rattle.queue_laws.specs.Chain.ChainAt.{opening, spending, closing}
+use Rattle.queue_laws.specs.Chain.ChainAnswers.{tail_place, tail_word}
+use Rattle.queue_laws.proofs.Chain.ChainAnswers.{tail_small}
 use Rattle.mem_blocks.specs.Web.{Block, Sitter, word_of, with_word}
 use Rattle.mem_blocks.specs.declared.hub.TheConstants.{TAIL}
 use Rattle.shared_parties.specs.declared.known.CallState.{CallState}

@@ -1,14 +1,14 @@
 -- The step of a call may be done wherever the call stands: its word is one of the chain's, and the slot that it touches is the one that it has.
 use Rattle.std.proofs.Common.{ℕ, ◌<◌, ◌%◌, ◌≡◌, ◌∙◌, inl, inr, Bool, true, false, Option, Some, None, List, [], ◌∷◌, refl, sym, ap, subst, arith, lit<}
-use Rattle.law_common.specs.Vocabulary.{Call, Effect, Next, BLOCK_SLOTS}
+use Rattle.queue_laws.specs.Common.Vocabulary.{Call, Effect, Next, BLOCK_SLOTS}
 use Rattle.queue_steps.specs.State.{State}
 use Rattle.queue_steps.specs.ChainWords.{offset_of}
-use Rattle.law_common.specs.Stand.{Stand}
-use Rattle.law_chain.specs.ChainCells.{Writing, Reading, Walker, WalkOk, ChainOk, Write, Read, writer_of, reader_of, HoldsOnly, Nothing}
-use Rattle.law_chain.specs.ChainFacts.{head_of, open_tail_of}
-use Rattle.law_chain.proofs.ChainAnswers.{head_offset}
-use Rattle.law_chain.specs.ChainAt.{Only, asking, writing, awaiting, reading, beginning, walking, destroying}
-use Rattle.law_chain.proofs.ChainRight.{NextOkSpares}
+use Rattle.queue_laws.specs.Common.Stand.{Stand}
+use Rattle.queue_laws.specs.Chain.ChainCells.{Writing, Reading, Walker, WalkOk, ChainOk, Write, Read, writer_of, reader_of, HoldsOnly, Nothing}
+use Rattle.queue_laws.specs.Chain.ChainFacts.{head_of, open_tail_of}
+use Rattle.queue_laws.proofs.Chain.ChainAnswers.{head_offset}
+use Rattle.queue_laws.specs.Chain.ChainAt.{Only, asking, writing, awaiting, reading, beginning, walking, destroying}
+use Rattle.queue_laws.proofs.Chain.ChainRight.{NextOkSpares}
 use Rattle.shared_chain.specs.ChainCalls.{OutChain, ChainLent, ChainAt}
 use Rattle.shared_chain.specs.Steps.{SlotsFor, MayStep, MayGoOn}
 

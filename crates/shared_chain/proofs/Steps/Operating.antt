@@ -1,14 +1,14 @@
 -- The operation of a ready call's step may be done on the chain, and what it answered at run time is what it answered with names.
 use Rattle.std.proofs.Common.{ℕ, ◌+◌, ◌%◌, ◌^◌, ◌≡◌, ◌∙◌, true, Option, Some, None, List, [], refl, sym, ap, subst}
 use denote.RawPtr.{Ptr, InBlock, Testable, null_ptr}
-use Rattle.law_common.specs.Vocabulary.{Word, Link, Op, Touch, Answer, Local}
+use Rattle.queue_laws.specs.Common.Vocabulary.{Word, Link, Op, Touch, Answer, Local}
 use Rattle.mem_blocks.specs.Web.{State, Block, Sitter, Allows, AllowsLink, sitter}
 use Rattle.mem_blocks.specs.declared.block.BlockPtr.{BlockPtr as Place}
 use Rattle.mem_blocks.specs.declared.hub.TheConstants.{TAIL}
 use Rattle.shared_parties.specs.declared.known.CallState.{CallState}
 use Rattle.shared_parties.specs.declared.known.InCall.{InCall}
 use Rattle.shared_parties.specs.Calling.{touched_list}
-use Rattle.law_common.specs.Operations.{op_word, op_makes, answer_for}
+use Rattle.queue_laws.specs.Common.Operations.{op_word, op_makes, answer_for}
 use Rattle.shared_chain.specs.Spots.{spot}
 use Rattle.shared_chain.specs.Names.{link_of, word_map, link_map, op_map, answer_map, is_set_once}
 use Rattle.shared_chain.specs.Rule.{Rule}

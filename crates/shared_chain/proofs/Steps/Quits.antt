@@ -6,15 +6,15 @@ use mathlib.Core.List.{IsPrefix}
 use lib.ListN.{get_elem?}
 use denote.RawPtr.{Ptr}
 use Rattle.atomic_table.proofs.Lists.{set_again}
-use Rattle.law_common.specs.Vocabulary.{Reply, Effect, Next, BLOCK_SLOTS}
+use Rattle.queue_laws.specs.Common.Vocabulary.{Reply, Effect, Next, BLOCK_SLOTS}
 use Rattle.queue_steps.specs.Kinds.{call_value}
-use Rattle.law_chain.specs.ChainCells.{Chain, queue_of, ChainOk, HoldsOnly, Nothing}
-use Rattle.law_chain.specs.ChainTransitions.{given_up}
-use Rattle.law_chain.specs.ChainPasses.{spare_in}
-use Rattle.law_chain.proofs.ChainEarly.{early, unbound}
-use Rattle.law_chain.proofs.ChainStepOk.{GivesUp}
-use Rattle.law_chain.proofs.ChainGiven.{given_ok, passes_given, holds_given, spares_given}
-use Rattle.law_chain.proofs.ChainPasses.{passes_same}
+use Rattle.queue_laws.specs.Chain.ChainCells.{Chain, queue_of, ChainOk, HoldsOnly, Nothing}
+use Rattle.queue_laws.specs.Chain.ChainTransitions.{given_up}
+use Rattle.queue_laws.specs.Chain.ChainPasses.{spare_in}
+use Rattle.queue_laws.proofs.Chain.ChainEarly.{early, unbound}
+use Rattle.queue_laws.proofs.Chain.ChainStepOk.{GivesUp}
+use Rattle.queue_laws.proofs.Chain.ChainGiven.{given_ok, passes_given, holds_given, spares_given}
+use Rattle.queue_laws.proofs.Chain.ChainPasses.{passes_same}
 use Rattle.mem_blocks.specs.Web.{Block, Home, State, Sitter, sitter, vacant, word_of, KeepsRule, Allows}
 use Rattle.mem_blocks.specs.declared.block.BlockPtr.{BlockPtr as Place}
 use Rattle.mem_blocks.specs.declared.hub.TheConstants.{PARTIES}

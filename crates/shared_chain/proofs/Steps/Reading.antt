@@ -5,23 +5,23 @@ use Rattle.std.proofs.lemmas.Nat.{and_or_self}
 use mathlib.Core.Option.{some}
 use lib.ListN.{get_elem?}
 use denote.RawPtr.{Ptr}
-use Rattle.law_common.specs.Puts.{put}
-use Rattle.law_common.proofs.Puts.{put_same, put_other}
-use Rattle.law_common.specs.Vocabulary.{Reply, Word, Op, Touch, Local, Next, BLOCK_SLOTS, WRITE, READ, DESTROY}
+use Rattle.queue_laws.specs.Common.Puts.{put}
+use Rattle.queue_laws.proofs.Common.Puts.{put_same, put_other}
+use Rattle.queue_laws.specs.Common.Vocabulary.{Reply, Word, Op, Touch, Local, Next, BLOCK_SLOTS, WRITE, READ, DESTROY}
 use Rattle.queue_steps.specs.State.{State}
 use Rattle.queue_steps.specs.ChainWords.{offset_of}
 use Rattle.queue_steps.specs.UnboundedNext.{at, ends, walks_on}
 use Rattle.queue_steps.specs.declared.steps.unbounded.UnboundedLocal.TheVariants as chain
-use Rattle.law_chain.specs.ChainCells.{Wrote, Reader, Reading, Done, Walk, Before, Walker, Waits, GivenUp, ChainOk, WalkOk, Read, Passed, HoldsOnly, Nothing, reader_of, item_at, LAST}
-use Rattle.law_chain.specs.ChainTransitions.{reads, walk_after}
-use Rattle.law_chain.proofs.ChainReads.{own_item}
-use Rattle.law_chain.proofs.ChainRead.{waits_is}
-use Rattle.law_chain.specs.ChainFacts.{head_of, Got}
-use Rattle.law_chain.specs.ChainAt.{Only, IsLast, reading, beginning}
-use Rattle.law_chain.specs.ChainAnswers.{IsState, is_done, waits_at}
-use Rattle.law_chain.proofs.ChainAnswers.{head_offset}
-use Rattle.law_chain.specs.ChainPasses.{spare_in}
-use Rattle.law_chain.proofs.ChainHolds.{after_read, after_read_on}
+use Rattle.queue_laws.specs.Chain.ChainCells.{Wrote, Reader, Reading, Done, Walk, Before, Walker, Waits, GivenUp, ChainOk, WalkOk, Read, Passed, HoldsOnly, Nothing, reader_of, item_at, LAST}
+use Rattle.queue_laws.specs.Chain.ChainTransitions.{reads, walk_after}
+use Rattle.queue_laws.proofs.Chain.ChainReads.{own_item}
+use Rattle.queue_laws.proofs.Chain.ChainRead.{waits_is}
+use Rattle.queue_laws.specs.Chain.ChainFacts.{head_of, Got}
+use Rattle.queue_laws.specs.Chain.ChainAt.{Only, IsLast, reading, beginning}
+use Rattle.queue_laws.specs.Chain.ChainAnswers.{IsState, is_done, waits_at}
+use Rattle.queue_laws.proofs.Chain.ChainAnswers.{head_offset}
+use Rattle.queue_laws.specs.Chain.ChainPasses.{spare_in}
+use Rattle.queue_laws.proofs.Chain.ChainHolds.{after_read, after_read_on}
 use Rattle.mem_blocks.specs.Web.{Block, Sitter, gives, block, Lives, word_of, with_word, with_home, vacant, May, sitter_acted}
 use Rattle.shared_parties.specs.declared.known.CallState.{CallState}
 use Rattle.shared_parties.specs.Calling.{touched_list}

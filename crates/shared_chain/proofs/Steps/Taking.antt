@@ -2,24 +2,24 @@
 use Rattle.std.proofs.Common.{ℕ, ◌+◌, ◌*◌, ◌%◌, ◌<◌, ◌≡◌, ◌≢◌, ◌==◌, ◌∙◌, ◌⊎◌, inl, inr, Bool, true, false, if◌then◌else◌, Option, None, List, [], refl, sym, ap, subst, arith}
 use Rattle.std.proofs.lemmas.Bool.Decides.{eqb_tells}
 use denote.RawPtr.{Ptr}
-use Rattle.law_common.specs.Vocabulary.{Call, Word, Link, Op, Touch, Answer, Local, Next, BLOCK_SLOTS, TAIL_STEP}
+use Rattle.queue_laws.specs.Common.Vocabulary.{Call, Word, Link, Op, Touch, Answer, Local, Next, BLOCK_SLOTS, TAIL_STEP}
 use Rattle.queue_steps.specs.State.{State}
 use Rattle.queue_steps.specs.Words.{tail_of}
 use Rattle.queue_steps.specs.ChainWords.{offset_of}
 use Rattle.queue_steps.specs.UnboundedNext.{unbounded_next, chain_head_found}
 use Rattle.queue_steps.specs.declared.steps.unbounded.UnboundedLocal.TheVariants as chain
-use Rattle.law_common.specs.Puts.{put}
-use Rattle.law_common.proofs.Puts.{put_ok, put_other}
-use Rattle.law_common.specs.Stand.{empty_handed}
-use Rattle.law_chain.specs.ChainFacts.{place, head_of, HeadIs, HeadBlockIs, IsMore}
-use Rattle.law_chain.specs.ChainCells.{Writer, Free, Unread, Reading, Passer, Stands, Passing, ChainOk, Write, Read, HoldsOnly, Nothing, reader_of, item_at}
-use Rattle.law_chain.specs.ChainTransitions.{taken}
-use Rattle.law_chain.proofs.ChainReads.{front_is}
-use Rattle.law_chain.specs.ChainAfter.{if_taken}
-use Rattle.law_chain.specs.ChainAt.{At, taking}
-use Rattle.law_chain.specs.ChainAnswers.{Answers, head_word, head_place, is_done}
-use Rattle.law_chain.proofs.ChainAnswers.{head_offset, same_head}
-use Rattle.law_chain.specs.ChainPasses.{spare_in}
+use Rattle.queue_laws.specs.Common.Puts.{put}
+use Rattle.queue_laws.proofs.Common.Puts.{put_ok, put_other}
+use Rattle.queue_laws.specs.Common.Stand.{empty_handed}
+use Rattle.queue_laws.specs.Chain.ChainFacts.{place, head_of, HeadIs, HeadBlockIs, IsMore}
+use Rattle.queue_laws.specs.Chain.ChainCells.{Writer, Free, Unread, Reading, Passer, Stands, Passing, ChainOk, Write, Read, HoldsOnly, Nothing, reader_of, item_at}
+use Rattle.queue_laws.specs.Chain.ChainTransitions.{taken}
+use Rattle.queue_laws.proofs.Chain.ChainReads.{front_is}
+use Rattle.queue_laws.specs.Chain.ChainAfter.{if_taken}
+use Rattle.queue_laws.specs.Chain.ChainAt.{At, taking}
+use Rattle.queue_laws.specs.Chain.ChainAnswers.{Answers, head_word, head_place, is_done}
+use Rattle.queue_laws.proofs.Chain.ChainAnswers.{head_offset, same_head}
+use Rattle.queue_laws.specs.Chain.ChainPasses.{spare_in}
 use Rattle.mem_blocks.specs.Web.{Block, Sitter, word_of, with_word}
 use Rattle.mem_blocks.specs.declared.hub.TheConstants.{HEAD}
 use Rattle.shared_parties.specs.declared.known.CallState.{CallState}

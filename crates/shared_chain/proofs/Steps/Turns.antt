@@ -2,7 +2,7 @@
 use Rattle.std.proofs.Common.{ℕ, ◌≡◌, ◌∙◌, true, Option, Some, None, List, [], ◌∷◌, refl, sym, ap, subst, inl, inr}
 use denote.RawPtr.{Ptr, null_ptr}
 use Rattle.atomic_table.specs.Table.{rest}
-use Rattle.law_common.specs.Vocabulary.{Call, Word, Op, Touch, Local}
+use Rattle.queue_laws.specs.Common.Vocabulary.{Call, Word, Op, Touch, Local}
 use Rattle.mem_blocks.specs.Web.{Block, Hand, Sitter, alive_at}
 use Rattle.mem_blocks.specs.Seats.{Sits, Same}
 use Rattle.mem_blocks.specs.declared.block.BlockPtr.{BlockPtr as Place}

@@ -5,19 +5,19 @@ use Rattle.std.proofs.lemmas.Nat.{and_or_self}
 use mathlib.Core.Option.{some}
 use lib.ListN.{get_elem?}
 use denote.RawPtr.{Ptr}
-use Rattle.law_common.specs.Puts.{put}
-use Rattle.law_common.proofs.Puts.{put_same, put_other}
+use Rattle.queue_laws.specs.Common.Puts.{put}
+use Rattle.queue_laws.proofs.Common.Puts.{put_same, put_other}
 use Rattle.queue_steps.specs.State.{State}
 use Rattle.queue_steps.specs.UnboundedNext.{at, ends, walks_on}
-use Rattle.law_common.specs.Vocabulary.{Reply, Word, Op, Touch, Local, WRITE, READ, DESTROY}
+use Rattle.queue_laws.specs.Common.Vocabulary.{Reply, Word, Op, Touch, Local, WRITE, READ, DESTROY}
 use Rattle.queue_steps.specs.declared.steps.unbounded.UnboundedLocal.TheVariants as chain
-use Rattle.law_chain.specs.ChainCells.{Reader, Reading, Done, Walk, Before, Walker, Waits, GivenUp, Chain, ChainOk, WalkOk, IsWalked, Read, Passed, HoldsOnly, reader_of, item_at, LAST}
-use Rattle.law_chain.specs.ChainTransitions.{walked, walk_after}
-use Rattle.law_chain.specs.ChainFacts.{IsNamed}
-use Rattle.law_chain.specs.ChainAt.{Only, walking, destroying}
-use Rattle.law_chain.specs.ChainAnswers.{IsState, is_wrote, is_done, waits_at}
-use Rattle.law_chain.proofs.ChainAnswers.{done_is}
-use Rattle.law_chain.proofs.ChainHolds.{after_walk_on}
+use Rattle.queue_laws.specs.Chain.ChainCells.{Reader, Reading, Done, Walk, Before, Walker, Waits, GivenUp, Chain, ChainOk, WalkOk, IsWalked, Read, Passed, HoldsOnly, reader_of, item_at, LAST}
+use Rattle.queue_laws.specs.Chain.ChainTransitions.{walked, walk_after}
+use Rattle.queue_laws.specs.Chain.ChainFacts.{IsNamed}
+use Rattle.queue_laws.specs.Chain.ChainAt.{Only, walking, destroying}
+use Rattle.queue_laws.specs.Chain.ChainAnswers.{IsState, is_wrote, is_done, waits_at}
+use Rattle.queue_laws.proofs.Chain.ChainAnswers.{done_is}
+use Rattle.queue_laws.proofs.Chain.ChainHolds.{after_walk_on}
 use Rattle.mem_blocks.specs.Web.{Block, Sitter, block, Lives, word_of, with_word, without, vacant}
 use Rattle.shared_parties.specs.declared.known.CallState.{CallState}
 use Rattle.shared_chain.specs.Spots.{spot}

@@ -3,20 +3,20 @@ use Rattle.std.proofs.Common.{ℕ, zero, suc, ◌+◌, ◌/◌, ◌%◌, ◌<◌
 use Rattle.std.proofs.lemmas.Nat.{and_or_self}
 use mathlib.Core.Option.{some}
 use denote.RawPtr.{Ptr}
-use Rattle.law_common.specs.Puts.{put}
-use Rattle.law_common.proofs.Puts.{put_same, put_other}
-use Rattle.law_common.specs.Vocabulary.{Word, Op, Touch, Local, Next, PushKind, BLOCK_SLOTS, WRITE, READ, DESTROY}
+use Rattle.queue_laws.specs.Common.Puts.{put}
+use Rattle.queue_laws.proofs.Common.Puts.{put_same, put_other}
+use Rattle.queue_laws.specs.Common.Vocabulary.{Word, Op, Touch, Local, Next, PushKind, BLOCK_SLOTS, WRITE, READ, DESTROY}
 use Rattle.queue_steps.specs.State.{State}
 use Rattle.queue_steps.specs.BoundedNext.{pushed_reply}
 use Rattle.queue_steps.specs.ChainWords.{offset_of}
 use Rattle.queue_steps.specs.declared.steps.unbounded.UnboundedLocal.TheVariants as chain
-use Rattle.law_chain.specs.ChainCells.{Writing, Wrote, Reader, Unread, Reading, Done, GivenUp, ChainOk, ItemOk, Write, HoldsOnly, Nothing, item_at}
-use Rattle.law_chain.specs.ChainTransitions.{written}
-use Rattle.law_chain.proofs.ChainReads.{own_item}
-use Rattle.law_chain.specs.ChainFacts.{open_tail_of, Claimed, HasSpare}
-use Rattle.law_chain.specs.ChainAt.{Only, writing}
-use Rattle.law_chain.specs.ChainAnswers.{IsState, is_wrote}
-use Rattle.law_chain.proofs.ChainHolds.{after_write}
+use Rattle.queue_laws.specs.Chain.ChainCells.{Writing, Wrote, Reader, Unread, Reading, Done, GivenUp, ChainOk, ItemOk, Write, HoldsOnly, Nothing, item_at}
+use Rattle.queue_laws.specs.Chain.ChainTransitions.{written}
+use Rattle.queue_laws.proofs.Chain.ChainReads.{own_item}
+use Rattle.queue_laws.specs.Chain.ChainFacts.{open_tail_of, Claimed, HasSpare}
+use Rattle.queue_laws.specs.Chain.ChainAt.{Only, writing}
+use Rattle.queue_laws.specs.Chain.ChainAnswers.{IsState, is_wrote}
+use Rattle.queue_laws.proofs.Chain.ChainHolds.{after_write}
 use Rattle.mem_blocks.specs.Web.{Block, Sitter, gives, block, Lives, word_of, with_word, with_home, vacant, full, AllVacant, sitter_acted}
 use Rattle.shared_parties.specs.declared.known.CallState.{CallState}
 use Rattle.shared_parties.specs.Calling.{touched_list}

@@ -6,33 +6,33 @@ use mathlib.Core.Option as maybe
 use lib.ListN.{get_elem?}
 use Rattle.atomic_table.specs.Table.{Act, keeps, takes, gives, Valid, carried_after, homes_after, rest}
 use Rattle.atomic_table.proofs.Lists.{set_here, set_else}
-use Rattle.law_common.specs.Vocabulary.{Call, Reply, Effect, Kind, Word, Op, Touch, Answer, Next}
+use Rattle.queue_laws.specs.Common.Vocabulary.{Call, Reply, Effect, Kind, Word, Op, Touch, Answer, Next}
 use Rattle.queue_steps.specs.State.{State}
 use Rattle.queue_steps.specs.Words.{IsRing}
 use Rattle.queue_steps.specs.Next.{CanNext, next_of}
-use Rattle.law_common.specs.Puts.{put}
-use Rattle.law_common.proofs.Puts.{put_ok, put_same}
-use Rattle.law_ring.specs.RingCells.{Cell, Ring, queue_of, RingOk, owner, HoldsNone}
-use Rattle.law_ring.specs.RingWords.{Codes, item_in}
-use Rattle.law_ring.specs.RingShared.{Shared, HasPlace, HasWord, word_at, put_word, CanOperate, CanTouch, answered, operated, touched, handed}
-use Rattle.law_common.specs.Effects.{Touches, with_effect}
-use Rattle.law_common.specs.Stand.{Stand}
-use Rattle.law_ring.specs.RingAt.{At, closing}
-use Rattle.law_ring.proofs.RingAt.{at_stays}
-use Rattle.law_ring.proofs.RingRanks.{rank}
-use Rattle.law_ring.proofs.RingStepOk.{NextOk as RingNextOk, StepOk, operates_on}
-use Rattle.law_ring.proofs.RingEarly.{early}
-use Rattle.law_ring.proofs.RingStart.{at_first, at_touches, at_coming, at_word}
-use Rattle.law_ring.proofs.RingStep.{step_good}
-use Rattle.law_ring.proofs.RingFronts.{may_front}
-use Rattle.law_ring.proofs.RingHands.{lent_stays, Shift, Rests, Claims, GoesOn, Returns}
-use Rattle.law_ring.specs.RingPasses.{Lent}
+use Rattle.queue_laws.specs.Common.Puts.{put}
+use Rattle.queue_laws.proofs.Common.Puts.{put_ok, put_same}
+use Rattle.queue_laws.specs.Ring.RingCells.{Cell, Ring, queue_of, RingOk, owner, HoldsNone}
+use Rattle.queue_laws.specs.Ring.RingWords.{Codes, item_in}
+use Rattle.queue_laws.specs.Ring.RingShared.{Shared, HasPlace, HasWord, word_at, put_word, CanOperate, CanTouch, answered, operated, touched, handed}
+use Rattle.queue_laws.specs.Common.Effects.{Touches, with_effect}
+use Rattle.queue_laws.specs.Common.Stand.{Stand}
+use Rattle.queue_laws.specs.Ring.RingAt.{At, closing}
+use Rattle.queue_laws.proofs.Ring.RingAt.{at_stays}
+use Rattle.queue_laws.proofs.Ring.RingRanks.{rank}
+use Rattle.queue_laws.proofs.Ring.RingStepOk.{NextOk as RingNextOk, StepOk, operates_on}
+use Rattle.queue_laws.proofs.Ring.RingEarly.{early}
+use Rattle.queue_laws.proofs.Ring.RingStart.{at_first, at_touches, at_coming, at_word}
+use Rattle.queue_laws.proofs.Ring.RingStep.{step_good}
+use Rattle.queue_laws.proofs.Ring.RingFronts.{may_front}
+use Rattle.queue_laws.proofs.Ring.RingHands.{lent_stays, Shift, Rests, Claims, GoesOn, Returns}
+use Rattle.queue_laws.specs.Ring.RingPasses.{Lent}
 use Rattle.own_bounded.specs.RingWords.{words_behind}
 use Rattle.own_bounded.specs.declared.ring_words.TheConstants.{STAMPS}
-use Rattle.law_common.proofs.Moments.{seen_map}
+use Rattle.queue_laws.proofs.Common.Moments.{seen_map}
 use Rattle.shared_parties.specs.Calling.{touched_list, lies_in, handed_by, HasTouched, NextOk, CallLaws}
 use Rattle.shared_tables.specs.TableRule.{found_by, TableStepOk, TakesOff, OpensIn, TableLaws}
-use Rattle.law_common.specs.Operations.{op_word, op_makes, answer_for}
+use Rattle.queue_laws.specs.Common.Operations.{op_word, op_makes, answer_for}
 use Rattle.shared_tables.specs.RingTable.{home_when, home_of, Homes, ring_words, word_index, RingCoded, ring_calls, ring_table}
 use Rattle.shared_tables.specs.Laws.RingWaitFree.{ring_wait_free}
 

@@ -1,6 +1,6 @@
 -- The wait-free calls on a ring take one step or two.
 use Rattle.std.specs.Prelude.{◌≡◌, ℕ, Bool, true, false}
-use Rattle.law_common.specs.Vocabulary.{Call, Kind, Answer, Local, BoundedLocal, Next}
+use Rattle.queue_laws.specs.Common.Vocabulary.{Call, Kind, Answer, Local, BoundedLocal, Next}
 use Rattle.queue_steps.specs.declared.steps.bounded.BoundedLocal.TheVariants as ring
 use Rattle.queue_steps.specs.BoundedNext.{bounded_begin}
 use Rattle.queue_steps.specs.Kinds.{call_kind}

@@ -3,7 +3,7 @@ use Rattle.std.proofs.Common.{◌≡◌, ℕ, ◌==◌, ◌||◌, not, Bool, tru
 use mathlib.Core.Option.{some}
 use mathlib.Core.Option as maybe
 use Rattle.atomic_table.specs.Table.{Act, keeps, takes, gives, Valid, carried_after, homes_after}
-use Rattle.law_common.specs.Vocabulary.{Call, Reply, Effect, Kind, Op, Touch, Answer, Local, Next, SingleLocal}
+use Rattle.queue_laws.specs.Common.Vocabulary.{Call, Reply, Effect, Kind, Op, Touch, Answer, Local, Next, SingleLocal}
 use Rattle.queue_steps.specs.declared.steps.single.SingleLocal.TheVariants.{Pushing, Closing, Looking}
 use Rattle.queue_steps.specs.State.{State}
 use Rattle.queue_steps.specs.Kinds.{call_kind}
@@ -11,21 +11,21 @@ use Rattle.queue_steps.specs.Next.{CanNext, next_of}
 use Rattle.queue_steps.specs.SingleNext.{single_begin}
 use Rattle.queue_steps.specs.Looks.{call_of_look}
 use Rattle.queue_steps.specs.WaitFree.{is_wait_free, EndsBefore, EndsWaitFree}
-use Rattle.law_common.specs.Effects.{Leads, with_effect, MayFront}
-use Rattle.law_common.specs.Stand.{Stand, stand}
-use Rattle.law_slot.specs.SlotShared.{Shared, one_slot, answered, operated, touched, handed}
-use Rattle.law_slot.specs.SlotHolder.{SlotHolder, Nobody}
-use Rattle.law_slot.specs.SlotRows.{Codes, filling, swapping, taking, At, push_try, push_put, force_try_empty, force_try_full, force_put_empty, force_put_full, pop_try, pop_take, close_try, look_at, Share, fills, swaps, takes as takes_share, Passes, stays, changes, single, NextOk as SlotNextOk, StepOk}
-use Rattle.law_slot.proofs.SlotEarly.{early}
-use Rattle.law_slot.proofs.SlotSteps.{step_good}
-use Rattle.law_slot.proofs.SlotRanks.{can_operate}
-use Rattle.law_slot.proofs.SlotHolder.{share_of, next_who, own_self, own_other}
-use Rattle.law_slot.specs.SlotCells.{Slot, queue_of, own_in, lent_by, Lent, IsHeld}
-use Rattle.law_slot.proofs.SlotCells.{nobody_if, held_lent, at_stays, lent_stays, at_whole, at_lock, on_lock, at_touches}
-use Rattle.law_common.proofs.Moments.{seen_map}
+use Rattle.queue_laws.specs.Common.Effects.{Leads, with_effect, MayFront}
+use Rattle.queue_laws.specs.Common.Stand.{Stand, stand}
+use Rattle.queue_laws.specs.Slot.SlotShared.{Shared, one_slot, answered, operated, touched, handed}
+use Rattle.queue_laws.specs.Slot.SlotHolder.{SlotHolder, Nobody}
+use Rattle.queue_laws.specs.Slot.SlotRows.{Codes, filling, swapping, taking, At, push_try, push_put, force_try_empty, force_try_full, force_put_empty, force_put_full, pop_try, pop_take, close_try, look_at, Share, fills, swaps, takes as takes_share, Passes, stays, changes, single, NextOk as SlotNextOk, StepOk}
+use Rattle.queue_laws.proofs.Slot.SlotEarly.{early}
+use Rattle.queue_laws.proofs.Slot.SlotSteps.{step_good}
+use Rattle.queue_laws.proofs.Slot.SlotRanks.{can_operate}
+use Rattle.queue_laws.proofs.Slot.SlotHolder.{share_of, next_who, own_self, own_other}
+use Rattle.queue_laws.specs.Slot.SlotCells.{Slot, queue_of, own_in, lent_by, Lent, IsHeld}
+use Rattle.queue_laws.proofs.Slot.SlotCells.{nobody_if, held_lent, at_stays, lent_stays, at_whole, at_lock, on_lock, at_touches}
+use Rattle.queue_laws.proofs.Common.Moments.{seen_map}
 use Rattle.shared_parties.specs.Calling.{touched_list, lies_in, handed_by, NextOk, CallLaws}
 use Rattle.shared_tables.specs.TableRule.{TakesOff, TableStepOk, OpensIn, TableLaws}
-use Rattle.law_common.specs.Operations.{op_makes, answer_for}
+use Rattle.queue_laws.specs.Common.Operations.{op_makes, answer_for}
 use Rattle.shared_tables.specs.SlotTable.{home_under, SlotCoded, slot_calls, slot_table}
 
 -- the wait-free calls take one step

@@ -1,13 +1,13 @@
 -- The laws of `Site` for a queue in a table: where a call stands after a step is what the step told.
 use Rattle.std.proofs.Common.{◌≡◌, ℕ, suc, [], Option, Some, None, refl, ap, sym, ◌∙◌, subst, inl, inr}
 use Rattle.atomic_table.specs.Seated.{TableId}
-use Rattle.law_common.specs.Vocabulary.{Call, Op, Touch, Answer, Local, Next, SOLO_STEPS}
+use Rattle.queue_laws.specs.Common.Vocabulary.{Call, Op, Touch, Answer, Local, Next, SOLO_STEPS}
 use Rattle.queue_steps.specs.Effect.{after}
 use Rattle.queue_steps.specs.Kinds.{call_kind, call_value, with_value}
 use Rattle.queue_steps.specs.Next.{CanNext, next_of, first_local}
 use Rattle.queue_steps.specs.Parties.{View, SharedCall}
-use Rattle.law_common.proofs.Runs.{cap_after}
-use Rattle.law_common.specs.Effects.{Touches}
+use Rattle.queue_laws.proofs.Common.Runs.{cap_after}
+use Rattle.queue_laws.specs.Common.Effects.{Touches}
 use Rattle.shared_parties.specs.declared.known.CallState.{CallState}
 use Rattle.shared_parties.specs.declared.known.InCall.{InCall}
 use Rattle.shared_parties.specs.declared.known.Work.TheVariants as work
@@ -17,7 +17,7 @@ use Rattle.shared_parties.specs.CallStates.{idle}
 use Rattle.shared_tables.specs.AtTable.{TableSeat, IsAt}
 use Rattle.shared_parties.specs.Calling.{cap_of, handed_by, first_of, Opens}
 use Rattle.shared_tables.specs.TableRule.{TableOf, TableLaws, InTable}
-use Rattle.law_common.specs.Operations.{answer_for}
+use Rattle.queue_laws.specs.Common.Operations.{answer_for}
 use Rattle.shared_tables.specs.TableTurns.{After, Follows, call_at, CanDo, NoBlock, NoGift, TableCan, TableDoes, TableStands, TableEnded}
 use Rattle.shared_parties.specs.CallsAt.{begun_at}
 use Rattle.shared_parties.specs.Called.{call_of_work}

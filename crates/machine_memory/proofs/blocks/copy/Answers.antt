@@ -1,6 +1,6 @@
 use Rattle.std.proofs.Common.{◌+◌, ap, ◌∙◌, vec_len}
 use Rattle.std.proofs.lemmas.Result.{IfOk-from_err}
-use Rattle.law_common.proofs.Filling.{one_more}
+use Rattle.queue_laws.proofs.Common.Filling.{one_more}
 use Rattle.machine_memory.proofs.Filling.{room_beyond, room_within, copied_more, all_taken}
 use Rattle.machine_memory.proofs.blocks.copy.Goals as goal
 

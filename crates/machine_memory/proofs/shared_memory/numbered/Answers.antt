@@ -1,7 +1,7 @@
 use Rattle.std.proofs.Common.{◌≡◌, ℕ, List, ◌+◌, ◌++◌, ◌∷◌, [], add-one, vec_len, ap, sym, ◌∙◌}
 use Rattle.std.proofs.lemmas.Result.{IfOk-from_err}
-use Rattle.law_ring.specs.RingOpening.{numbers_below}
-use Rattle.law_common.proofs.Filling.{room_left, at_end, one_more}
+use Rattle.queue_laws.specs.Ring.RingOpening.{numbers_below}
+use Rattle.queue_laws.proofs.Common.Filling.{room_left, at_end, one_more}
 use Rattle.machine_memory.proofs.shared_memory.numbered.Goals as goal
 
 numbered_more : (old new : List ℕ) (n : ℕ) → new ≡ old ++ n ∷ [] → old ≡ numbers_below n → new ≡ numbers_below (n + 1)

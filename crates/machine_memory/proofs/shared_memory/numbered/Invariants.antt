@@ -1,5 +1,5 @@
 use Rattle.std.proofs.Common.{◌≡◌, vec_len, vec_capacity}
-use Rattle.law_ring.specs.RingOpening.{numbers_below}
+use Rattle.queue_laws.specs.Ring.RingOpening.{numbers_below}
 use Rattle.machine_memory.proofs.shared_memory.numbered.Given as goal
 
 abbrev pub invariant-loop-number : goal.invariant-loop-number

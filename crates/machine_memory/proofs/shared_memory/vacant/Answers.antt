@@ -1,6 +1,6 @@
 use Rattle.std.proofs.Common.{None, replicate, vec_len, ap, ◌∙◌}
 use Rattle.std.proofs.lemmas.Result.{IfOk-from_err}
-use Rattle.law_common.proofs.Filling.{room_left, at_end, one_more, replicated_more}
+use Rattle.queue_laws.proofs.Common.Filling.{room_left, at_end, one_more, replicated_more}
 use Rattle.machine_memory.proofs.shared_memory.vacant.Goals as goal
 
 pub returns-in_err-places : goal.returns-in_err-places

@@ -2,7 +2,7 @@ use Rattle.std.proofs.Common.{ℕ, ◌++◌, ◌∷◌, [], ap, ◌∙◌, arith
 use Rattle.std.proofs.lemmas.Result.{IfOk-from_err}
 use Rattle.own_bounded.specs.RingOpening.{Opened}
 use Rattle.own_bounded.specs.declared.ring_words.TheConstants.{STAMPS}
-use Rattle.law_common.proofs.Filling.{at_end}
+use Rattle.queue_laws.proofs.Common.Filling.{at_end}
 use Rattle.own_bounded.proofs.Filling.{room_before}
 use Rattle.own_bounded.proofs.Openings.{Opened-more}
 use Rattle.own_bounded.proofs.bounded.first_words.Goals as goal

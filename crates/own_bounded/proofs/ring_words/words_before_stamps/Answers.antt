@@ -2,7 +2,7 @@ use Rattle.std.proofs.Common.{ℕ, ◌≡◌, List, set, ap, ◌∙◌}
 use Rattle.std.specs.Prelude.{replicate}
 use Rattle.std.proofs.lemmas.Result.{IfOk-from_err}
 use Rattle.own_bounded.specs.declared.ring_words.TheConstants.{TAIL, HEAD, STAMPS}
-use Rattle.law_common.proofs.Filling.{at_end, one_more, replicated_more}
+use Rattle.queue_laws.proofs.Common.Filling.{at_end, one_more, replicated_more}
 use Rattle.own_bounded.proofs.Filling.{room_behind}
 use Rattle.own_bounded.proofs.ring_words.words_before_stamps.Goals as goal
 

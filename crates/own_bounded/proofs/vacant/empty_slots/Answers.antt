@@ -1,7 +1,7 @@
 use Rattle.std.proofs.Common.{None, ap, ◌∙◌}
 use Rattle.std.specs.Prelude.{replicate}
 use Rattle.std.proofs.lemmas.Result.{IfOk-from_err}
-use Rattle.law_common.proofs.Filling.{room_left, at_end, one_more, replicated_more}
+use Rattle.queue_laws.proofs.Common.Filling.{room_left, at_end, one_more, replicated_more}
 use Rattle.own_bounded.proofs.vacant.empty_slots.Goals as goal
 
 pub returns-in_err-slots : goal.returns-in_err-slots

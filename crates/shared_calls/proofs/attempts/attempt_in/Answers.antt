@@ -1,5 +1,5 @@
 use Rattle.std.proofs.Common.{◌≡◌, ◌∙◌, Break, None, sym, subst}
-use Rattle.law_common.specs.Vocabulary.{Call, Reply}
+use Rattle.queue_laws.specs.Common.Vocabulary.{Call, Reply}
 use Rattle.queue_steps.specs.Kinds.{call_value}
 use Rattle.shared_chain.specs.Turning.{ChainEnded}
 use Rattle.shared_calls.specs.InWeb.{EndedAt}

@@ -1,5 +1,5 @@
 use Rattle.std.proofs.Common.{◌≡◌, ◌-◌, ◌∙◌, true, false, subst, sym}
-use Rattle.law_common.specs.Vocabulary.{SOLO_STEPS}
+use Rattle.queue_laws.specs.Common.Vocabulary.{SOLO_STEPS}
 use Rattle.shared_calls.specs.Settling.{MayWait}
 use Rattle.shared_calls.specs.Halts.{next_at}
 use Rattle.shared_calls.proofs.GivesUp.{halts, gave_up}

@@ -1,5 +1,5 @@
 use Rattle.std.proofs.Common.{◌-◌}
-use Rattle.law_common.specs.Vocabulary.{Call, SOLO_STEPS}
+use Rattle.queue_laws.specs.Common.Vocabulary.{Call, SOLO_STEPS}
 use Rattle.call_driver.specs.OnWay.{Stood}
 use Rattle.shared_calls.proofs.pausing.carry_on.Given as goal
 

@@ -1,5 +1,5 @@
 use Rattle.std.proofs.Common.{◌-◌, ◌∙◌, sym, subst}
-use Rattle.law_common.specs.Vocabulary.{SOLO_STEPS}
+use Rattle.queue_laws.specs.Common.Vocabulary.{SOLO_STEPS}
 use Rattle.call_driver.proofs.Going.{replies, again}
 use Rattle.shared_calls.specs.Pausing.{IsStep}
 use Rattle.shared_calls.proofs.Filling.{is_filled, filled_as}

@@ -1,5 +1,5 @@
 use Rattle.std.proofs.Common.{◌-◌, ◌<◌, ◌≤◌}
-use Rattle.law_common.specs.Vocabulary.{Call}
+use Rattle.queue_laws.specs.Common.Vocabulary.{Call}
 use Rattle.shared_calls.specs.Pausing.{IsStood}
 use Rattle.shared_calls.specs.Settling.{left_at, MayWait}
 use Rattle.shared_calls.specs.Halts.{next_at}

@@ -1,5 +1,5 @@
 use Rattle.std.proofs.Common.{◌≡◌, ◌-◌, ◌∙◌, false, sym, ap, subst, arith}
-use Rattle.law_common.specs.Vocabulary.{Next, SOLO_STEPS}
+use Rattle.queue_laws.specs.Common.Vocabulary.{Next, SOLO_STEPS}
 use Rattle.call_driver.proofs.Going.{replies, again, step}
 use Rattle.shared_calls.specs.Early.{is_early}
 use Rattle.shared_calls.specs.Settling.{left_at, MayWait}

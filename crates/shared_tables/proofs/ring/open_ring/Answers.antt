@@ -5,7 +5,7 @@ use Rattle.queue_steps.specs.Words.{IsRing}
 use Rattle.shared_tables.specs.TableRule.{Rule}
 use Rattle.shared_tables.specs.RingTable.{ring_table}
 use Rattle.shared_tables.specs.RingOpening.{first_words}
-use Rattle.law_ring.proofs.RingOpening.{count_below}
+use Rattle.queue_laws.proofs.Ring.RingOpening.{count_below}
 use Rattle.shared_tables.proofs.RingEnding.{seat, ring_opens}
 use Rattle.shared_tables.proofs.ring.open_ring.Goals as goal
 

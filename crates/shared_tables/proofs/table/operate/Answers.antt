@@ -1,5 +1,5 @@
 use Rattle.std.proofs.Common.{◌∙◌, subst, arith}
-use Rattle.law_common.specs.Vocabulary.{Op}
+use Rattle.queue_laws.specs.Common.Vocabulary.{Op}
 use Rattle.shared_tables.specs.TableRule.{InTable}
 use Rattle.shared_tables.proofs.TableOperations.{may_do, may_take_off, may_store}
 use Rattle.shared_tables.proofs.table.operate.Goals as goal

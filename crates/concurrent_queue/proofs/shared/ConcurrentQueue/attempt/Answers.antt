@@ -1,5 +1,5 @@
 use Rattle.std.proofs.Common.{refl, ◌∙◌, sym, ap, subst}
-use Rattle.law_chain.specs.ChainEarly.{IsPush}
+use Rattle.queue_laws.specs.Chain.ChainEarly.{IsPush}
 use Rattle.queue_steps.specs.declared.model.Call.{Call}
 use Rattle.shared_tables.specs.SlotTable.{slot_table}
 use Rattle.shared_tables.specs.RingTable.{ring_table}

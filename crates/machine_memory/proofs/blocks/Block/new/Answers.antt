@@ -2,7 +2,7 @@ use Rattle.std.proofs.Common.{◌≡◌, replicate, vec_len, ap, ◌∙◌, None
 use Rattle.std.proofs.lemmas.Result.{IfOk-from_err}
 use Rattle.queue_steps.specs.declared.sizes.TheConstants.{BLOCK_SLOTS}
 use Rattle.machine_memory.specs.Blocks.{blank}
-use Rattle.law_common.proofs.Filling.{room_left, at_end, one_more, replicated_more}
+use Rattle.queue_laws.proofs.Common.Filling.{room_left, at_end, one_more, replicated_more}
 use Rattle.machine_memory.proofs.blocks.Block.new.Goals as goal
 
 pub returns-in_err-places : goal.returns-in_err-places

@@ -1,5 +1,5 @@
 use Rattle.std.proofs.Common.{◌-◌, refl}
-use Rattle.law_common.specs.Vocabulary.{SOLO_STEPS}
+use Rattle.queue_laws.specs.Common.Vocabulary.{SOLO_STEPS}
 use Rattle.shared_calls.proofs.Filling.{is_filled, filled_as}
 use Rattle.shared_calls.proofs.running.WaitsRuns.run.Goals as goal
 

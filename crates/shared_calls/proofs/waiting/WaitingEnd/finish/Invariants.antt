@@ -1,5 +1,5 @@
 use Rattle.std.proofs.Common.{ℕ}
-use Rattle.law_common.specs.Vocabulary.{Call}
+use Rattle.queue_laws.specs.Common.Vocabulary.{Call}
 use Rattle.call_driver.specs.OnWay.{OnWay, IsUnderWay}
 use Rattle.shared_calls.proofs.waiting.WaitingEnd.finish.Given as goal
 

@@ -1,5 +1,5 @@
 use Rattle.std.proofs.Common.{ap, sym, subst, rules}
-use Rattle.law_common.specs.Vocabulary.{Op}
+use Rattle.queue_laws.specs.Common.Vocabulary.{Op}
 use Rattle.mem_blocks.specs.Web.{AllowsLink, if_unset}
 use Rattle.shared_chain.specs.Rule.{Rule}
 use Rattle.shared_chain.specs.Steps.{FollowsLink}

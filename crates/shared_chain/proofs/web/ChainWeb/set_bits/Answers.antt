@@ -1,5 +1,5 @@
 use Rattle.std.proofs.Common.{sym, refl, ◌∙◌, arith}
-use Rattle.law_common.specs.Vocabulary.{Op}
+use Rattle.queue_laws.specs.Common.Vocabulary.{Op}
 use Rattle.shared_chain.proofs.Steps.Operating.{named, may_do, may_add}
 use Rattle.shared_chain.proofs.web.ChainWeb.set_bits.Goals as goal
 

@@ -1,7 +1,0 @@
--- The two calls that push.
-use Rattle.law_common.specs.Vocabulary.{Call, PushKind}
-
--- the call that pushes v so
-abbrev pub pushes : {A : Type 0} → PushKind → A → Call A
-pushes PushKind.Push v = Call.Push v
-pushes PushKind.Force v = Call.ForcePush v

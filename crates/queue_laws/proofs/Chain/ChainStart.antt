@@ -1,0 +1,39 @@
+-- Where a call on a chain begins.
+use Rattle.std.proofs.Common.{ℕ, ◌≡◌, true, false, None, Some, List, [], refl}
+use Rattle.queue_steps.specs.State.{State}
+use Rattle.queue_steps.specs.Kinds.{call_kind, call_value, filled}
+use Rattle.queue_steps.specs.Looks.{has_steps}
+use Rattle.queue_steps.specs.Replies.{IsRightAt, Tells}
+use Rattle.queue_steps.specs.UnboundedNext.{unbounded_begin}
+use Rattle.queue_laws.specs.Common.Vocabulary.{Call, Reply, Next, Op, Touch, Word, PushKind}
+use Rattle.queue_laws.specs.Common.Stand.{stand}
+use Rattle.queue_laws.specs.Chain.ChainCells.{Chain, HoldsOnly, Nothing}
+use Rattle.queue_laws.specs.Chain.ChainPasses.{spare_in}
+use Rattle.queue_laws.specs.Chain.ChainAt.{At, push_tail, pop_head, count_tail, empty_head, closing, closed_tail}
+
+-- the operation is on one of the two positions
+abbrev pub OnPosition : Op ℕ → Type 0
+OnPosition (Op.Load Word.Head) = Unit {0}
+OnPosition (Op.Load Word.Tail) = Unit {0}
+OnPosition (Op.Or Word.Tail x) = Unit {0}
+OnPosition _ = ⊥
+
+-- The call begins with this: with a step at a position, without a slot and a spare block, where any party stands that holds nothing; or with a reply that is
+-- right at any state without a capacity
+abbrev pub Begins : {A : Type 0} → Call A → Next ℕ → Type 0
+Begins {A} k (Next.Step l t o) =
+    (has_steps None k ≡ true) × (t ≡ Touch.Nothing) × (spare_in l ≡ None) × OnPosition o
+    × ((c : Chain A) (who : ℕ) (ms : List (State A)) → HoldsOnly c who Nothing → At c who ms (stand l t o (call_value k) k []))
+Begins {A} k (Next.Reply x spare) =
+    (has_steps None k ≡ false) × (spare ≡ None) × ((y : Reply A) × (filled x (call_value k) ≡ Some y) × Tells k y [] × ((m : State A) → m.cap ≡ None → IsRightAt m k y))
+
+pub at_begun : {A : Type 0} (k : Call A) → Begins k (unbounded_begin (call_kind k))
+at_begun (Call.Push v) = (refl, refl, refl, tt, λ c who ms none. push_tail PushKind.Push v None none tt)
+at_begun (Call.ForcePush v) = (refl, refl, refl, tt, λ c who ms none. push_tail PushKind.Force v None none tt)
+at_begun Call.Pop = (refl, refl, refl, tt, λ c who ms none. pop_head none)
+at_begun Call.Close = (refl, refl, refl, tt, λ c who ms none. closing none)
+at_begun Call.IsClosed = (refl, refl, refl, tt, λ c who ms none. closed_tail none)
+at_begun Call.IsEmpty = (refl, refl, refl, tt, λ c who ms none. empty_head none)
+at_begun Call.IsFull = (refl, refl, (Reply.IsFull false, refl, refl, λ m open_ended. rw open_ended refl))
+at_begun Call.Capacity = (refl, refl, (Reply.Capacity None, refl, refl, λ m open_ended. rw open_ended refl))
+at_begun look = (refl, refl, refl, tt, λ c who ms none. count_tail _ refl none)
