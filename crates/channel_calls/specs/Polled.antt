@@ -7,7 +7,7 @@ use Rattle.queue_steps.specs.declared.errors.PopError.TheVariants as pop
 use Rattle.queue_steps.specs.declared.errors.PushError.TheVariants as push
 use Rattle.concurrent_queue.specs.SawMore.{SawMore}
 use Rattle.concurrent_queue.specs.Shared.{QueueId, PartyView, IsPartyOf, Calls}
-use Rattle.law_wakes.specs.Seats.{looked_of}
+use Rattle.event_count.specs.Sleep.Seats.{looked_of}
 use Rattle.waker_list.specs.declared.place.Place.{Place}
 use Rattle.waker_list.specs.declared.place.Look.{Look}
 use Rattle.waker_list.specs.declared.place.Missed.{Missed}

@@ -1,9 +1,9 @@
 -- Where a call on the two words may begin, stop and end.
 use Rattle.std.specs.Prelude.{◌≡◌, ℕ, Bool, true, false}
-use Rattle.law_wakes.specs.declared.steps.Phase.{Phase}
-use Rattle.law_wakes.specs.declared.steps.Phase.TheVariants.{Idle, Starting, Prepared, Missed, Returned, Given, Taking, Clearing}
-use Rattle.law_wakes.specs.declared.steps.Step.{Step}
-use Rattle.law_wakes.specs.declared.steps.Step.TheVariants.{Rest, Park}
+use Rattle.event_count.specs.declared.wakes.steps.Phase.{Phase}
+use Rattle.event_count.specs.declared.wakes.steps.Phase.TheVariants.{Idle, Starting, Prepared, Missed, Returned, Given, Taking, Clearing}
+use Rattle.event_count.specs.declared.wakes.steps.Step.{Step}
+use Rattle.event_count.specs.declared.wakes.steps.Step.TheVariants.{Rest, Park}
 
 -- a call of `prepare` or of a notify
 abbrev pub Begins : Phase → Type 0

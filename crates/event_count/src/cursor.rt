@@ -1,10 +1,10 @@
 //! Where a call is.
 ghost use Rattle.std.specs.Prelude.{◌≡◌, IsTrue};
-ghost use Rattle.law_wakes.specs.Steps.{step_of, after_of, looked_of};
+ghost use Rattle.event_count.specs.Sleep.Steps.{step_of, after_of, looked_of};
 ghost use Rattle.event_count.specs.Cursors.{Begins, is_over};
 
+use crate::wakes::{Phase, Step};
 use crate::words::Done;
-use law_wakes::{Phase, Step};
 
 /// A call on its way. It is neither copied nor dropped, and only a step that is done moves it on. So whoever has one has its steps done, in their order, to the end.
 pub(crate) struct Cursor {

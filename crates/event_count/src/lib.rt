@@ -10,18 +10,19 @@
 #![tactic(auto)]
 
 ghost use Rattle.std.specs.Prelude.{◌≡◌, ℕ, IsTrue};
-ghost use Rattle.law_wakes.specs.Steps.{step_of, after_of};
+ghost use Rattle.event_count.specs.Sleep.Steps.{step_of, after_of};
 ghost use Rattle.event_count.specs.Cursors.{IsTaking, IsOnWords, IsPark, is_prepared, is_missed};
 
 mod cursor;
 mod deadline;
 mod patience;
+pub mod wakes;
 mod words;
 
 use crate::cursor::Cursor;
+use crate::wakes::{Phase, Step};
 use crate::words::Words;
 pub use deadline::{Deadline, Never, Until};
-use law_wakes::{Phase, Step};
 pub use patience::{Look, Patience, Vain};
 use std::marker::PhantomData;
 use std::sync::Wait;

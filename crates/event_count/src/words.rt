@@ -1,14 +1,14 @@
 //! The two words, and each step on them.
 ghost use Rattle.std.specs.Prelude.{◌≡◌};
-ghost use Rattle.law_wakes.specs.declared.steps.Step.TheVariants as step;
+ghost use Rattle.event_count.specs.declared.wakes.steps.Step.TheVariants as step;
 ghost use Rattle.event_count.specs.Cursors.{IsOnWords};
 
 #[cfg(test)]
 mod tests;
 
 use crate::deadline::Deadline;
+use crate::wakes::{Step, Whom, Word};
 use crossbeam_utils::CachePadded;
-use law_wakes::{Step, Whom, Word};
 use std::sync::Wait;
 use std::sync::atomic::AtomicU64;
 use std::sync::atomic::Ordering::SeqCst;

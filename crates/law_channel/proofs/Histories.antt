@@ -2,15 +2,15 @@
 use Rattle.std.proofs.Common.{◌≡◌, ◌≢◌, ℕ, zero, suc, ◌+◌, ◌-◌, ◌<◌, ◌≤◌, ◌==◌, Bool, true, false, if◌then◌else◌, Option, Some, None, List, [], ◌∷◌, length, replicate, slice_get, refl, ap, ◌∙◌, arith}
 use Rattle.queue_steps.specs.Effect as history
 use Rattle.queue_laws.specs.Common.Vocabulary.{Effect}
-use Rattle.law_wakes.specs.declared.steps.Phase.{Phase}
-use Rattle.law_wakes.specs.declared.steps.Phase.TheVariants.{Idle, Prepared, Given, Clearing}
-use Rattle.law_wakes.specs.declared.steps.Step.{Step}
-use Rattle.law_wakes.specs.declared.steps.Step.TheVariants.{Rest}
-use Rattle.law_wakes.specs.Steps.{step_of, looked_of}
-use Rattle.law_wakes.specs.World.{Party, Awake, World, Looks, Leaves, Gives, Tells, put, looks, leaves, gives, tells, run}
-use Rattle.law_wakes.specs.World as wakes
-use Rattle.law_wakes.proofs.Counts.{set_other}
-use Rattle.law_wakes.proofs.Telling.{acts_keeps}
+use Rattle.event_count.specs.declared.wakes.steps.Phase.{Phase}
+use Rattle.event_count.specs.declared.wakes.steps.Phase.TheVariants.{Idle, Prepared, Given, Clearing}
+use Rattle.event_count.specs.declared.wakes.steps.Step.{Step}
+use Rattle.event_count.specs.declared.wakes.steps.Step.TheVariants.{Rest}
+use Rattle.event_count.specs.Sleep.Steps.{step_of, looked_of}
+use Rattle.event_count.specs.Sleep.World.{Party, Awake, World, Looks, Leaves, Gives, Tells, put, looks, leaves, gives, tells, run}
+use Rattle.event_count.specs.Sleep.World as wakes
+use Rattle.event_count.proofs.Sleep.Counts.{set_other}
+use Rattle.event_count.proofs.Sleep.Telling.{acts_keeps}
 use Rattle.law_channel.specs.Machine.{Channel, MayAct, takes_place, acts_on_items, acts_on_room, open_channel, Event, Acts, happens, Runs}
 use Rattle.law_channel.specs.Laws.{effects_of, EachHistoryRuns}
 

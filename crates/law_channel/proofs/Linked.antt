@@ -4,8 +4,8 @@ use Rattle.std.proofs.lemmas.Bool.{eqb-false}
 use Rattle.queue_steps.specs.State.{State, fills, is_full}
 use Rattle.queue_steps.specs.Effect.{Fits, made, rest, with_coming}
 use Rattle.queue_laws.specs.Common.Vocabulary.{Effect}
-use Rattle.law_wakes.specs.World.{World, run}
-use Rattle.law_wakes.specs.World as wakes
+use Rattle.event_count.specs.Sleep.World.{World, run}
+use Rattle.event_count.specs.Sleep.World as wakes
 use Rattle.law_channel.specs.Machine.{Items, Room, Channel, places, open_channel, Event, Steps, Rises, Prepares, Leaves, Fails, FindsClosed, Acts, TellsAgain, IsAt, is_free, MayAct, takes_place, MayHappen, happens, Runs, after_from}
 use Rattle.law_channel.specs.Laws.{on_way, taken}
 use Rattle.law_channel.proofs.Marks.{Marked, start_marked, marked_on}

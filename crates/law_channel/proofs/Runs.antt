@@ -1,13 +1,13 @@
 -- The laws of every run of a channel, from those of its two eventcounts.
 use Rattle.std.proofs.Common.{◌≡◌, ◌⊎◌, inl, inr, ℕ, ◌-◌, Bool, true, false, Option, Some, None, List, [], ◌∷◌, ◌++◌, refl, sym, ap, ◌∙◌, subst, arith}
 use Rattle.queue_steps.specs.Effect as history
-use Rattle.law_wakes.specs.World.{Party, Awake, Asleep, World, run}
-use Rattle.law_wakes.specs.World as wakes
-use Rattle.law_wakes.specs.Laws.{is_rousing, Sleeps, AreHeeded, AreRoused, IsTelling, HasMissedNothing}
-use Rattle.law_wakes.specs.declared.steps.Phase.TheVariants.{Moving, Waking}
-use Rattle.law_wakes.specs.declared.steps.Whom.TheVariants.{All}
-use Rattle.law_wakes.proofs.Counts.{some_counted}
-use Rattle.law_wakes.proofs.Runs as waking
+use Rattle.event_count.specs.Sleep.World.{Party, Awake, Asleep, World, run}
+use Rattle.event_count.specs.Sleep.World as wakes
+use Rattle.event_count.specs.Sleep.Laws.{is_rousing, Sleeps, AreHeeded, AreRoused, IsTelling, HasMissedNothing}
+use Rattle.event_count.specs.declared.wakes.steps.Phase.TheVariants.{Moving, Waking}
+use Rattle.event_count.specs.declared.wakes.steps.Whom.TheVariants.{All}
+use Rattle.event_count.proofs.Sleep.Counts.{some_counted}
+use Rattle.event_count.proofs.Sleep.Runs as waking
 use Rattle.law_channel.specs.Machine.{Side, Items, Room, Channel, at_side, places, open_channel, Event, Steps, Rises, Prepares, Leaves, Fails, FindsClosed, Acts, TellsAgain, seen_at, happens, Runs, after_from}
 use Rattle.law_channel.specs.Laws.{IsReached, effects_of, IsOneHistory, taken, NoItemWaits, NoRoomWaits, NoCloseIsSleptThrough}
 use Rattle.law_channel.proofs.Marks.{Waits, Marked}

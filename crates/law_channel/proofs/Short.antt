@@ -1,7 +1,7 @@
 -- Each example may happen, and ends so.
 use Rattle.std.proofs.Common.{inl, [], refl}
-use Rattle.law_wakes.specs.declared.steps.Phase.TheVariants.{Idle, Prepared, Returned}
-use Rattle.law_wakes.specs.World.{Awake}
+use Rattle.event_count.specs.declared.wakes.steps.Phase.TheVariants.{Idle, Prepared, Returned}
+use Rattle.event_count.specs.Sleep.World.{Awake}
 use Rattle.law_channel.specs.Examples.{Examples}
 
 pub examples : Examples

@@ -1,15 +1,15 @@
 -- What events make of an eventcount's numbers.
 use Rattle.std.proofs.Common.{◌≡◌, ℕ, zero, suc, ◌+◌, ◌-◌, ◌≤◌, ◌==◌, Bool, true, false, if◌then◌else◌, Option, Some, None, List, [], ◌∷◌, count_by, slice_get, slice_set, refl, sym, ap, ◌∙◌, subst, arith}
 use Rattle.std.proofs.lemmas.Bool.{ne_eqb}
-use Rattle.law_wakes.specs.declared.steps.Phase.{Phase}
-use Rattle.law_wakes.specs.declared.steps.Phase.TheVariants.{Idle, Prepared, Missed, Returned}
-use Rattle.law_wakes.specs.declared.steps.Step.{Step}
-use Rattle.law_wakes.specs.declared.steps.Step.TheVariants.{Rest, Load, Add, Take, Clear, Park, Wake}
-use Rattle.law_wakes.specs.declared.steps.Whom.TheVariants.{One, All}
-use Rattle.law_wakes.specs.declared.steps.Word.TheVariants as word
-use Rattle.law_wakes.specs.Steps.{low, step_of, looked_of}
-use Rattle.law_wakes.specs.World.{Party, Awake, Asleep, World, Steps, Rises, Prepares, Looks, Leaves, Gives, Tells, is_asleep, put, goes_on, counts_late, wakes_one, takes, ticket_of, rises, looks, leaves, prepares, gives, tells, acts, happens, run}
-use Rattle.law_wakes.proofs.Telling.{acts_keeps}
+use Rattle.event_count.specs.declared.wakes.steps.Phase.{Phase}
+use Rattle.event_count.specs.declared.wakes.steps.Phase.TheVariants.{Idle, Prepared, Missed, Returned}
+use Rattle.event_count.specs.declared.wakes.steps.Step.{Step}
+use Rattle.event_count.specs.declared.wakes.steps.Step.TheVariants.{Rest, Load, Add, Take, Clear, Park, Wake}
+use Rattle.event_count.specs.declared.wakes.steps.Whom.TheVariants.{One, All}
+use Rattle.event_count.specs.declared.wakes.steps.Word.TheVariants as word
+use Rattle.event_count.specs.Sleep.Steps.{low, step_of, looked_of}
+use Rattle.event_count.specs.Sleep.World.{Party, Awake, Asleep, World, Steps, Rises, Prepares, Looks, Leaves, Gives, Tells, is_asleep, put, goes_on, counts_late, wakes_one, takes, ticket_of, rises, looks, leaves, prepares, gives, tells, acts, happens, run}
+use Rattle.event_count.proofs.Sleep.Telling.{acts_keeps}
 use Rattle.law_channel.specs.Machine.{is_free, may_try, IsAt}
 use Rattle.law_channel.proofs.Marks.{Marked, happens_marked, set_marked, looks_on}
 

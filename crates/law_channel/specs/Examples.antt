@@ -1,9 +1,9 @@
 -- Short runs of a channel of numbers, whose queue has one place. The first party waits, and the second wakes it.
 use Rattle.std.specs.Prelude.{◌≡◌, ℕ, List, [], ◌∷◌, ◌++◌, Some}
 use Rattle.queue_laws.specs.Common.Vocabulary.{Effect}
-use Rattle.law_wakes.specs.declared.steps.Phase.TheVariants.{Idle, Returned, Given, Clearing, Waking}
-use Rattle.law_wakes.specs.declared.steps.Whom.TheVariants.{All}
-use Rattle.law_wakes.specs.World.{Party, Awake, Asleep}
+use Rattle.event_count.specs.declared.wakes.steps.Phase.TheVariants.{Idle, Returned, Given, Clearing, Waking}
+use Rattle.event_count.specs.declared.wakes.steps.Whom.TheVariants.{All}
+use Rattle.event_count.specs.Sleep.World.{Party, Awake, Asleep}
 use Rattle.law_channel.specs.Machine.{Side, Items, Room, open_channel, Event, Steps, Prepares, Fails, FindsClosed, Acts, Runs, after_from}
 
 -- the first party takes a ticket

@@ -3,7 +3,7 @@ use Rattle.std.specs.Prelude.{◌≡◌, ◌⊎◌, ℕ, ◌+◌, ◌-◌, true,
 use Rattle.queue_steps.specs.State.{State}
 use Rattle.queue_steps.specs.Effect.{IsHistory, after}
 use Rattle.queue_laws.specs.Common.Vocabulary.{Effect}
-use Rattle.law_wakes.specs.Laws.{Sleeps, AreHeeded, AreRoused, IsTelling}
+use Rattle.event_count.specs.Sleep.Laws.{Sleeps, AreHeeded, AreRoused, IsTelling}
 use Rattle.law_channel.specs.Machine.{Side, Channel, at_side, open_channel, Event, Acts, Runs, after_from}
 
 -- a run of so many parties, from an open and empty queue of this capacity, leads here

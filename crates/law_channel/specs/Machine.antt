@@ -4,9 +4,9 @@ use Rattle.queue_steps.specs.State.{State, start}
 use Rattle.queue_steps.specs.Effect.{Fits, made}
 use Rattle.queue_steps.specs.Replies.{IsRightAt}
 use Rattle.queue_laws.specs.Common.Vocabulary.{Call, Reply, Effect, PopError, PushError}
-use Rattle.law_wakes.specs.declared.steps.Phase.TheVariants.{Idle, Prepared, Returned}
-use Rattle.law_wakes.specs.World.{Party, Awake, World, run}
-use Rattle.law_wakes.specs.World as wakes
+use Rattle.event_count.specs.declared.wakes.steps.Phase.TheVariants.{Idle, Prepared, Returned}
+use Rattle.event_count.specs.Sleep.World.{Party, Awake, World, run}
+use Rattle.event_count.specs.Sleep.World as wakes
 
 -- what is waited for
 pub data Side : Type 0 where

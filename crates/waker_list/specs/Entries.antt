@@ -1,7 +1,7 @@
 -- What a future has that has entered a list.
 use Rattle.std.specs.Prelude.{◌≡◌, ◌⊎◌, true}
 use Rattle.futures.specs.declared.task.context.Context.{Context}
-use Rattle.law_wakes.specs.declared.seats.Seat.TheVariants.{Looking, Asleep}
+use Rattle.event_count.specs.declared.wakes.seats.Seat.TheVariants.{Looking, Asleep}
 use Rattle.waker_list.specs.declared.place.entering.Entry.{Entry}
 use Rattle.waker_list.specs.declared.place.entering.Entry.TheVariants.{Look, Wait}
 use Rattle.waker_list.specs.declared.place.Place.{Place}

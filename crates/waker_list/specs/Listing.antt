@@ -3,8 +3,8 @@ use Rattle.std.specs.Prelude.{◌≡◌, ℕ, [], ◌∷◌, ◌++◌, Option, S
 use Rattle.std.specs.Option.{option_to_list}
 use Rattle.futures.specs.WaitList.{WaitList, queue, IsQueued, IsParkedAt}
 use Rattle.futures.specs.declared.task.context.Context.{Context}
-use Rattle.law_wakes.specs.declared.seats.ListStep.{ListStep}
-use Rattle.law_wakes.specs.declared.seats.ListStep.TheVariants.{TakeOne, TakeAll}
+use Rattle.event_count.specs.declared.wakes.seats.ListStep.{ListStep}
+use Rattle.event_count.specs.declared.wakes.seats.ListStep.TheVariants.{TakeOne, TakeAll}
 use Rattle.waker_list.specs.declared.state.Joined.{Joined}
 
 abbrev Waiters : Type 0

@@ -1,10 +1,10 @@
 -- Where a future is between its steps.
 use Rattle.std.specs.Prelude.{◌≡◌, ◌⊎◌, Bool, true, false, Option, Some, None, IsTrue, is_some, if◌then◌else◌}
 use Rattle.futures.specs.declared.util.wait_list.Ticket.{Ticket}
-use Rattle.law_wakes.specs.declared.seats.Seat.{Seat}
-use Rattle.law_wakes.specs.declared.seats.Seat.TheVariants.{Away, Looking, Asleep, Told, Given}
-use Rattle.law_wakes.specs.Lists.{is_on}
-use Rattle.law_wakes.specs.Seats.{taken_off_of, left_of}
+use Rattle.event_count.specs.declared.wakes.seats.Seat.{Seat}
+use Rattle.event_count.specs.declared.wakes.seats.Seat.TheVariants.{Away, Looking, Asleep, Told, Given}
+use Rattle.event_count.specs.Sleep.Lists.{is_on}
+use Rattle.event_count.specs.Sleep.Seats.{taken_off_of, left_of}
 
 abbrev pub is_away : Seat → Bool
 is_away Away = true

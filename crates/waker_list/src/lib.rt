@@ -11,8 +11,8 @@
 #![tactic(auto)]
 
 ghost use Rattle.std.specs.Prelude.{◌≡◌, IsTrue};
-ghost use Rattle.law_wakes.specs.declared.seats.ListStep.TheVariants.{Load};
-ghost use Rattle.law_wakes.specs.Seats.{step_of};
+ghost use Rattle.event_count.specs.declared.wakes.seats.ListStep.TheVariants.{Load};
+ghost use Rattle.event_count.specs.Sleep.Seats.{step_of};
 ghost use Rattle.waker_list.specs.Listing.{IsTaking};
 ghost use Rattle.waker_list.specs.Places.{is_settled};
 

@@ -1,8 +1,8 @@
 //! Where a future is with a list, and its looks.
 ghost use Rattle.std.specs.Prelude.{◌≡◌, ℕ, false, true, IsTrue, is_some};
 ghost use Rattle.futures.specs.Task.{IsArmed, Hears, Keeps};
-ghost use Rattle.law_wakes.specs.declared.seats.Seat.TheVariants.{Away, Asleep};
-ghost use Rattle.law_wakes.specs.Seats.{looked_of};
+ghost use Rattle.event_count.specs.declared.wakes.seats.Seat.TheVariants.{Away, Asleep};
+ghost use Rattle.event_count.specs.Sleep.Seats.{looked_of};
 ghost use Rattle.waker_list.specs.Places.{Fits, HasEntry, ComesOff, Rises, is_missed};
 
 mod entering;

@@ -1,15 +1,15 @@
 //! Where a party is, and what it owes.
 ghost use Rattle.std.specs.Prelude.{◌≡◌, false, true, IsTrue};
-ghost use Rattle.law_wakes.specs.declared.seats.Seat.TheVariants.{Away, Given, Telling};
-ghost use Rattle.law_wakes.specs.declared.seats.ListStep.TheVariants.{Load};
-ghost use Rattle.law_wakes.specs.Lists.{is_on};
-ghost use Rattle.law_wakes.specs.Seats.{step_of, entered_of, looked_of, left_of, next_of};
+ghost use Rattle.event_count.specs.declared.wakes.seats.Seat.TheVariants.{Away, Given, Telling};
+ghost use Rattle.event_count.specs.declared.wakes.seats.ListStep.TheVariants.{Load};
+ghost use Rattle.event_count.specs.Sleep.Lists.{is_on};
+ghost use Rattle.event_count.specs.Sleep.Seats.{step_of, entered_of, looked_of, left_of, next_of};
 ghost use Rattle.waker_list.specs.Places.{is_away, came_off_of};
 
 use crate::listed::Loaded;
 use crate::state::{Ended, Joined, Taken};
+use event_count::wakes::{ListStep, Seat};
 use futures::spin::GaveUp;
-use law_wakes::{ListStep, Seat};
 use std::marker::PhantomData;
 
 /// The condition was made true for one that waits, and nobody was notified yet. Only [`WakerList::notify_one`](crate::WakerList::notify_one) takes it.

@@ -5,9 +5,9 @@ ghost use Rattle.futures.specs.WaitList.{queue, IsQueued, Leaves};
 ghost use Rattle.waker_list.specs.Listing.{Inserts, Stays, IsTaking, Takes};
 
 use crate::listed::{Listed, Shown};
+use event_count::wakes::ListStep;
 use futures::task::{Context, Poll, Source};
 use futures::util::wait_list::{Ticket, WaitList};
-use law_wakes::ListStep;
 use std::alloc::{AllocError, Global};
 
 /// The futures that wait, in their order.

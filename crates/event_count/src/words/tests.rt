@@ -1,10 +1,10 @@
 //! What each step finds and what it leaves in the words, and what notifies take off `SLEEPERS`.
 ghost use Rattle.event_count.specs.Cursors.{IsOnWords};
 
+use crate::wakes::{Step, Whom, Word};
 use crate::words::Words;
 use crate::{EventCount, OwesAll, OwesOne};
 use crossbeam_utils::CachePadded;
-use law_wakes::{Step, Whom, Word};
 use std::process::Abort;
 use std::sync::atomic::AtomicU64;
 use std::sync::atomic::Ordering::SeqCst;

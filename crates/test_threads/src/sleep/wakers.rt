@@ -1,6 +1,6 @@
 //! Futures at a list of wakers, polled by hand: each wake reaches one that needs it.
 ghost use Rattle.std.specs.Prelude.{◌≡◌};
-ghost use Rattle.law_wakes.specs.declared.seats.Seat.TheVariants.{Looking};
+ghost use Rattle.event_count.specs.declared.wakes.seats.Seat.TheVariants.{Looking};
 
 use crate::asserts::is;
 use futures::task::Context;

@@ -1,0 +1,5 @@
+use Rattle.event_count.proofs.Sleep.Runs.{no_item_is_left}
+use Rattle.event_count.proofs.wakes.no_item_is_left.Goals as goal
+
+pub returns : goal.returns
+returns c = no_item_is_left
