@@ -14,7 +14,7 @@ OWN = {
     "LICENSE-MIT": "A licence of the owner's own.\n",
     "notes.txt": "Nothing of take's.\n",
 }
-ABOVE = ["# the owner's crates", "app: exclusive_queue own_slot # and not more"]
+ABOVE = ["# the owner's crates", "app: exclusive_queue own_cells # and not more"]
 BETWEEN = ["# between the marks", "mid: app"]
 BELOW = ["# below", "tool: mid"]
 
@@ -38,7 +38,7 @@ def version(folder, only):
     shutil.copytree(f"{pages.TOP}/crates", f"{folder}/crates", copy_function=link, ignore=shutil.ignore_patterns("out", "must-fail"))
     for name in ("take", "crates.txt", "LICENSE-APACHE", "LICENSE-MIT"):
         shutil.copy(f"{pages.TOP}/{name}", f"{folder}/{name}")
-    write(f"{folder}/crates/own_slot/src/{only}.rt", f"//! Of the version that has {only}.\n")
+    write(f"{folder}/crates/own_cells/src/{only}.rt", f"//! Of the version that has {only}.\n")
     return folder
 
 
@@ -46,7 +46,7 @@ def older(folder):
     """One that has a crate more, on which another stands."""
     version(folder, "gone")
     write(f"{folder}/crates/old_laws/src/lib.rt", "//! Only here.\n")
-    table = pages.read(f"{folder}/crates.txt").replace("\nown_slot: ", "\nold_laws:\nown_slot: old_laws ")
+    table = pages.read(f"{folder}/crates.txt").replace("\nown_cells: ", "\nold_laws:\nown_cells: old_laws ")
     write(f"{folder}/crates.txt", table)
     return folder
 
@@ -92,7 +92,7 @@ def begin(top):
     table = pages.read(f"{mine}/crates.txt")
     end = table.index("# end of what take writes")
     write(f"{mine}/crates.txt", table[:end] + "".join(f"{it}\n" for it in BETWEEN) + table[end:] + "\n".join(BELOW))
-    write(f"{mine}/crates/own_slot/out/kept", "what rt keeps\n")
+    write(f"{mine}/crates/own_cells/out/kept", "what rt keeps\n")
     return mine, status
 
 
@@ -106,10 +106,10 @@ def again(top):
     files = files_of(mine)
     seen.is_so("the newer version is taken", status == 0)
     seen.is_kept("after the newer version", mine)
-    slot = {path: text for path, text in files_of(f"{newer}/crates/own_slot").items()}
-    found = {path: text for path, text in files_of(f"{mine}/crates/own_slot").items() if not path.startswith("out/")}
+    slot = {path: text for path, text in files_of(f"{newer}/crates/own_cells").items()}
+    found = {path: text for path, text in files_of(f"{mine}/crates/own_cells").items() if not path.startswith("out/")}
     seen.is_so("a crate of ours has the newer version's files, and no other", found == slot and "src/come.rt" in found)
-    seen.is_so("what rt keeps stays", "crates/own_slot/out/kept" in files)
+    seen.is_so("what rt keeps stays", "crates/own_cells/out/kept" in files)
     is_gone = "crates/old_laws/src/lib.rt" not in files and "old_laws" not in files["crates.txt"]
     seen.is_so("a crate that is no longer ours is gone, and is reported", is_gone and "old_laws" in said)
     seen.is_so("a licence that is not ours is reported", "LICENSE-MIT is not" in said)
@@ -123,20 +123,20 @@ def again(top):
 
 def changed(seen, newer, mine, files):
     """A crate of ours that the owner has changed is not written over without a word."""
-    path = "crates/own_slot/src/lib.rt"
+    path = "crates/own_cells/src/lib.rt"
     write(f"{mine}/{path}", files[path] + "// the owner's own\n")
     before = files_of(mine)
     status, said = take(newer, mine)
-    seen.is_so("a crate that was changed is reported, and nothing is written", status == 1 and "own_slot" in said and files_of(mine) == before)
+    seen.is_so("a crate that was changed is reported, and nothing is written", status == 1 and "own_cells" in said and files_of(mine) == before)
     status, _ = take(newer, "--over", mine)
     seen.is_so("--over writes over it", status == 0 and files_of(mine) == files)
 
 
 def given_up(seen, newer, mine):
     """What the owner's crates stand on stays, and else all that is given up goes."""
-    table = pages.read(f"{mine}/crates.txt").replace("# taken: exclusive_queue", "# taken:").replace(ABOVE[1], "app: own_slot")
+    table = pages.read(f"{mine}/crates.txt").replace("# taken: exclusive_queue", "# taken:").replace(ABOVE[1], "app: own_cells")
     write(f"{mine}/crates.txt", table)
     status, _ = take(newer, mine)
     files = files_of(mine)
-    stays, goes = "crates/own_slot/src/lib.rt" in files, "crates/exclusive_queue/src/lib.rt" not in files
+    stays, goes = "crates/own_cells/src/lib.rt" in files, "crates/exclusive_queue/src/lib.rt" not in files
     seen.is_so("what is given up goes, but for what the owner's crates stand on", status == 0 and stays and goes)

@@ -1,8 +1,8 @@
 -- Between its calls a queue with one owner is sound, however it keeps its items.
 use Rattle.queue_steps.specs.Legal.{IsSoundOwned}
-use Rattle.own_bounded.specs.Laws.Sound.{ring_sound}
-use Rattle.own_slot.specs.Laws.Sound.{single_sound}
-use Rattle.own_unbounded.specs.Laws.OwnChainSequential.{own_chain_sound}
+use Rattle.own_cells.specs.OneRing.Laws.Sound.{ring_sound}
+use Rattle.own_cells.specs.OneSlot.Laws.Sound.{single_sound}
+use Rattle.own_cells.specs.OneChain.Laws.OwnChainSequential.{own_chain_sound}
 use Rattle.exclusive_queue.specs.Exclusive.{form_owned, IsFormIdle}
 use Rattle.exclusive_queue.specs.declared.exclusive.form.Form.{Form}
 use Rattle.exclusive_queue.specs.declared.exclusive.form.Form.TheVariants as form

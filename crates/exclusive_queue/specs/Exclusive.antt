@@ -1,8 +1,8 @@
 -- What a queue with one owner shows.
 use Rattle.queue_steps.specs.Sequential.{Owned}
-use Rattle.own_slot.specs.SingleCells as single
-use Rattle.own_bounded.specs.RingOwned as ring
-use Rattle.own_unbounded.specs.OwnChainOwned as line
+use Rattle.own_cells.specs.OneSlot.SingleCells as single
+use Rattle.own_cells.specs.OneRing.RingOwned as ring
+use Rattle.own_cells.specs.OneChain.OwnChainOwned as line
 use Rattle.exclusive_queue.specs.declared.exclusive.form.Form.{Form}
 use Rattle.exclusive_queue.specs.declared.exclusive.form.Form.TheVariants as form
 use Rattle.exclusive_queue.specs.declared.exclusive.Exclusive.TheInside.{Inside}

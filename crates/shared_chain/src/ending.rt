@@ -13,7 +13,7 @@ ghost use Rattle.shared_parties.specs.CallStates.{IsLoneSeat};
 ghost use Rattle.queue_steps.specs.declared.sizes.TheConstants.{LIMIT};
 ghost use Rattle.queue_steps.specs.Words.{position_of};
 ghost use Rattle.queue_steps.specs.ChainWords.{offset_of as spec_offset_of, items_before as spec_items_before};
-ghost use Rattle.own_unbounded.specs.ChainMemory.{block_of as spec_block_of};
+ghost use Rattle.own_cells.specs.OneChain.ChainMemory.{block_of as spec_block_of};
 ghost use Rattle.shared_chain.specs.Ending.{LeadsTo, IntoBlock};
 ghost use Rattle.shared_chain.specs.Leftover.{SlotLeft, BlockLeft, BlocksLeft, SameBut, Emptied, is_held, any_held};
 

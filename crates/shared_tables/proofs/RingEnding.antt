@@ -6,8 +6,8 @@ use Rattle.queue_steps.specs.Words.{IsRing}
 use Rattle.queue_steps.specs.Shares.{entire}
 use Rattle.queue_laws.specs.Ring.RingOpening.{numbers_below, opening_ring, opening_shared}
 use Rattle.queue_laws.proofs.Ring.RingOpening.{opening_ok, opening_codes}
-use Rattle.own_bounded.specs.RingWords.{words_behind}
-use Rattle.own_bounded.proofs.Openings.{homes_at}
+use Rattle.own_cells.specs.OneRing.RingWords.{words_behind}
+use Rattle.own_cells.proofs.OneRing.Openings.{homes_at}
 use Rattle.shared_parties.specs.declared.known.CallState.{CallState}
 use Rattle.shared_parties.specs.Known.{party}
 use Rattle.shared_parties.specs.CallStates.{idle, is_busy}

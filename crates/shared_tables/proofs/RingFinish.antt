@@ -19,10 +19,10 @@ use Rattle.shared_tables.specs.Seats.{count_of}
 use Rattle.shared_parties.specs.CallStates.{IsLoneSeat}
 use Rattle.shared_tables.specs.TableRule.{Rule}
 use Rattle.shared_tables.specs.RingTable.{home_when, Homes, ring_words, ring_table}
-use Rattle.own_bounded.specs.RingOwned.{IsIdle, ring_queue}
-use Rattle.own_bounded.specs.Laws.RingRests.{rested_idle, rested_queue}
-use Rattle.own_bounded.specs.RingMemory.{ring_in}
-use Rattle.own_bounded.proofs.RingWrites.{elem_or}
+use Rattle.own_cells.specs.OneRing.RingOwned.{IsIdle, ring_queue}
+use Rattle.own_cells.specs.OneRing.Laws.RingRests.{rested_idle, rested_queue}
+use Rattle.own_cells.specs.OneRing.RingMemory.{ring_in}
+use Rattle.own_cells.proofs.OneRing.RingWrites.{elem_or}
 use Rattle.shared_tables.proofs.TableRests.{table_ends}
 
 module _ {T : Type 0} where

@@ -17,7 +17,7 @@ use Rattle.shared_parties.specs.declared.known.CallState.{CallState}
 use Rattle.shared_parties.specs.Known.{party, view_of}
 use Rattle.shared_tables.specs.Seats.{count_of}
 use Rattle.shared_parties.specs.CallStates.{idle, is_busy, IsLoneSeat}
-use Rattle.own_slot.specs.SingleCells.{state_of, word_for}
+use Rattle.own_cells.specs.OneSlot.SingleCells.{state_of, word_for}
 use Rattle.shared_tables.specs.TableRule.{Rule}
 use Rattle.shared_tables.specs.SlotTable.{home_under, slot_table}
 use Rattle.shared_parties.proofs.FirstParty.{first_rests, first_kept}

@@ -9,8 +9,8 @@ use Rattle.queue_laws.specs.Ring.RingShared.{Shared, HasPlace}
 use Rattle.queue_laws.specs.Ring.RingWords.{Codes, item_in}
 use Rattle.queue_laws.specs.Ring.RingPasses.{Passes, Lent}
 use Rattle.queue_laws.specs.Ring.RingAt.{At}
-use Rattle.own_bounded.specs.RingWords.{words_behind}
-use Rattle.own_bounded.specs.declared.ring_words.TheConstants.{TAIL, HEAD, STAMPS}
+use Rattle.own_cells.specs.OneRing.RingWords.{words_behind}
+use Rattle.own_cells.specs.declared.ring.ring_words.TheConstants.{TAIL, HEAD, STAMPS}
 use Rattle.shared_parties.specs.Calling.{CallsOf}
 use Rattle.shared_tables.specs.TableRule.{TableOf}
 

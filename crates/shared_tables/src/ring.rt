@@ -13,8 +13,8 @@ ghost use Rattle.shared_parties.specs.CallStates.{idle, IsLoneSeat};
 use crate::table::{SharedTable, Sizes, TableKind, TableSteps};
 use atomic_table::Seat;
 use exclusive_queue::Exclusive;
-use own_bounded::ring_words::{HEAD, STAMPS, TAIL, words_before_stamps};
-use own_bounded::vacant::{discard, empty_slots, table_of};
+use own_cells::ring::ring_words::{HEAD, STAMPS, TAIL, words_before_stamps};
+use own_cells::ring::vacant::{discard, empty_slots, table_of};
 use queue_steps::sizes::MAX_CAPACITY;
 use queue_steps::steps::{Kind, RingSteps, Word};
 use shared_parties::known::CallState;
@@ -26,7 +26,7 @@ pub struct Rings;
 impl Sizes for Rings {
     ghost use Rattle.std.specs.Prelude.{◌+◌};
     ghost use Rattle.queue_steps.specs.declared.sizes.TheConstants.{MAX_CAPACITY};
-    ghost use Rattle.own_bounded.specs.declared.ring_words.TheConstants.{STAMPS};
+    ghost use Rattle.own_cells.specs.declared.ring.ring_words.TheConstants.{STAMPS};
 
     ghost least = { 2 };
 

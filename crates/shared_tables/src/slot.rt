@@ -6,11 +6,11 @@ ghost use Rattle.queue_steps.specs.Parties.{IsWhole};
 ghost use Rattle.queue_steps.specs.Shares.{entire};
 ghost use Rattle.shared_parties.specs.Known.{party, view_of};
 ghost use Rattle.shared_parties.specs.CallStates.{idle, IsLoneSeat};
-ghost use Rattle.own_slot.specs.SingleCells.{IsIdle, single_owned};
+ghost use Rattle.own_cells.specs.OneSlot.SingleCells.{IsIdle, single_owned};
 
 use crate::table::{SharedTable, Sizes, TableKind, TableSteps};
 use atomic_table::{Seat, Table};
-use own_slot::Single;
+use own_cells::slot::Single;
 use queue_steps::steps::{Kind, SlotSteps, Word};
 use shared_parties::known::CallState;
 use std::alloc::{AllocError, Allocator};

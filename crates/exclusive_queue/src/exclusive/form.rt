@@ -2,10 +2,10 @@
 ghost use Rattle.std.specs.Prelude.{◌≡◌};
 ghost use Rattle.call_driver.specs.Apart.{FitsCall, SequentialApart};
 
-use own_bounded::bounded::Ring;
 use own_calls::sealed::Sealed;
-use own_slot::single::Single;
-use own_unbounded::unbounded::LinkedBlocks;
+use own_cells::chain::unbounded::LinkedBlocks;
+use own_cells::ring::bounded::Ring;
+use own_cells::slot::single::Single;
 use queue_steps::model::{CallKind, ReplyKind};
 use std::alloc::Allocator;
 

@@ -5,8 +5,8 @@ ghost use Rattle.std.specs.Map.Iter.{TakesFirst, ShowsInOrder, GivesInOrder, der
 
 use crate::exclusive::Exclusive;
 use crate::exclusive::form::Form;
-use own_bounded::reading::Items as RingItems;
-use own_unbounded::reading::Items as BlockItems;
+use own_cells::chain::reading::Items as BlockItems;
+use own_cells::ring::reading::Items as RingItems;
 use std::alloc::{Allocator, Global};
 use std::iter::FusedIterator;
 use std::marker::Model;

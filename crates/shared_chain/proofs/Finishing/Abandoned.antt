@@ -11,7 +11,7 @@ use Rattle.queue_laws.proofs.Chain.ChainAnswers.{tail_items, head_items, head_is
 use Rattle.queue_laws.specs.Chain.ChainAnswers.{linked_of, shown_of}
 use Rattle.mem_blocks.specs.Web.{Block, block, vacant, full, Lives, without, word_of, LastBlocks}
 use Rattle.mem_blocks.specs.declared.hub.TheConstants.{TAIL, HEAD}
-use Rattle.own_unbounded.specs.ChainMemory.{block_of}
+use Rattle.own_cells.specs.OneChain.ChainMemory.{block_of}
 use Rattle.shared_chain.specs.Spots.{spot}
 use Rattle.shared_chain.specs.ChainCalls.{OutChain}
 use Rattle.shared_chain.specs.Leftover.{SlotLeft, BlockLeft, StaysLeft, BlocksLeft}

@@ -9,12 +9,12 @@ use Rattle.queue_laws.specs.Chain.ChainCells.{Before, GivenUp, Chain, ChainOk, i
 use Rattle.queue_laws.specs.Chain.ChainAnswers.{linked_of}
 use Rattle.mem_blocks.specs.Web.{Block, Home, Content, block}
 use Rattle.mem_blocks.specs.declared.block.BlockPtr.{BlockPtr}
-use Rattle.own_unbounded.specs.OwnChainCells.{Piece, piece_at, state_in, item_in}
-use Rattle.own_bounded.specs.RingOwned.{put_in}
-use Rattle.own_unbounded.specs.LinkedBlocks.{name_at, linked_name, content_of, contents, at_home, piece, pieces_of}
-use Rattle.own_unbounded.specs.OwnChainOwned.{cell_of, items_from, HoldsItems, Linked}
-use Rattle.own_unbounded.specs.ChainMemory.{named_by, AreHeld}
-use Rattle.own_unbounded.proofs.Pieces.{length-pieces_of, at-pieces_of, length-contents}
+use Rattle.own_cells.specs.OneChain.OwnChainCells.{Piece, piece_at, state_in, item_in}
+use Rattle.own_cells.specs.OneRing.RingOwned.{put_in}
+use Rattle.own_cells.specs.OneChain.LinkedBlocks.{name_at, linked_name, content_of, contents, at_home, piece, pieces_of}
+use Rattle.own_cells.specs.OneChain.OwnChainOwned.{cell_of, items_from, HoldsItems, Linked}
+use Rattle.own_cells.specs.OneChain.ChainMemory.{named_by, AreHeld}
+use Rattle.own_cells.proofs.OneChain.Pieces.{length-pieces_of, at-pieces_of, length-contents}
 use Rattle.shared_chain.specs.Spots.{spot}
 use Rattle.shared_chain.specs.ChainCalls.{OutChain}
 use Rattle.shared_chain.specs.Ending.{LeadsTo, IntoBlock}

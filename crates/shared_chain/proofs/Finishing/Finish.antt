@@ -14,10 +14,10 @@ use Rattle.queue_laws.proofs.Chain.ChainAnswers.{tail_items, head_items, resting
 use Rattle.mem_blocks.specs.Web.{Block, block, word_of}
 use Rattle.mem_blocks.specs.declared.block.BlockPtr.{BlockPtr}
 use Rattle.mem_blocks.specs.declared.hub.TheConstants.{TAIL, HEAD}
-use Rattle.own_unbounded.specs.OwnChainCells.{Piece, OwnChain, piece_at}
-use Rattle.own_unbounded.specs.LinkedBlocks.{name_at, pieces_of}
-use Rattle.own_unbounded.specs.OwnChainOwned.{taken, accepted, items_from, own_chain_queue, HoldsItems, IsBare, IsLaid, IsIdle}
-use Rattle.own_unbounded.specs.ChainMemory.{named_by, own_chain_in}
+use Rattle.own_cells.specs.OneChain.OwnChainCells.{Piece, OwnChain, piece_at}
+use Rattle.own_cells.specs.OneChain.LinkedBlocks.{name_at, pieces_of}
+use Rattle.own_cells.specs.OneChain.OwnChainOwned.{taken, accepted, items_from, own_chain_queue, HoldsItems, IsBare, IsLaid, IsIdle}
+use Rattle.own_cells.specs.OneChain.ChainMemory.{named_by, own_chain_in}
 use Rattle.shared_chain.specs.Spots.{spot}
 use Rattle.shared_chain.specs.ChainCalls.{OutChain}
 use Rattle.shared_chain.specs.Ending.{LeadsTo, IntoBlock}

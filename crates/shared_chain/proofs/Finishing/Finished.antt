@@ -11,8 +11,8 @@ use Rattle.queue_laws.specs.Chain.ChainCells.{Before, GivenUp, queue_of}
 use Rattle.mem_blocks.specs.Web.{Block, block, gone, Lives, AllGone, without, word_of, LastBlocksBy}
 use Rattle.mem_blocks.specs.declared.block.BlockPtr.{BlockPtr}
 use Rattle.mem_blocks.specs.declared.hub.TheConstants.{TAIL, PARTIES, HEAD}
-use Rattle.own_unbounded.specs.OwnChainOwned.{own_chain_queue, IsIdle}
-use Rattle.own_unbounded.specs.ChainMemory.{own_chain_in, AreHeld}
+use Rattle.own_cells.specs.OneChain.OwnChainOwned.{own_chain_queue, IsIdle}
+use Rattle.own_cells.specs.OneChain.ChainMemory.{own_chain_in, AreHeld}
 use Rattle.shared_parties.specs.declared.known.CallState.{CallState}
 use Rattle.shared_parties.specs.Known.{view_of}
 use Rattle.shared_parties.specs.CallStates.{IsLoneSeat}

@@ -8,7 +8,7 @@ use Rattle.queue_laws.specs.Chain.ChainFacts.{place}
 use Rattle.queue_laws.proofs.Chain.ChainPlaces.{place_block}
 use Rattle.queue_laws.specs.Chain.ChainAnswers.{head_word}
 use Rattle.queue_laws.proofs.Chain.ChainAnswers.{standing_word}
-use Rattle.own_unbounded.specs.ChainMemory.{block_of}
+use Rattle.own_cells.specs.OneChain.ChainMemory.{block_of}
 use Rattle.queue_laws.specs.Chain.ChainCells.{Writer, Free, Writing, Wrote, Reader, Unread, Reading, Done, Rests, Passer, Stands, LinkState, Unlinked, Linking, Linked, Shown, Hidden, Showing, Seen, Walk, Before, Walker, Waits, GivenUp, Chain, ItemOk, BlocksOk, LinkOk, FrontOk, ShownOk, WalkOk, ChainOk, Write, Read, Tail, Head, Next, First, Passed, writer_of, reader_of, linker_of, shower_of, walker_of, HoldsOnly, Nothing, item_at, LAST}
 use Rattle.queue_laws.proofs.Chain.ChainRanks.{rests_if, stands_if}
 

@@ -27,8 +27,8 @@ use Rattle.queue_laws.proofs.Ring.RingStep.{step_good}
 use Rattle.queue_laws.proofs.Ring.RingFronts.{may_front}
 use Rattle.queue_laws.proofs.Ring.RingHands.{lent_stays, Shift, Rests, Claims, GoesOn, Returns}
 use Rattle.queue_laws.specs.Ring.RingPasses.{Lent}
-use Rattle.own_bounded.specs.RingWords.{words_behind}
-use Rattle.own_bounded.specs.declared.ring_words.TheConstants.{STAMPS}
+use Rattle.own_cells.specs.OneRing.RingWords.{words_behind}
+use Rattle.own_cells.specs.declared.ring.ring_words.TheConstants.{STAMPS}
 use Rattle.queue_laws.proofs.Common.Moments.{seen_map}
 use Rattle.shared_parties.specs.Calling.{touched_list, lies_in, handed_by, HasTouched, NextOk, CallLaws}
 use Rattle.shared_tables.specs.TableRule.{found_by, TableStepOk, TakesOff, OpensIn, TableLaws}

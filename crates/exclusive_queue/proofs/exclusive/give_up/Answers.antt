@@ -1,4 +1,4 @@
-use Rattle.own_unbounded.specs.OwnChainOwned.{own_chain_owned}
+use Rattle.own_cells.specs.OneChain.OwnChainOwned.{own_chain_owned}
 use Rattle.exclusive_queue.proofs.Pops.{pop-fewer, pop-none}
 use Rattle.exclusive_queue.proofs.exclusive.give_up.Goals as goal
 

@@ -1,5 +1,5 @@
 use Rattle.std.proofs.Common.{length}
-use Rattle.own_unbounded.specs.OwnChainOwned.{IsIdle, own_chain_queue}
+use Rattle.own_cells.specs.OneChain.OwnChainOwned.{IsIdle, own_chain_queue}
 use Rattle.exclusive_queue.proofs.exclusive.give_up.Given as goal
 
 abbrev pub invariant-loop-result : goal.invariant-loop-result

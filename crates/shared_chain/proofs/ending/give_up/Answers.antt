@@ -2,7 +2,7 @@ use Rattle.std.proofs.Common.{◌≡◌, ◌∙◌, ℕ, ◌+◌, List, sym, ap,
 use Rattle.mem_blocks.specs.Web.{Block, block, Lives}
 use Rattle.queue_steps.specs.Words.{position_of}
 use Rattle.queue_steps.specs.ChainWords.{offset_of, items_before}
-use Rattle.own_unbounded.specs.ChainMemory.{block_of}
+use Rattle.own_cells.specs.OneChain.ChainMemory.{block_of}
 use Rattle.shared_chain.specs.Ending.{LeadsTo, IntoBlock}
 use Rattle.shared_chain.specs.Leftover.{BlocksLeft}
 use Rattle.shared_chain.proofs.Finishing.Abandoned.{blocks_left, front_left}

@@ -2,9 +2,9 @@ use Rattle.std.proofs.Common.{◌≡◌, ◌+◌, ℕ, Some, sym, ap, ◌∙◌,
 use Rattle.std.specs.Mem.Slots.{slots_items}
 use Rattle.queue_steps.specs.Effect.{after}
 use Rattle.queue_steps.specs.Legal.{IsShown}
-use Rattle.own_bounded.specs.RingOwned.{IsIdle, ring_owned}
-use Rattle.own_bounded.specs.RingMemory.{ring_in}
-use Rattle.own_bounded.specs.declared.ring_words.TheConstants.{STAMPS}
+use Rattle.own_cells.specs.OneRing.RingOwned.{IsIdle, ring_owned}
+use Rattle.own_cells.specs.OneRing.RingMemory.{ring_in}
+use Rattle.own_cells.specs.declared.ring.ring_words.TheConstants.{STAMPS}
 use Rattle.shared_tables.proofs.RingFinish.{ring_finishes}
 use Rattle.shared_tables.proofs.ring.end_ring.Goals as goal
 

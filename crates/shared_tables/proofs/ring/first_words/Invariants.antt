@@ -1,5 +1,5 @@
 use Rattle.std.proofs.Common.{◌≡◌, ◌+◌, vec_len, vec_capacity}
-use Rattle.own_bounded.specs.declared.ring_words.TheConstants.{STAMPS}
+use Rattle.own_cells.specs.declared.ring.ring_words.TheConstants.{STAMPS}
 use Rattle.shared_tables.specs.RingOpening.{first_words}
 use Rattle.shared_tables.proofs.ring.first_words.Given as goal
 

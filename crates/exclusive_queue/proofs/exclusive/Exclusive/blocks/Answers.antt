@@ -1,5 +1,5 @@
 use Rattle.std.proofs.Common.{rules}
-use Rattle.own_unbounded.specs.Laws.OwnChainSequential.{holds-blocks}
+use Rattle.own_cells.specs.OneChain.Laws.OwnChainSequential.{holds-blocks}
 use Rattle.exclusive_queue.proofs.exclusive.Exclusive.blocks.Goals as goal
 
 pub returns-in-Unbounded-clause-held : goal.returns-in-Unbounded-clause-held

@@ -1,8 +1,0 @@
--- A ring in the words and slots of a table.
-use Rattle.std.specs.Prelude.{ℕ, List, get_or, drop, Option}
-use Rattle.own_bounded.specs.RingCells.{RingState}
-use Rattle.own_bounded.specs.declared.ring_words.TheConstants.{TAIL, HEAD, STAMPS}
-
--- the ring in a table's words, which are the count of parties, the tail, the head and the stamps, and in its slots
-abbrev pub ring_in : {T : Type 0} → ℕ → List ℕ → List (Option T) → RingState T
-ring_in cap ws xs = record { cap = cap; head = get_or ws HEAD 0; tail = get_or ws TAIL 0; stamps = drop STAMPS ws; slots = xs }

@@ -1,7 +1,0 @@
-//! Rings of slots, with one owner, as cells of the driver.
-#![tactic(auto)]
-
-pub mod bounded;
-pub mod reading;
-pub mod ring_words;
-pub mod vacant;

@@ -1,0 +1,39 @@
+-- A ring that lies in the words and slots of a table: what is read there, and what a write leaves.
+use Rattle.std.proofs.Common.{◌≡◌, ℕ, ◌+◌, ◌<◌, List, length, get_or, set, Option, ap, sym, ◌∙◌, arith}
+use mathlib.Core.Option.{some}
+use lib.ListN.{get_elem?}
+use Rattle.own_cells.specs.OneRing.RingCells.{RingState, stamp_at, item_at}
+use Rattle.own_cells.specs.OneRing.RingMemory.{ring_in}
+use Rattle.own_cells.specs.declared.ring.ring_words.TheConstants.{TAIL, HEAD, STAMPS}
+use Rattle.own_cells.proofs.OneRing.RingWrites.{stamps_count, stamp_or, item_or, head_set, tail_set, stamp_set}
+
+module _ {T : Type 0} (cap : ℕ) (ws : List ℕ) (xs : List (Option T)) {words slots : ℕ} (ws_counted : words ≡ length ws) (xs_counted : slots ≡ length xs) (sized : (words ≡ cap + STAMPS) × (slots ≡ cap)) {s : RingState T} (is : ring_in cap ws xs ≡ s) where
+  words_long : length ws ≡ cap + STAMPS
+  words_long = sym ws_counted ∙ sized.0
+
+  slots_long : length xs ≡ cap
+  slots_long = sym xs_counted ∙ sized.1
+
+  pub stamp_low : (i : ℕ) → i < length s.stamps → i < cap
+  stamp_low i lt = omega (arith, lt, ap (λ (z : RingState T). length z.stamps) is, stamps_count cap ws xs words_long slots_long)
+
+  pub slot_low : (i : ℕ) → i < length s.slots → i < cap
+  slot_low i lt = omega (arith, lt, ap (λ (z : RingState T). length z.slots) is, slots_long)
+
+  pub stamp_read : (i x : ℕ) → get_elem? ws (STAMPS + i) ≡ some x → x ≡ stamp_at s i
+  stamp_read i x there = stamp_or cap ws xs words_long slots_long i x there ∙ ap (λ (z : RingState T). stamp_at z i) is
+
+  pub item_read : (i : ℕ) (d : Option T) → i < length s.slots → get_or xs i d ≡ item_at s i
+  item_read i d lt = item_or cap ws xs words_long slots_long i d (slot_low i lt) ∙ ap (λ (z : RingState T). item_at z i) is
+
+  pub head_written : (x : ℕ) → ring_in cap (set ws HEAD x) xs ≡ record s { head = x }
+  head_written x = head_set cap ws xs words_long slots_long x ∙ ap (λ (z : RingState T). record z { head = x }) is
+
+  pub tail_written : (x : ℕ) → ring_in cap (set ws TAIL x) xs ≡ record s { tail = x }
+  tail_written x = tail_set cap ws xs words_long slots_long x ∙ ap (λ (z : RingState T). record z { tail = x }) is
+
+  pub stamp_written : (i x : ℕ) → ring_in cap (set ws (STAMPS + i) x) xs ≡ record s { stamps = set s.stamps i x }
+  stamp_written i x = stamp_set cap ws xs words_long slots_long i x ∙ ap (λ (z : RingState T). record z { stamps = set z.stamps i x }) is
+
+  pub item_written : (i : ℕ) (v : Option T) → ring_in cap ws (set xs i v) ≡ record s { slots = set s.slots i v }
+  item_written i v = ap (λ (z : RingState T). record z { slots = set z.slots i v }) is

@@ -1,0 +1,6 @@
+//! A chain of blocks with one owner, as cells of the driver.
+
+mod opening;
+mod operations;
+pub mod reading;
+pub mod unbounded;
