@@ -5,3 +5,4 @@ mod Iterations
 mod Texts
 mod Soundness
 pub mod Sent
+pub mod Answered

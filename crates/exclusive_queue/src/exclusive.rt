@@ -22,13 +22,13 @@ ghost use Rattle.call_driver.specs.Apart.{FitsCall, SequentialApart};
 ghost use Rattle.queue_steps.specs.declared.model.Call.TheVariants as call;
 ghost use Rattle.queue_steps.specs.declared.model.Reply.TheVariants as reply;
 
+use crate::calls::sealed::Sealed;
+use crate::calls::store::Store;
 use crate::text::write_queue;
 use atomic_table::Closed;
 use call_driver::own::drive_in_loop;
 use mem_blocks::chain::Chain;
 use mem_blocks::item::{Item, Place};
-use own_calls::sealed::Sealed;
-use own_calls::store::Store;
 use own_cells::chain::unbounded::{LinkedBlocks, Name};
 use own_cells::ring::bounded::Ring;
 use own_cells::slot::single::Single;

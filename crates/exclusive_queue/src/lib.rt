@@ -1,6 +1,7 @@
 //! Closable queues with one owner, first in first out.
 #![tactic(auto)]
 
+mod calls;
 pub mod exclusive;
 pub mod store;
 pub mod text;

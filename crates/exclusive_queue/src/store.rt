@@ -2,8 +2,8 @@
 ghost use Rattle.std.specs.Prelude.{◌≡◌, MatchResult};
 ghost use Rattle.queue_steps.specs.Sequential.{SequentialRun};
 
-pub use own_calls::store::Store;
-use own_calls::store::answer;
+pub use crate::calls::store::Store;
+use crate::calls::store::answer;
 use queue_steps::model::{Call, Reply};
 use std::alloc::{AllocError, Allocator};
 

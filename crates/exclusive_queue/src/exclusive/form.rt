@@ -2,7 +2,7 @@
 ghost use Rattle.std.specs.Prelude.{◌≡◌};
 ghost use Rattle.call_driver.specs.Apart.{FitsCall, SequentialApart};
 
-use own_calls::sealed::Sealed;
+use crate::calls::sealed::Sealed;
 use own_cells::chain::unbounded::LinkedBlocks;
 use own_cells::ring::bounded::Ring;
 use own_cells::slot::single::Single;

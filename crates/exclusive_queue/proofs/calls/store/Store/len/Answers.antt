@@ -1,0 +1,5 @@
+use Rattle.std.proofs.Common.{rules}
+use Rattle.exclusive_queue.proofs.calls.store.Store.len.Goals as goal
+
+pub returns : goal.returns
+returns g c = search rules

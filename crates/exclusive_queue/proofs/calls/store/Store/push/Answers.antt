@@ -1,0 +1,5 @@
+use Rattle.std.proofs.Common.{rules}
+use Rattle.exclusive_queue.proofs.calls.store.Store.push.Goals as goal
+
+pub returns-clause-sequential : goal.returns-clause-sequential
+returns-clause-sequential g c = search rules

@@ -1,0 +1,25 @@
+use Rattle.std.proofs.Common.{◌∙◌}
+use Rattle.call_driver.proofs.Apart.{call-parts, apart-fits, apart-filled}
+use Rattle.exclusive_queue.proofs.Answered.{apart-answered}
+use Rattle.exclusive_queue.proofs.calls.store.reply_to.Goals as goal
+
+pub settle-reply-requires-clause-whole : goal.settle-reply-requires-clause-whole
+settle-reply-requires-clause-whole g c = (c.args.call, call-parts c.split-call.result c.args.call c.split-call.ensures)
+
+pub fill-requires-clause-fits : goal.fill-requires-clause-fits
+fill-requires-clause-fits g c =
+    let owned = g.S.Sealed.owned in
+    let told = c.settle-reply.ensures.sequential c.args.call (call-parts c.split-call.result c.args.call c.split-call.ensures) in
+    apart-fits (owned c.args.store.now) (owned c.settle-reply.new.self) c.args.call c.settle-reply.result c.settle-reply.new.carried told
+
+pub fill-requires-clause-its : goal.fill-requires-clause-its
+fill-requires-clause-its g c =
+    let owned = g.S.Sealed.owned in
+    let told = c.settle-reply.ensures.sequential c.args.call (call-parts c.split-call.result c.args.call c.split-call.ensures) in
+    apart-answered (owned c.args.store.now) (owned c.settle-reply.new.self) c.args.call c.settle-reply.result c.settle-reply.new.carried told ∙ c.requires.its
+
+pub returns-clause-sequential : goal.returns-clause-sequential
+returns-clause-sequential g c =
+    let owned = g.S.Sealed.owned in
+    let told = c.settle-reply.ensures.sequential c.args.call (call-parts c.split-call.result c.args.call c.split-call.ensures) in
+    apart-filled (owned c.args.store.now) (owned c.settle-reply.new.self) c.args.call c.settle-reply.result c.settle-reply.new.carried c.fill.result c.fill.ensures told

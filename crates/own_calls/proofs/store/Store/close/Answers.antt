@@ -1,5 +1,0 @@
-use Rattle.std.proofs.Common.{rules}
-use Rattle.own_calls.proofs.store.Store.close.Goals as goal
-
-pub returns-clause-sequential : goal.returns-clause-sequential
-returns-clause-sequential g c = search rules

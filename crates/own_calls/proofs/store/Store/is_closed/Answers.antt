@@ -1,5 +1,0 @@
-use Rattle.std.proofs.Common.{rules}
-use Rattle.own_calls.proofs.store.Store.is_closed.Goals as goal
-
-pub returns : goal.returns
-returns g c = search rules

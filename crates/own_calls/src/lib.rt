@@ -1,5 +1,0 @@
-//! The calls of a queue with one owner, however it keeps its items.
-#![tactic(auto)]
-
-pub mod sealed;
-pub mod store;
