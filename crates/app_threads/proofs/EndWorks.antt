@@ -7,9 +7,9 @@ use Rattle.queue_steps.specs.declared.model.Call.TheVariants as call
 use Rattle.queue_steps.specs.declared.model.Effect.TheVariants as effect
 use Rattle.queue_steps.specs.declared.model.Reply.TheVariants as reply
 use Rattle.queue_steps.specs.Effect.{after}
-use Rattle.channel_calls.specs.declared.errors.SendError.{SendError}
-use Rattle.channel_calls.specs.declared.errors.SendError.TheVariants as send
-use Rattle.channel_calls.specs.declared.errors.Disconnected.{Disconnected}
+use Rattle.counted_channel.specs.declared.calls.errors.SendError.{SendError}
+use Rattle.counted_channel.specs.declared.calls.errors.SendError.TheVariants as send
+use Rattle.counted_channel.specs.declared.calls.errors.Disconnected.{Disconnected}
 use Rattle.queue_steps.specs.Shares.{Share, entire, half, plus, IsEntire, SamePart}
 use Rattle.queue_steps.specs.Parties.{IsView}
 use Rattle.queue_steps.proofs.ShareLaws.{same_refl, same_sym, same_trans, entire_same, plus_comm, plus_assoc, plus_same, halves_same}

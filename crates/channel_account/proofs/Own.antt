@@ -16,9 +16,9 @@ use Rattle.queue_laws.specs.History.Histories.{handed_in, handed_out}
 use Rattle.law_parties.proofs.Drained.{saw_drained, still_drained}
 use Rattle.law_parties.specs.Doings.{SawDrained}
 use Rattle.concurrent_queue.specs.Shared.{PartyView, Calls, Parts, Joins}
-use Rattle.channel_calls.specs.declared.errors.SendError.{SendError}
-use Rattle.channel_calls.specs.declared.errors.SendError.TheVariants as send
-use Rattle.channel_calls.specs.declared.errors.Disconnected.{Disconnected}
+use Rattle.counted_channel.specs.declared.calls.errors.SendError.{SendError}
+use Rattle.counted_channel.specs.declared.calls.errors.SendError.TheVariants as send
+use Rattle.counted_channel.specs.declared.calls.errors.Disconnected.{Disconnected}
 use Rattle.counted_channel.specs.Channel.{End, ChannelCall, EndParts, GivenBack, Ends, sent, received}
 use Rattle.channel_handle.specs.Ends.{AreEnds, IsPair}
 use Rattle.channel_account.specs.Own.{found_before, at_places, own}

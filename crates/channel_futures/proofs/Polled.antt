@@ -4,7 +4,7 @@ use Rattle.queue_steps.specs.declared.model.Call.TheVariants as call
 use Rattle.futures.specs.declared.task.Poll.{Poll}
 use Rattle.futures.specs.declared.task.Poll.TheVariants.{Ready, Pending}
 use Rattle.futures.specs.Poll.{IfReady, OnPending}
-use Rattle.channel_calls.specs.declared.errors.SendError.{SendError}
+use Rattle.counted_channel.specs.declared.calls.errors.SendError.{SendError}
 use Rattle.counted_channel.specs.Channel.{End, ChannelCall, sent}
 use Rattle.counted_channel.specs.Polling.{EndWaited}
 use Rattle.counted_channel.proofs.Polls.{call_then}

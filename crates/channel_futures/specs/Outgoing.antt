@@ -2,7 +2,7 @@
 use Rattle.std.specs.Prelude.{◌≡◌, ℕ, Option, Some, None, Result, Ok}
 use Rattle.std.specs.Arc.{arc_value}
 use Rattle.queue_steps.specs.declared.model.Call.TheVariants as call
-use Rattle.channel_calls.specs.declared.errors.SendError.{SendError}
+use Rattle.counted_channel.specs.declared.calls.errors.SendError.{SendError}
 use Rattle.counted_channel.specs.Channel.{End, ChannelCall, sent}
 use Rattle.channel_futures.specs.declared.outgoing.Outgoing.{Outgoing}
 

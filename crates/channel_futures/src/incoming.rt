@@ -9,8 +9,8 @@ ghost use Rattle.counted_channel.specs.Channel.{IsEndOf, ChannelCall, received};
 ghost use Rattle.counted_channel.specs.Polling.{EndWaited, HasReceived};
 
 use crate::owed::Owed;
-use channel_calls::Items;
 use channel_handle::{Disconnected, Handle, Receiver};
+use counted_channel::calls::Items;
 use counted_channel::{Channel, PolledRecv, PollingReceiver};
 use futures::task::{Context, Poll};
 use futures::{Future, Stream};

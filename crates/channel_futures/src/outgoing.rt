@@ -8,8 +8,8 @@ ghost use Rattle.counted_channel.specs.Channel.{End, IsEndOf, ChannelCall, sent}
 ghost use Rattle.counted_channel.specs.Polling.{EndWaited};
 
 use crate::owed::Owed;
-use channel_calls::Room;
 use channel_handle::{Handle, SendError, Sender};
+use counted_channel::calls::Room;
 use counted_channel::{Channel, PolledSend};
 use futures::task::{Context, Poll};
 use futures::{Future, Sink};

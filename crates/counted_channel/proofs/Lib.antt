@@ -4,3 +4,4 @@ pub mod OneSide
 pub mod Trying
 mod EndViews
 pub mod Polls
+pub mod QueueCalls

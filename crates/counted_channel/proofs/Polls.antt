@@ -11,10 +11,10 @@ use Rattle.queue_steps.specs.Shares.{Share, IsEntire}
 use Rattle.queue_steps.specs.Parties.{View}
 use Rattle.concurrent_queue.specs.SawMore.{SawMore}
 use Rattle.concurrent_queue.specs.Shared.{PartyView, Calls}
-use Rattle.channel_calls.specs.declared.polled.At.{At}
-use Rattle.channel_calls.specs.declared.polled.At.TheVariants as at
-use Rattle.channel_calls.specs.Polled.{party_at, IsBetween, IsPopping}
-use Rattle.channel_calls.specs.declared.errors.Disconnected.{Disconnected}
+use Rattle.counted_channel.specs.declared.calls.polled.At.{At}
+use Rattle.counted_channel.specs.declared.calls.polled.At.TheVariants as at
+use Rattle.counted_channel.specs.QueueCalls.Polled.{party_at, IsBetween, IsPopping}
+use Rattle.counted_channel.specs.declared.calls.errors.Disconnected.{Disconnected}
 use Rattle.atomic_table.specs.Seated.{TableId}
 use Rattle.counted_channel.specs.declared.counting.SeatCounts.{SeatCounts}
 use Rattle.counted_channel.specs.Channel.{End, ChannelCall, end_at, received}

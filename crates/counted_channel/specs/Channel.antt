@@ -7,7 +7,7 @@ use Rattle.queue_steps.specs.declared.model.Reply.{Reply}
 use Rattle.queue_steps.specs.Effect.{IsHistory}
 use Rattle.queue_steps.specs.Shares.{Share, SamePart, IsPart, entire, half, plus}
 use Rattle.concurrent_queue.specs.Shared.{QueueId, PartyView, Calls, Parts, Joins}
-pub use Rattle.channel_calls.specs.Calls.{Ends, sent, force_sent, received}
+pub use Rattle.counted_channel.specs.QueueCalls.Calls.{Ends, sent, force_sent, received}
 use Rattle.counted_channel.specs.declared.counting.SeatCounts.{SeatCounts}
 use Rattle.counted_channel.specs.Counting.{stake_at}
 

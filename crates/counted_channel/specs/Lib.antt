@@ -2,4 +2,5 @@ pub mod Channel
 pub mod Counting
 pub mod Receiving
 pub mod Polling
-pub use Rattle.channel_calls.specs.Errors
+pub mod Errors
+pub mod QueueCalls

@@ -5,10 +5,10 @@ use Rattle.queue_steps.specs.declared.model.Call.TheVariants as call
 use Rattle.queue_steps.specs.declared.model.Reply.TheVariants as reply
 use Rattle.concurrent_queue.specs.SawMore.{SawMore}
 use Rattle.waker_list.specs.declared.place.Look.{Look}
-use Rattle.channel_calls.specs.declared.errors.Disconnected.{Disconnected}
-use Rattle.channel_calls.specs.declared.waited.Items.{Items}
-use Rattle.channel_calls.specs.declared.waited.Room.{Room}
-use Rattle.channel_calls.specs.Polled.{Misses, IsAtList}
+use Rattle.counted_channel.specs.declared.calls.errors.Disconnected.{Disconnected}
+use Rattle.counted_channel.specs.declared.calls.waited.Items.{Items}
+use Rattle.counted_channel.specs.declared.calls.waited.Room.{Room}
+use Rattle.counted_channel.specs.QueueCalls.Polled.{Misses, IsAtList}
 use Rattle.counted_channel.specs.declared.polling.PolledRecv.{PolledRecv}
 use Rattle.counted_channel.specs.declared.polling.PolledRecv.TheVariants as polled
 use Rattle.counted_channel.specs.declared.polling.PolledSend.{PolledSend}

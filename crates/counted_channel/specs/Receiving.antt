@@ -3,7 +3,7 @@ use Rattle.std.specs.Prelude.{◌≡◌, Option, Result}
 use Rattle.std.specs.Result.{result_ok}
 use Rattle.std.specs.Borrow.{GName}
 use Rattle.queue_steps.specs.declared.model.Call.TheVariants as call
-use Rattle.channel_calls.specs.declared.errors.Disconnected.{Disconnected}
+use Rattle.counted_channel.specs.declared.calls.errors.Disconnected.{Disconnected}
 use Rattle.counted_channel.specs.declared.items.Items.{Items}
 use Rattle.counted_channel.specs.Channel.{End, IsEndOf, ChannelCall, received}
 

@@ -7,10 +7,10 @@ ghost use Rattle.queue_steps.specs.Shares.{IsEntire};
 ghost use Rattle.concurrent_queue.specs.Shared.{IsPartyOf};
 ghost use Rattle.counted_channel.specs.Channel.{End, IsEndOf, ChannelCall, EndParts, EndJoins, Ends, GivenBack};
 
+use crate::calls::WaitedQueue;
 use crate::ends::{Channel, Receiver, Sender};
 use crate::waiting::Awaited;
 use crate::waking::close;
-use channel_calls::WaitedQueue;
 use concurrent_queue::Party;
 use std::alloc::Allocator;
 use std::sync::Wait;

@@ -7,13 +7,13 @@ ghost use Rattle.queue_steps.specs.Shares.{IsEntire};
 ghost use Rattle.concurrent_queue.specs.Shared.{Calls, IsPartyOf, Joins, Finishes};
 ghost use Rattle.counted_channel.specs.Channel.{IsEndOf, ChannelCall, EndParts, EndJoins, Ends, GivenBack, sent, force_sent, received};
 
+use crate::calls::{Disconnected, SendError, WaitedQueue};
 use crate::counting::{Counts, RECEIVERS, SENDERS};
 use crate::either::ChannelEnd;
 use crate::sides::{SideEnd, end_one, join_ends, split_end};
 use crate::tries::{pop_until, push_until};
 use crate::waiting::Awaited;
 use crate::waking::{force_push, pop, push};
-use channel_calls::{Disconnected, SendError, WaitedQueue};
 use concurrent_queue::{Exclusive, NullTestable, Party, PopError, PushError};
 use event_count::Never;
 use std::alloc::{Allocator, Global};

@@ -1,6 +1,7 @@
 //! Channels over shared queues: they count their senders and their receivers, and the last of either side closes the queue.
 #![tactic(auto)]
 
+pub mod calls;
 mod counting;
 mod either;
 mod ends;
@@ -13,7 +14,7 @@ mod tries;
 mod waiting;
 mod waking;
 
-pub use channel_calls::{Disconnected, SendError};
+pub use crate::calls::{Disconnected, SendError};
 pub use counting::MAX_ENDS;
 pub use either::ChannelEnd;
 pub use ends::{Channel, Receiver, Sender};

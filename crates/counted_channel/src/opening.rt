@@ -3,11 +3,11 @@ ghost use Rattle.std.specs.Prelude.{◌≡◌, MatchResult};
 ghost use Rattle.concurrent_queue.specs.Shared.{IsPartyOf};
 ghost use Rattle.counted_channel.specs.Channel.{Opens};
 
+use crate::calls::WaitedQueue;
 use crate::counting::open;
 use crate::ends::{Channel, Receiver, Sender};
 use crate::sides::SideEnd;
 use crate::waiting::Awaited;
-use channel_calls::WaitedQueue;
 use concurrent_queue::{ConcurrentQueue, Party};
 use std::alloc::{Allocator, Global};
 

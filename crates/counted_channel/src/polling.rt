@@ -3,10 +3,10 @@ ghost use Rattle.std.specs.Prelude.{◌≡◌, MatchResult};
 ghost use Rattle.counted_channel.specs.Channel.{IsEndOf};
 ghost use Rattle.counted_channel.specs.Polling.{PollsRecv, PollsSend, RecvKeeps, SendKeeps};
 
+use crate::calls::{At, Disconnected, Items, PolledPop, PolledPush, Room, SendError};
 use crate::counting::EndSeat;
 use crate::ends::{Channel, Receiver, Sender};
 use crate::sides::SideEnd;
-use channel_calls::{At, Disconnected, Items, PolledPop, PolledPush, Room, SendError};
 use concurrent_queue::NullTestable;
 use concurrent_queue::one_heap::OneHeap;
 use std::alloc::{Allocator, Global};
@@ -27,7 +27,7 @@ pub struct PollingReceiver<T, A: Allocator = Global> {
 impl<T, A: Allocator> Model for PollingReceiver<T, A> {
     ghost use Rattle.std.specs.Prelude.{◌≡◌};
     ghost use Rattle.queue_steps.specs.declared.model.Call.TheVariants as call;
-    ghost use Rattle.channel_calls.specs.Polled.{party_at, call_at};
+    ghost use Rattle.counted_channel.specs.QueueCalls.Polled.{party_at, call_at};
     ghost use Rattle.counted_channel.specs.Channel.{End, end_at};
     ghost use Rattle.counted_channel.specs.Counting.{IsEndSeat};
 

@@ -5,9 +5,9 @@ ghost use Rattle.concurrent_queue.specs.Shared.{IsPartyOf};
 ghost use Rattle.counted_channel.specs.Channel.{EndParts, EndJoins, Ends, GivenBack, end_at};
 ghost use Rattle.counted_channel.specs.Counting.{IsEndSeat, stake_at};
 
+use crate::calls::WaitedQueue;
 use crate::counting::{EndSeat, SharedCounts, leave, part, unite};
 use crate::waiting::Awaited;
-use channel_calls::WaitedQueue;
 use concurrent_queue::Party;
 use std::alloc::Allocator;
 

@@ -6,8 +6,8 @@ ghost use Rattle.queue_steps.specs.declared.model.Call.TheVariants as call;
 ghost use Rattle.queue_steps.specs.declared.model.Reply.TheVariants as reply;
 ghost use Rattle.concurrent_queue.specs.Shared.{IsPartyOf, Calls};
 
+use crate::calls::{Popped, Pushed, WaitedQueue};
 use crate::waiting::Awaited;
-use channel_calls::{Popped, Pushed, WaitedQueue};
 use concurrent_queue::{NullTestable, Party, PopError, PushError};
 use event_count::Deadline;
 use std::alloc::Allocator;

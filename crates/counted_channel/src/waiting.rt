@@ -1,5 +1,5 @@
 //! What the ends of a channel wait for.
-use channel_calls::{Items, OwesEnd, Room, Waiters};
+use crate::calls::{Items, OwesEnd, Room, Waiters};
 use std::alloc::{AllocError, Global};
 
 /// What the ends of a channel wait for: receivers for items, senders for room. No other crate can name it.

@@ -4,8 +4,8 @@ ghost use Rattle.queue_steps.specs.declared.model.Reply.TheVariants as reply;
 ghost use Rattle.concurrent_queue.specs.Shared.{IsPartyOf, Calls};
 ghost use Rattle.counted_channel.specs.Channel.{force_sent};
 
+use crate::calls::{ForcePushed, Popped, Pushed, SendError, WaitedQueue};
 use crate::waiting::Awaited;
-use channel_calls::{ForcePushed, Popped, Pushed, SendError, WaitedQueue};
 use concurrent_queue::{NullTestable, Party, PopError, PushError};
 use event_count::Look;
 use std::alloc::Allocator;

@@ -1,7 +1,7 @@
 use Rattle.std.proofs.Common.{Ok, Err}
 use Rattle.queue_steps.specs.declared.model.Reply.TheVariants as reply
 use Rattle.queue_steps.specs.declared.errors.PopError.TheVariants as pop
-use Rattle.channel_calls.specs.Polled.{party_at}
+use Rattle.counted_channel.specs.QueueCalls.Polled.{party_at}
 use Rattle.counted_channel.proofs.Polls.{recv_answered, recv_empty, recv_busy, recv_taken}
 use Rattle.counted_channel.proofs.ends.Channel.poll_recv.Goals as goal
 use Rattle.counted_channel.proofs.ends.Channel.poll_recv.Goals.{in-Item, in-Closed, in-Empty, in-Taken, in-Busy}

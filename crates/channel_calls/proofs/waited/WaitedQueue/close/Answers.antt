@@ -1,5 +1,0 @@
-use Rattle.channel_calls.proofs.Closing.{close_sees}
-use Rattle.channel_calls.proofs.waited.WaitedQueue.close.Goals as goal
-
-pub owes_end-requires : goal.owes_end-requires
-owes_end-requires g c = record { seen = close_sees c.args.party.now c.close-closed.new.party c.close-closed.result c.close-closed.ensures }

@@ -1,4 +1,0 @@
-pub mod Calls
-pub mod Errors
-pub mod Looks
-pub mod Polled
