@@ -1,14 +1,9 @@
 -- Arguments that ask for no form, and how a form that they ask for ends.
 use Rattle.std.proofs.Common.{◌≢◌, ℕ, List, Option, Some, None, Result, Ok, Err, MatchResult, refl}
 use Rattle.std.specs.Io.KnownBytes.{Keeps}
-use Rattle.app_text.specs.KindNames.{mode_words, IsMode}
-use Rattle.app_text.specs.declared.faults.Fault.{Fault}
-use Rattle.app_text.specs.declared.faults.Fault.TheVariants as fault
-use Rattle.app_text.specs.declared.args.Mode.{Mode}
-use Rattle.app_text.specs.declared.args.Mode.TheVariants as mode
+use Rattle.app_text.specs.{KindNames.mode_words, KindNames.IsMode, declared.faults.Fault.Fault, declared.faults.Fault.Fault as fault, declared.args.Mode.Mode, declared.args.Mode.Mode as mode}
 use Rattle.app_command.specs.Ends.{AskFor, AskForMode, Does, Fails, IsDone, IsFaultOf}
-use Rattle.app_threads.specs.declared.sharing.Sharing.{Sharing}
-use Rattle.app_threads.specs.declared.verdict.Verdict.{Verdict}
+use Rattle.app_threads.specs.declared.{sharing.Sharing.Sharing, verdict.Verdict.Verdict}
 
 -- they name no form
 pub no_mode : (words : List (List ℕ)) → ((f : Mode) → IsMode f → mode_words f ≢ words) → AskForMode words → ⊥

@@ -1,10 +1,8 @@
 -- The items that are left are put, one by one.
 use Rattle.std.proofs.Common.{◌≡◌, ◌∙◌, ℕ, List, [], ◌∷◌, ◌++◌, codes, Option, Result, Ok, Err, sym, ap, append_assoc, append-nil, length, arith}
 use Rattle.std.specs.Fmt.{decimal}
-use Rattle.app_text.specs.declared.faults.Fault.{Fault}
-use Rattle.app_text.specs.Streams.{IsBegun, LeavesRest, Puts}
+use Rattle.app_text.specs.{declared.faults.Fault.Fault, Streams.IsBegun, Streams.LeavesRest, Streams.Puts, Items.items_text}
 use Rattle.app_text.proofs.Writing.{begun-more, rest-then, begun-then}
-use Rattle.app_text.specs.Items.{items_text}
 use Rattle.app_command.specs.Left.{left_text}
 
 -- of the line of these items, what stands before those that are left is put

@@ -1,12 +1,8 @@
 -- A script is played, and its replies are put, part by part.
 use Rattle.std.proofs.Common.{◌≡◌, ℕ, ◌+◌, take, drop, List, [], ◌∷◌, ◌++◌, Option, refl, sym, ap, subst, ◌∙◌, append_assoc, append-nil, inl}
-use Rattle.std.proofs.lemmas.List.{flat_map_more, take-append-drop}
-use Rattle.std.proofs.lemmas.Grind.{flat_map-append}
-use Rattle.queue_steps.specs.Sequential.{Owned, SequentialRun, sequential_reply, sequential_state, moved}
-use Rattle.queue_steps.specs.declared.model.Call.{Call}
-use Rattle.queue_steps.specs.declared.model.Reply.{Reply}
-use Rattle.app_text.specs.Replies.{reply_text, replies_text}
-use Rattle.app_text.specs.Streams.{IsBegun, LeavesRest}
+use Rattle.std.proofs.lemmas.{List.flat_map_more, List.take-append-drop, Grind.flat_map-append}
+use Rattle.queue_steps.specs.{Sequential.Owned, Sequential.SequentialRun, Sequential.sequential_reply, Sequential.sequential_state, Sequential.moved, declared.model.Call.Call, declared.model.Reply.Reply}
+use Rattle.app_text.specs.{Replies.reply_text, Replies.replies_text, Streams.IsBegun, Streams.LeavesRest}
 use Rattle.app_text.proofs.Writing.{begun-more, rest-then, begun-then, put_nothing, writes-begun, writes-first}
 use Rattle.exclusive_queue.proofs.SequentialRuns.{run_then}
 use Rattle.app_command.specs.Scripts.{PlaysAs, BeginsToPlay}

@@ -2,26 +2,11 @@
 use Rattle.std.proofs.Common.{◌≡◌, ℕ, ◌≤◌, List, [], ◌++◌, Option, Bool, true, false, nat_lt, Result, Ok, IsErr, refl, ap, subst, ◌∙◌, arith}
 use Rattle.std.specs.Option.{IfSome}
 use Rattle.std.proofs.lemmas.Bool.{ltb-false}
-use Rattle.queue_steps.specs.declared.sizes.TheConstants.{MAX_CAPACITY}
-use Rattle.queue_steps.specs.declared.steps.types.Kind.{Kind}
-use Rattle.queue_steps.specs.declared.steps.types.Kind.TheVariants as kind
-use Rattle.machine_replay.specs.Book.{Run, opening}
-use Rattle.machine_replay.specs.Conforms.{IsPeak, capacity_of as capacity_of_kind}
-use Rattle.machine_replay.specs.MachineRuns.{EndsAs, IsMachineRun}
-use Rattle.machine_replay.specs.Peaks.{peak_of}
-use Rattle.machine_replay.specs.Played.{IsMade, as_told}
-use Rattle.machine_replay.specs.Replays.{is_too_large}
-use Rattle.machine_replay.specs.declared.machine_run.MachineRun.{MachineRun}
-use Rattle.machine_replay.specs.declared.machine_run.RunEnd.{RunEnd}
-use Rattle.machine_memory.specs.declared.types.Event.{Event}
-use Rattle.machine_memory.specs.declared.types.Told.{Told}
-use Rattle.app_text.specs.KindNames.{capacity_of, queue_named}
-use Rattle.app_text.specs.declared.actions.ReplayLine.{ReplayLine}
-use Rattle.app_text.specs.declared.args.KindName.{KindName}
-use Rattle.app_command.specs.Reports.{IsReport, peak_text}
-use Rattle.app_command.specs.Left.{left_text}
-use Rattle.app_command.specs.Takes.{Takes}
-use Rattle.app_command.specs.Turns.{turns_from, events_of, turns_text}
+use Rattle.queue_steps.specs.declared.{sizes.TheConstants.MAX_CAPACITY, steps.types.Kind.Kind, steps.types.Kind.Kind as kind}
+use Rattle.machine_replay.specs.{Book.Run, Book.opening, Conforms.IsPeak, Conforms.capacity_of as capacity_of_kind, MachineRuns.EndsAs, MachineRuns.IsMachineRun, Peaks.peak_of, Played.IsMade, Played.as_told, Replays.is_too_large, declared.machine_run.MachineRun.MachineRun, declared.machine_run.RunEnd.RunEnd}
+use Rattle.machine_memory.specs.declared.types.{Event.Event, Told.Told}
+use Rattle.app_text.specs.{KindNames.capacity_of, KindNames.queue_named, declared.actions.ReplayLine.ReplayLine, declared.args.KindName.KindName}
+use Rattle.app_command.specs.{Reports.IsReport, Reports.peak_text, Left.left_text, Takes.Takes, Turns.turns_from, Turns.events_of, Turns.turns_text}
 
 -- a machine that ran has no more slots than a queue may have
 pub within_limit : {T E : Type 0} (k : Kind) (name : KindName) (r : Result T E) (x : T) → capacity_of_kind k ≡ capacity_of name → r ≡ Ok x → (is_too_large k ≡ true → IsErr r) → IfSome (capacity_of name) (λ size. size ≤ MAX_CAPACITY)

@@ -1,10 +1,7 @@
 -- The input was read, and what is told of it is written: the run is at its end.
 use Rattle.std.proofs.Common.{◌≡◌, ℕ, List, Option, Result, Ok, Err, MatchResult, OnErr, inl, inr}
 use Rattle.std.specs.Io.KnownBytes.{Appends}
-use Rattle.app_text.specs.Lines.{lines_of, AreRead}
-use Rattle.app_text.specs.declared.faults.Fault.{Fault}
-use Rattle.app_text.specs.declared.faults.Fault.TheVariants as fault
-use Rattle.app_text.specs.Streams.{IsBegun, IsInput}
+use Rattle.app_text.specs.{Lines.lines_of, Lines.AreRead, declared.faults.Fault.Fault, declared.faults.Fault.Fault as fault, Streams.IsBegun, Streams.IsInput}
 use Rattle.app_command.specs.Runs.{IsRun, IsRunFault, IsPartRunFault, IsBegunRun, IsPartFault, IsWritten, IsWriteFault}
 
 pub written : {V : Type 0} (IsValue : V → Type 0) (text_of : V → List ℕ) (IsTold : List V → List ℕ → Type 0) (known old new : Option (List ℕ)) (bytes : List ℕ) (values : List V) (text : List ℕ) (r : Result Unit Fault)

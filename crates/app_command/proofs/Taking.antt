@@ -1,17 +1,10 @@
 -- Turns of a run are taken one after another.
 use Rattle.std.proofs.Common.{◌≡◌, ◌∙◌, ℕ, zero, suc, ◌+◌, ◌<◌, ◌≤◌, List, [], ◌∷◌, ◌++◌, length, map, drop, drop-cons, add-one, get_or, replicate, append_assoc, append-nil, length-append, true, refl, sym, ap, subst, arith}
 use Rattle.std.proofs.lemmas.List.{drop_all}
-use Rattle.machine_replay.specs.MachineRuns.{Continues, IsSomeMachineRun, KeepsRun}
-use Rattle.machine_replay.specs.declared.machine_run.MachineRun.{MachineRun}
-use Rattle.machine_memory.specs.declared.types.Event.{Event}
-use Rattle.machine_memory.specs.declared.types.Event.TheVariants.{Step}
-use Rattle.machine_memory.specs.declared.types.Told.{Told}
-use Rattle.machine_memory.specs.declared.types.Told.TheVariants.{Skipped}
-use Rattle.app_text.specs.declared.actions.Action.TheVariants.{Run}
-use Rattle.app_text.specs.declared.actions.ReplayLine.{ReplayLine}
-use Rattle.app_command.specs.Takes.{Takes}
-use Rattle.app_command.specs.Turns.{skip_text, turn_count, turn_event, turn_text, turns_from, turns_text}
-use Rattle.app_command.specs.declared.turns.Turn.{Turn}
+use Rattle.machine_replay.specs.{MachineRuns.Continues, MachineRuns.IsSomeMachineRun, MachineRuns.KeepsRun, declared.machine_run.MachineRun.MachineRun}
+use Rattle.machine_memory.specs.declared.types.{Event.Event, Event.TheVariants.Step, Told.Told, Told.TheVariants.Skipped}
+use Rattle.app_text.specs.declared.actions.{Action.TheVariants.Run, ReplayLine.ReplayLine}
+use Rattle.app_command.specs.{Takes.Takes, Turns.skip_text, Turns.turn_count, Turns.turn_event, Turns.turn_text, Turns.turns_from, Turns.turns_text, declared.turns.Turn.Turn}
 
 turns_text-append : (xs ys : List Turn) (ms ns : List (Told ℕ)) → length ms ≡ length xs → turns_text (xs ++ ys) (ms ++ ns) ≡ turns_text xs ms ++ turns_text ys ns
 turns_text-append [] ys [] ns same = refl

@@ -1,19 +1,11 @@
 -- What a script prints is put part by part: the replies, the line of the blocks, and what is left.
 use Rattle.std.proofs.Common.{◌≡◌, ℕ, List, [], ◌++◌, Option, Result, Ok, Err, MatchResult, OnErr, refl, inr}
 use Rattle.std.specs.Io.KnownBytes.{Appends}
-use Rattle.queue_steps.specs.Sequential.{Owned, fresh}
-use Rattle.queue_steps.specs.declared.model.Call.{Call}
-use Rattle.app_text.specs.KindNames.{capacity_of}
-use Rattle.app_text.specs.Replies.{replies_text}
-use Rattle.app_text.specs.Streams.{IsBegun, LeavesRest}
-use Rattle.app_text.specs.declared.args.KindName.{KindName}
-use Rattle.app_text.specs.declared.faults.Fault.{Fault}
-use Rattle.app_text.specs.declared.faults.Fault.TheVariants as fault
+use Rattle.queue_steps.specs.{Sequential.Owned, Sequential.fresh, declared.model.Call.Call}
+use Rattle.app_text.specs.{KindNames.capacity_of, Replies.replies_text, Streams.IsBegun, Streams.LeavesRest, declared.args.KindName.KindName, declared.faults.Fault.Fault, declared.faults.Fault.Fault as fault}
 use Rattle.app_text.proofs.Writing.{begun-more, rest-then, begun-then, rest-all, rest-begun}
 use Rattle.app_command.proofs.Playing.{played_none, played_so}
-use Rattle.app_command.specs.Left.{left_text}
-use Rattle.app_command.specs.Runs.{IsWritten, IsPartWritten, IsWriteFault}
-use Rattle.app_command.specs.Scripts.{PlaysAs, BeginsToPlay, IsTranscript, blocks_text}
+use Rattle.app_command.specs.{Left.left_text, Runs.IsWritten, Runs.IsPartWritten, Runs.IsWriteFault, Scripts.PlaysAs, Scripts.BeginsToPlay, Scripts.IsTranscript, Scripts.blocks_text}
 
 -- the calls were played on the queue that was made, and nothing was held before
 pub record Played (k : KindName) (calls : List (Call ℕ)) (Q : Owned ℕ) (kept : List ℕ) (old now : Option (List ℕ)) : Type 0 where

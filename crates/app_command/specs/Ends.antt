@@ -1,23 +1,9 @@
 -- How the program may end.
 use Rattle.std.specs.Prelude.{◌≡◌, ◌⊎◌, ℕ, List, Option}
 use Rattle.std.specs.Io.KnownBytes.{Keeps}
-use Rattle.app_text.specs.Actions.{replay_line_text, IsReplayLine}
-use Rattle.app_text.specs.Calls.{call_text, IsCallOfWord}
-use Rattle.app_text.specs.KindNames.{mode_words, IsMode}
-use Rattle.app_text.specs.Faults.{fault_status}
-use Rattle.app_text.specs.declared.args.Mode.{Mode}
-use Rattle.app_text.specs.declared.args.Mode.TheVariants as mode
-use Rattle.app_text.specs.declared.faults.Fault.{Fault}
-use Rattle.app_text.specs.declared.faults.Fault.TheVariants as fault
-use Rattle.app_threads.specs.Counts.{IsCounted, IsCountsLine, IsReceived, IsReceivedText}
-use Rattle.app_threads.specs.Meetings.{Handshake, IsHandshakeText}
-use Rattle.app_command.specs.Reports.{IsReport}
-use Rattle.app_command.specs.Runs.{IsRun, IsRunFault, IsPartRunFault}
-use Rattle.app_command.specs.Scripts.{IsTranscript}
-use Rattle.app_threads.specs.Verdicts.{verdict_status, IsOutputFault}
-use Rattle.app_threads.specs.declared.sharing.Sharing.{Sharing}
-use Rattle.app_threads.specs.declared.verdict.Verdict.{Verdict}
-use Rattle.app_threads.specs.declared.verdict.Verdict.TheVariants as verdict
+use Rattle.app_text.specs.{Actions.replay_line_text, Actions.IsReplayLine, Calls.call_text, Calls.IsCallOfWord, KindNames.mode_words, KindNames.IsMode, Faults.fault_status, declared.args.Mode.Mode, declared.args.Mode.Mode as mode, declared.faults.Fault.Fault, declared.faults.Fault.Fault as fault}
+use Rattle.app_threads.specs.{Counts.IsCounted, Counts.IsCountsLine, Counts.IsReceived, Counts.IsReceivedText, Meetings.Handshake, Meetings.IsHandshakeText, Verdicts.verdict_status, Verdicts.IsOutputFault, declared.sharing.Sharing.Sharing, declared.verdict.Verdict.Verdict, declared.verdict.Verdict.Verdict as verdict}
+use Rattle.app_command.specs.{Reports.IsReport, Runs.IsRun, Runs.IsRunFault, Runs.IsPartRunFault, Scripts.IsTranscript}
 
 -- the arguments ask for this form
 abbrev pub AskFor : List (List ℕ) → Mode → Type 0

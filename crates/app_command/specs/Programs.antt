@@ -1,17 +1,9 @@
 -- How the program ends, by the arguments that the system gives it.
 use Rattle.std.specs.Prelude.{◌≡◌, ◌≢◌, ◌⊎◌, ℕ, List, [], Option, Result, Ok, Err, String, ⊤, drop, map, string_bytes}
-use Rattle.std.specs.Io.KnownBytes.{Keeps}
-use Rattle.std.specs.IoError.{error_kind}
-use Rattle.std.specs.Vec.Iter.{into_iter_items}
-use Rattle.std.specs.declared.io.Error.{Error}
-use Rattle.std.specs.declared.io.ErrorKind.TheVariants.{OutOfMemory}
-use Rattle.std.specs.declared.vec.IntoIter.{IntoIter}
-use Rattle.app_text.specs.Faults.{fault_status}
-use Rattle.app_text.specs.Given.{IsAskedBy, MayLackMemory}
-use Rattle.app_text.specs.declared.faults.Fault.TheVariants as fault
-use Rattle.app_threads.specs.declared.sharing.Sharing.TheVariants as sharing
-use Rattle.app_command.specs.declared.command.Exit.{Exit}
-use Rattle.app_command.specs.Ends.{IsEnd}
+use Rattle.std.specs.{Io.KnownBytes.Keeps, IoError.error_kind, Vec.Iter.into_iter_items, declared.io.Error.Error, declared.io.ErrorKind.TheVariants.OutOfMemory, declared.vec.IntoIter.IntoIter}
+use Rattle.app_text.specs.{Faults.fault_status, Given.IsAskedBy, Given.MayLackMemory, declared.faults.Fault.Fault as fault}
+use Rattle.app_threads.specs.declared.sharing.Sharing.{Sharing as sharing}
+use Rattle.app_command.specs.{declared.command.Exit.Exit, Ends.IsEnd}
 
 module _ {Z : Type 0} where
   -- the arguments are those by which it is asked, and the end is that of what they ask for

@@ -1,20 +1,11 @@
 -- What a replay prints.
 use Rattle.std.specs.Prelude.{◌≡◌, ℕ, ◌≤◌, List, [], ◌∷◌, ◌++◌, codes}
-use Rattle.std.specs.Option.{IfSome}
-use Rattle.std.specs.Fmt.{decimal}
+use Rattle.std.specs.{Option.IfSome, Fmt.decimal}
 use Rattle.queue_steps.specs.declared.sizes.TheConstants.{MAX_CAPACITY}
-use Rattle.machine_replay.specs.Book.{Book, Run, opening}
-use Rattle.machine_replay.specs.Conforms.{IsPeak}
-use Rattle.machine_replay.specs.Peaks.{peak_of}
-use Rattle.machine_replay.specs.Played.{IsMade, as_told}
-use Rattle.machine_memory.specs.declared.types.Peak.{Peak}
-use Rattle.machine_memory.specs.declared.types.Told.{Told}
-use Rattle.app_text.specs.KindNames.{capacity_of, queue_named}
-use Rattle.app_text.specs.declared.actions.ReplayLine.{ReplayLine}
-use Rattle.app_text.specs.declared.args.KindName.{KindName}
-use Rattle.app_text.specs.declared.args.KindName.TheVariants as kind
-use Rattle.app_command.specs.Left.{left_text}
-use Rattle.app_command.specs.Turns.{turns_from, events_of, turns_text}
+use Rattle.machine_replay.specs.{Book.Book, Book.Run, Book.opening, Conforms.IsPeak, Peaks.peak_of, Played.IsMade, Played.as_told}
+use Rattle.machine_memory.specs.declared.types.{Peak.Peak, Told.Told}
+use Rattle.app_text.specs.{KindNames.capacity_of, KindNames.queue_named, declared.actions.ReplayLine.ReplayLine, declared.args.KindName.KindName, declared.args.KindName.KindName as kind}
+use Rattle.app_command.specs.{Left.left_text, Turns.turns_from, Turns.events_of, Turns.turns_text}
 
 -- the line of the greatest number of blocks and its bound, which a queue without a capacity alone has
 abbrev pub peak_text : KindName → Peak → List ℕ

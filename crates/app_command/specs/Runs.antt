@@ -1,10 +1,7 @@
 -- A run of the program whatever the lines of its input say, and how it may end.
 use Rattle.std.specs.Prelude.{◌≡◌, ◌⊎◌, ℕ, List, Option}
 use Rattle.std.specs.Io.KnownBytes.{Appends, Keeps}
-use Rattle.app_text.specs.Lines.{lines_of, AreRead, IsFirstUnread}
-use Rattle.app_text.specs.Streams.{IsBegun, IsInput}
-use Rattle.app_text.specs.declared.faults.Fault.{Fault}
-use Rattle.app_text.specs.declared.faults.Fault.TheVariants as fault
+use Rattle.app_text.specs.{Lines.lines_of, Lines.AreRead, Lines.IsFirstUnread, Streams.IsBegun, Streams.IsInput, declared.faults.Fault.Fault, declared.faults.Fault.Fault as fault}
 
 -- each line of the input was read as a value, and a text that tells of the values was written
 pub record IsRun {V : Type 0} (IsValue : V → Type 0) (text_of : V → List ℕ) (IsTold : List V → List ℕ → Type 0) (known old new : Option (List ℕ)) : Type 0 where

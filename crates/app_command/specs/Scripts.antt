@@ -1,14 +1,8 @@
 -- A script: calls on a queue with one owner, and what is written of them.
 use Rattle.std.specs.Prelude.{◌≡◌, ℕ, List, [], ◌∷◌, ◌++◌, codes, Option}
 use Rattle.std.specs.Fmt.{decimal}
-use Rattle.queue_steps.specs.Sequential.{Owned, fresh, SequentialRun}
-use Rattle.queue_steps.specs.declared.model.Call.{Call}
-use Rattle.queue_steps.specs.declared.model.Reply.{Reply}
-use Rattle.app_text.specs.KindNames.{capacity_of}
-use Rattle.app_text.specs.Replies.{replies_text}
-use Rattle.app_text.specs.Streams.{IsBegun, LeavesRest}
-use Rattle.app_text.specs.declared.args.KindName.{KindName}
-use Rattle.app_text.specs.declared.args.KindName.TheVariants as kind
+use Rattle.queue_steps.specs.{Sequential.Owned, Sequential.fresh, Sequential.SequentialRun, declared.model.Call.Call, declared.model.Reply.Reply}
+use Rattle.app_text.specs.{KindNames.capacity_of, Replies.replies_text, Streams.IsBegun, Streams.LeavesRest, declared.args.KindName.KindName, declared.args.KindName.KindName as kind}
 use Rattle.app_command.specs.Left.{left_text}
 
 -- the calls lead from P to R, and their replies, one a line, were put behind what was held

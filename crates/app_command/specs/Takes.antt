@@ -1,12 +1,9 @@
 -- What turns make of a run of the machine, and of what is written.
 use Rattle.std.specs.Prelude.{◌≡◌, ℕ, List, ◌++◌, length, map}
 use Rattle.queue_steps.specs.declared.steps.types.Kind.{Kind}
-use Rattle.machine_replay.specs.MachineRuns.{IsMachineRun}
-use Rattle.machine_replay.specs.declared.machine_run.MachineRun.{MachineRun}
-use Rattle.machine_memory.specs.declared.types.Event.{Event}
-use Rattle.machine_memory.specs.declared.types.Told.{Told}
-use Rattle.app_command.specs.Turns.{turn_event, turns_text}
-use Rattle.app_command.specs.declared.turns.Turn.{Turn}
+use Rattle.machine_replay.specs.{MachineRuns.IsMachineRun, declared.machine_run.MachineRun.MachineRun}
+use Rattle.machine_memory.specs.declared.types.{Event.Event, Told.Told}
+use Rattle.app_command.specs.{Turns.turn_event, Turns.turns_text, declared.turns.Turn.Turn}
 
 -- something was told of each of these turns, which lead the run on to d; and that is written
 pub record Taken {A : Type 0} (turns : List Turn) (k : Kind) (parties : ℕ) (events : List (Event ℕ)) (told : List (Told ℕ)) (old : List ℕ) (d : MachineRun ℕ A) (new : List ℕ) : Type 0 where

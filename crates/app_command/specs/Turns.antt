@@ -1,18 +1,9 @@
 -- What the lines of a replay ask of the parties, turn by turn, and what is printed of it. A turn is what one line asks of one party, with the number of that line.
 use Rattle.std.specs.Prelude.{ℕ, ◌+◌, true, false, Option, Some, None, List, [], ◌∷◌, ◌++◌, map, replicate, codes}
 use Rattle.std.specs.Fmt.{decimal}
-use Rattle.queue_steps.specs.declared.sizes.TheConstants.{SOLO_STEPS}
-use Rattle.queue_steps.specs.declared.model.Reply.{Reply}
-use Rattle.machine_memory.specs.declared.types.Event.{Event}
-use Rattle.machine_memory.specs.declared.types.Event.TheVariants.{Begin, Step}
-use Rattle.machine_memory.specs.declared.types.EffectKind.{EffectKind}
-use Rattle.machine_memory.specs.declared.types.Told.{Told}
-use Rattle.machine_memory.specs.declared.types.Told.TheVariants.{Skipped, Ran}
-use Rattle.app_text.specs.Replies.{reply_text}
-use Rattle.app_text.specs.declared.actions.Action.{Action}
-use Rattle.app_text.specs.declared.actions.Action.TheVariants as action
-use Rattle.app_text.specs.declared.actions.ReplayLine.{ReplayLine}
-use Rattle.app_text.specs.Effects.{effect_text}
+use Rattle.queue_steps.specs.declared.{sizes.TheConstants.SOLO_STEPS, model.Reply.Reply}
+use Rattle.machine_memory.specs.declared.types.{Event.Event, Event.TheVariants.Begin, Event.TheVariants.Step, EffectKind.EffectKind, Told.Told, Told.TheVariants.Skipped, Told.TheVariants.Ran}
+use Rattle.app_text.specs.{Replies.reply_text, declared.actions.Action.Action, declared.actions.Action.Action as action, declared.actions.ReplayLine.ReplayLine, Effects.effect_text}
 use Rattle.app_command.specs.declared.turns.Turn.{Turn}
 
 abbrev pub event_by : ℕ → Action → Event ℕ

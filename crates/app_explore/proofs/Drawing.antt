@@ -1,14 +1,9 @@
 -- The columns and the rows of a picture, one more.
 use Rattle.std.proofs.Common.{◌≡◌, ◌∙◌, ℕ, zero, suc, ◌+◌, ◌-◌, ◌<◌, ◌≤◌, nat_lt, drop, Option, List, [], ◌∷◌, ◌++◌, OnOk, Ok, Err, Result, if◌then◌else◌, codes, length, map, replicate, take, sym, ap, refl, arith, append_assoc, append-nil}
-use Rattle.std.specs.Prelude.{flat_map, slice_index_or}
-use Rattle.std.specs.Fmt.{decimal}
-use Rattle.std.specs.List.{range_with_len}
-use Rattle.std.specs.Result.{is_ok}
-use Rattle.std.proofs.lemmas.Bool.{le-ltb, lt-ltb}
-use Rattle.std.proofs.lemmas.List.{at_drop_all, at_drop_more, flat_map_more, get_or-map, length-map, take_more}
+use Rattle.std.specs.{Prelude.flat_map, Prelude.slice_index_or, Fmt.decimal, List.range_with_len, Result.is_ok}
+use Rattle.std.proofs.lemmas.{Bool.le-ltb, Bool.lt-ltb, List.at_drop_all, List.at_drop_more, List.flat_map_more, List.get_or-map, List.length-map, List.take_more}
 use Rattle.queue_steps.specs.declared.steps.types.Local.{Local}
-use Rattle.machine_memory.specs.declared.types.Event.{Event}
-use Rattle.machine_memory.specs.declared.types.Told.{Told}
+use Rattle.machine_memory.specs.declared.types.{Event.Event, Told.Told}
 use Rattle.machine_explore.specs.Traces.{Seen}
 use Rattle.app_explore.specs.Lanes.{cell_text, column, columns, head_text, move_text, told_text, widest}
 

@@ -1,12 +1,9 @@
 -- The lines of a schedule make its moves.
 use Rattle.std.proofs.Common.{◌≡◌, ℕ, zero, suc, ◌+◌, ◌-◌, ◌<◌, ◌≤◌, nat_lt, Bool, true, false, cond, List, [], ◌∷◌, take, drop, refl, sym, ap, subst, arith}
-use Rattle.std.proofs.lemmas.Bool.{eqb-true, ltb-true, ltb-false}
-use Rattle.std.proofs.lemmas.List.{take-append-drop}
+use Rattle.std.proofs.lemmas.{Bool.eqb-true, Bool.ltb-true, Bool.ltb-false, List.take-append-drop}
 use Rattle.queue_steps.specs.declared.sizes.TheConstants.{SOLO_STEPS}
-use Rattle.machine_memory.specs.declared.types.Event.{Event}
-use Rattle.machine_memory.specs.declared.types.Event.TheVariants.{Begin, Step}
-use Rattle.app_text.specs.declared.actions.Action.TheVariants as action
-use Rattle.app_text.specs.declared.actions.ReplayLine.{ReplayLine}
+use Rattle.machine_memory.specs.declared.types.Event.{Event, TheVariants.Begin, TheVariants.Step}
+use Rattle.app_text.specs.declared.actions.{Action.Action as action, ReplayLine.ReplayLine}
 use Rattle.machine_explore.specs.Traces.{Seen}
 use Rattle.app_explore.specs.Schedules.{ends_call, party_of, plain_line, is_step_of, row_length, is_run, more_moves, move_lines, IsRow, Makes, MakeAll}
 

@@ -1,12 +1,9 @@
 -- The lines of a schedule, one by one.
 use Rattle.std.proofs.Common.{◌≡◌, ◌∙◌, ℕ, zero, suc, ◌+◌, ◌-◌, ◌<◌, ◌≤◌, ◌⊎◌, nat_lt, inl, inr, Bool, true, false, cond, List, [], ◌∷◌, length, ◌++◌, append_assoc, drop, get_or, Err, Ok, OnOk, Result, refl, sym, ap, subst, arith}
-use Rattle.std.proofs.lemmas.Bool.{ltb-true, ltb-false}
-use Rattle.std.proofs.lemmas.List.{at_drop_all, at_drop_more, length-drop}
+use Rattle.std.proofs.lemmas.{Bool.ltb-true, Bool.ltb-false, List.at_drop_all, List.at_drop_more, List.length-drop}
 use Rattle.std.specs.Fmt.{decimal}
-use Rattle.app_text.specs.Actions.{action_text, replay_line_text}
+use Rattle.app_text.specs.{Actions.action_text, Actions.replay_line_text, declared.actions.Action.Action as action, declared.actions.ReplayLine.ReplayLine}
 use Rattle.queue_steps.specs.declared.sizes.TheConstants.{SOLO_STEPS}
-use Rattle.app_text.specs.declared.actions.Action.TheVariants as action
-use Rattle.app_text.specs.declared.actions.ReplayLine.{ReplayLine}
 use Rattle.machine_explore.specs.Traces.{Seen}
 use Rattle.app_explore.specs.Schedules.{ends_call, party_of, plain_line, is_step_of, row_length, is_run, first_line, more_moves, lines_text, move_lines}
 

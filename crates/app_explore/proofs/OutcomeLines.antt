@@ -2,8 +2,7 @@
 use Rattle.std.proofs.Common.{◌≡◌, ◌∙◌, ◌+◌, ◌<◌, ◌++◌, ◌∷◌, [], ℕ, suc, List, length, map, take, sym, ap, arith, append_assoc, append-nil}
 use Rattle.std.specs.Prelude.{slice_index_or}
 use Rattle.std.proofs.lemmas.List.{length-map, length-take-le, map_more}
-use Rattle.app_explore.specs.Listings.{outcome_lines}
-use Rattle.app_explore.specs.Outcomes.{outcome_line}
+use Rattle.app_explore.specs.{Listings.outcome_lines, Outcomes.outcome_line}
 
 outcome_lines-more : (os ts : List (List ℕ)) (n : ℕ) (o t : List ℕ) → length ts ≡ length os → outcome_lines n (os ++ o ∷ []) (ts ++ t ∷ []) ≡ outcome_lines n os ts ++ outcome_line (n + length os) o t
 outcome_lines-more [] [] n o t same = append-nil (outcome_line n o t) ∙ ap (λ k. outcome_line k o t) (omega arith)

@@ -1,19 +1,11 @@
 -- The lines of a program, read back.
 use Rattle.std.proofs.Common.{◌≡◌, ◌≢◌, ℕ, ◌+◌, ◌<◌, ◌≤◌, List, [], ◌∷◌, ◌++◌, codes, length, get_or, refl, sym, ◌∙◌, ap, subst, arith, append_assoc, length-append, IfOk, Result, Ok, Err}
-use Rattle.std.proofs.lemmas.List.{append-nil}
-use Rattle.std.proofs.lemmas.Fmt.{decimal_digit}
-use Rattle.std.specs.Fmt.{decimal}
-use Rattle.std.specs.List.{AllByRecursion}
-use Rattle.queue_steps.specs.declared.model.Call.{Call}
-use Rattle.queue_steps.specs.declared.model.Call.TheVariants as call
+use Rattle.std.proofs.lemmas.{List.append-nil, Fmt.decimal_digit}
+use Rattle.std.specs.{Fmt.decimal, List.AllByRecursion}
+use Rattle.queue_steps.specs.declared.model.Call.{Call, Call as call}
 use Rattle.app_text.specs.Lines.{lines_of}
-use Rattle.app_explore.specs.Parsing.{IsParsing}
-use Rattle.app_explore.specs.declared.limits.TheConstants.{MOST_PARTIES, MOST_CALLS, MOST_CALLS_BEFORE}
+use Rattle.app_explore.specs.{Parsing.IsParsing, declared.limits.TheConstants.MOST_PARTIES, declared.limits.TheConstants.MOST_CALLS, declared.limits.TheConstants.MOST_CALLS_BEFORE, Faults.IsCallsFault, Faults.IsPartyFault, declared.read_faults.LineFault.LineFault, declared.read_faults.LineFault.LineFault as reason, Reads.IsReadAs, Reads.BeginsProgram, Reads.IsFirstWrong, Reads.HasNoBefore}
 use Rattle.app_explore.specs.Programs.{calls_text, before_line, before_lines, party_line, party_lines, program_lines, IsCalls, IsPartyCalls, IsBefore, IsProgram}
-use Rattle.app_explore.specs.Faults.{IsCallsFault, IsPartyFault}
-use Rattle.app_explore.specs.declared.read_faults.LineFault.{LineFault}
-use Rattle.app_explore.specs.declared.read_faults.LineFault.TheVariants as reason
-use Rattle.app_explore.specs.Reads.{IsReadAs, BeginsProgram, IsFirstWrong, HasNoBefore}
 
 -- why the text behind the party's number is that of no calls is why the line is not the party's
 party_fault : (n : ℕ) (line spelled : List ℕ) (why : LineFault) → line ≡ decimal n ++ codes ":" ++ spelled → IsCallsFault MOST_CALLS spelled why → IsPartyFault n line why

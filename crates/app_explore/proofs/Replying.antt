@@ -1,12 +1,10 @@
 -- The text of an outcome is written piece by piece.
 use Rattle.std.proofs.Common.{◌≡◌, ◌∙◌, ℕ, ◌+◌, ◌<◌, ◌≤◌, List, [], ◌∷◌, ◌++◌, length, map, take, get_or, codes, OnOk, Result, Ok, Err, refl, sym, ap, subst, arith, append_assoc}
 use Rattle.std.proofs.lemmas.List.{append-nil, length-map, length-take-le, map_more, take_all, take_more}
-use Rattle.std.specs.Fmt.{decimal}
-use Rattle.std.specs.List.{join_with_byte}
+use Rattle.std.specs.{Fmt.decimal, List.join_with_byte}
 use Rattle.queue_steps.specs.declared.model.Reply.{Reply}
-use Rattle.app_explore.specs.Lists.{listed}
+use Rattle.app_explore.specs.{Lists.listed, Outcomes.lead_text, Outcomes.replies_text, Outcomes.party_text, Outcomes.parties_text, Outcomes.outcome_text}
 use Rattle.app_text.specs.Items.{items_text}
-use Rattle.app_explore.specs.Outcomes.{lead_text, replies_text, party_text, parties_text, outcome_text}
 
 joined_more : (ps : List (List ℕ)) (t : List ℕ) → join_with_byte 59 (ps ++ (32 ∷ t) ∷ []) ≡ join_with_byte 59 ps ++ (lead_text (length ps) ++ t)
 joined_more [] t = refl

@@ -1,7 +1,6 @@
 -- The lines of who waits for whom, one more.
 use Rattle.std.proofs.Common.{◌≡◌, ◌∙◌, ℕ, suc, ◌+◌, ◌<◌, List, [], ◌∷◌, ◌++◌, length, map, take, sym, ap, arith, append_assoc, append-nil, codes, if◌then◌else◌, refl, Err, Ok, OnOk, Result}
-use Rattle.std.specs.Result.{is_ok}
-use Rattle.std.specs.Prelude.{slice_index_or}
+use Rattle.std.specs.{Result.is_ok, Prelude.slice_index_or}
 use Rattle.std.proofs.lemmas.List.{length-map, length-take-le, map_more}
 use Rattle.machine_explore.specs.Waiting.{Waiting}
 use Rattle.app_explore.specs.WaitLines.{wait_line, wait_lines}

@@ -1,17 +1,8 @@
 -- How the explorer may end.
 use Rattle.std.specs.Prelude.{◌≡◌, ◌⊎◌, ℕ, List, Option, Result, String}
-use Rattle.std.specs.Io.KnownBytes.{Appends, Keeps}
-use Rattle.std.specs.declared.io.Error.{Error}
-use Rattle.std.specs.declared.vec.IntoIter.{IntoIter}
-use Rattle.app_text.specs.Given.{IsAskedBy, MayLackMemory}
-use Rattle.app_text.specs.Streams.{IsBegun, IsInput}
-use Rattle.app_text.specs.declared.faults.Fault.TheVariants as fault
-use Rattle.app_explore.specs.Listings.{MayStop, IsTold}
-use Rattle.app_explore.specs.Requests.{IsRequest, IsRequestFault, request_words}
-use Rattle.app_explore.specs.Stops.{stop_status}
-use Rattle.app_explore.specs.declared.args.Request.{Request}
-use Rattle.app_explore.specs.declared.faults.Stop.{Stop}
-use Rattle.app_explore.specs.declared.faults.Stop.TheVariants as stop
+use Rattle.std.specs.{Io.KnownBytes.Appends, Io.KnownBytes.Keeps, declared.io.Error.Error, declared.vec.IntoIter.IntoIter}
+use Rattle.app_text.specs.{Given.IsAskedBy, Given.MayLackMemory, Streams.IsBegun, Streams.IsInput, declared.faults.Fault.Fault as fault}
+use Rattle.app_explore.specs.{Listings.MayStop, Listings.IsTold, Requests.IsRequest, Requests.IsRequestFault, Requests.request_words, Stops.stop_status, declared.args.Request.Request, declared.faults.Stop.Stop, declared.faults.Stop.Stop as stop}
 
 -- the arguments ask for this
 abbrev pub AskFor : List (List ℕ) → Request → Type 0

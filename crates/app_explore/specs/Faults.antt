@@ -3,10 +3,7 @@ use Rattle.std.specs.Prelude.{◌≡◌, ◌≢◌, ℕ, ◌<◌, ◌≤◌, Lis
 use Rattle.std.specs.Fmt.{decimal}
 use Rattle.queue_steps.specs.declared.model.Call.{Call}
 use Rattle.app_text.specs.Calls.{IsCallOfWord}
-use Rattle.app_explore.specs.Programs.{parts_of, spaced_call}
-use Rattle.app_explore.specs.declared.read_faults.LineFault.{LineFault}
-use Rattle.app_explore.specs.declared.read_faults.LineFault.TheVariants as wrong
-use Rattle.app_explore.specs.declared.limits.TheConstants.{MOST_PARTIES, MOST_CALLS}
+use Rattle.app_explore.specs.{Programs.parts_of, Programs.spaced_call, declared.read_faults.LineFault.LineFault, declared.read_faults.LineFault.LineFault as wrong, declared.limits.TheConstants.MOST_PARTIES, declared.limits.TheConstants.MOST_CALLS}
 
 abbrev pub line_fault_text : LineFault → List ℕ
 line_fault_text wrong.Party = codes "party: a line each, from 0 on, in order"

@@ -1,19 +1,11 @@
 -- A schedule as a picture: a column for each party, a row for each of its moves, and the list beside it.
 use Rattle.std.specs.Prelude.{ℕ, ◌-◌, ◌==◌, nat_lt, true, false, if◌then◌else◌, Option, Some, None, List, [], ◌∷◌, ◌++◌, codes, flat_map, length, map, replicate}
-use Rattle.std.specs.Fmt.{decimal}
-use Rattle.std.specs.List.{range_with_len}
+use Rattle.std.specs.{Fmt.decimal, List.range_with_len}
 use Rattle.queue_steps.specs.declared.steps.types.Local.{Local}
 use Rattle.machine_replay.specs.Conforms.{party_of}
-use Rattle.machine_memory.specs.declared.types.Event.{Event}
-use Rattle.machine_memory.specs.declared.types.Event.TheVariants.{Begin, Step}
-use Rattle.machine_memory.specs.declared.types.Told.{Told}
-use Rattle.machine_memory.specs.declared.types.Told.TheVariants.{Skipped, Ran}
+use Rattle.machine_memory.specs.{declared.types.Event.Event, declared.types.Event.TheVariants.Begin, declared.types.Event.TheVariants.Step, declared.types.Told.Told, declared.types.Told.TheVariants.Skipped, declared.types.Told.TheVariants.Ran, Places.label_text}
 use Rattle.machine_explore.specs.Traces.{Seen}
-use Rattle.app_text.specs.Calls.{call_text}
-use Rattle.app_text.specs.Effects.{effect_text}
-use Rattle.app_text.specs.Items.{items_text}
-use Rattle.app_text.specs.Replies.{reply_text}
-use Rattle.machine_memory.specs.Places.{label_text}
+use Rattle.app_text.specs.{Calls.call_text, Effects.effect_text, Items.items_text, Replies.reply_text}
 
 -- what the party does: the call that it begins, or the label of its step, and whether the step's request is refused
 abbrev pub move_text : Event ℕ → Option (Local ℕ) → List ℕ

@@ -1,27 +1,10 @@
 -- What is told of a program.
 use Rattle.std.specs.Prelude.{◌≡◌, ℕ, Option, None, Some, ◌+◌, ◌-◌, ◌<◌, Bool, List, [], ◌∷◌, ◌++◌, length, map, slice_get}
 use Rattle.std.specs.List.{AllZip}
-use Rattle.queue_steps.specs.declared.model.Call.{Call}
-use Rattle.queue_steps.specs.declared.steps.types.Kind.{Kind}
-use Rattle.app_text.specs.Lines.{lines_of}
-use Rattle.app_text.specs.KindNames.{queue_named}
-use Rattle.app_text.specs.declared.faults.Fault.TheVariants as fault
-use Rattle.machine_explore.specs.Certified.{IsOutcomeOf}
-use Rattle.machine_explore.specs.Explored.{HasNoOther}
-use Rattle.machine_explore.specs.Positions.{Outcome}
-use Rattle.machine_explore.specs.Traces.{Course, IsTraceOf}
-use Rattle.machine_explore.specs.declared.schedule.Move.{Move}
-use Rattle.app_explore.specs.Lanes.{lanes_text}
-use Rattle.app_explore.specs.Outcomes.{AreInOrder, outcome_line, text_of}
-use Rattle.app_explore.specs.Reads.{IsReadAs, IsFirstWrong}
-use Rattle.app_explore.specs.Schedules.{MakeAll, move_lines, schedule_text}
-use Rattle.app_explore.specs.Waits.{HasFewerWaits, IsWaitList, IsWaitSchedule}
-use Rattle.app_explore.specs.Tails.{Tail, tail_line, last_text, without_order}
-use Rattle.app_explore.specs.declared.args.Request.{Request}
-use Rattle.app_explore.specs.declared.args.Wanted.{Wanted}
-use Rattle.app_explore.specs.declared.args.Wanted.TheVariants as wanted
-use Rattle.app_explore.specs.declared.faults.Stop.{Stop}
-use Rattle.app_explore.specs.declared.faults.Stop.TheVariants as stop
+use Rattle.queue_steps.specs.declared.{model.Call.Call, steps.types.Kind.Kind}
+use Rattle.app_text.specs.{Lines.lines_of, KindNames.queue_named, declared.faults.Fault.Fault as fault}
+use Rattle.machine_explore.specs.{Certified.IsOutcomeOf, Explored.HasNoOther, Positions.Outcome, Traces.Course, Traces.IsTraceOf, declared.schedule.Move.Move}
+use Rattle.app_explore.specs.{Lanes.lanes_text, Outcomes.AreInOrder, Outcomes.outcome_line, Outcomes.text_of, Reads.IsReadAs, Reads.IsFirstWrong, Schedules.MakeAll, Schedules.move_lines, Schedules.schedule_text, Waits.HasFewerWaits, Waits.IsWaitList, Waits.IsWaitSchedule, Tails.Tail, Tails.tail_line, Tails.last_text, Tails.without_order, declared.args.Request.Request, declared.args.Wanted.Wanted, declared.args.Wanted.Wanted as wanted, declared.faults.Stop.Stop, declared.faults.Stop.Stop as stop}
 
 -- the lines of these outcomes, by their texts, of which the first has the number n, each with its tail
 abbrev pub outcome_lines : ℕ → List (List ℕ) → List (List ℕ) → List ℕ

@@ -1,14 +1,9 @@
 -- What is printed of outcomes.
 use Rattle.std.specs.Prelude.{◌≡◌, ℕ, zero, suc, ◌+◌, List, [], ◌∷◌, ◌++◌, codes, length}
-use Rattle.std.specs.Fmt.{decimal}
-use Rattle.std.specs.declared.cmp.Ordering.TheVariants.{Less}
-use Rattle.std.specs.Ordering.{nat_cmp}
-use Rattle.std.specs.Cmp.Lexicographic.{slice_cmp}
-use Rattle.std.specs.List.{AllAdjacentBelow}
+use Rattle.std.specs.{Fmt.decimal, declared.cmp.Ordering.TheVariants.Less, Ordering.nat_cmp, Cmp.Lexicographic.slice_cmp, List.AllAdjacentBelow}
 use Rattle.queue_steps.specs.declared.model.Reply.{Reply}
 use Rattle.machine_explore.specs.Positions.{Outcome}
-use Rattle.app_text.specs.Items.{items_text}
-use Rattle.app_text.specs.Replies.{reply_text}
+use Rattle.app_text.specs.{Items.items_text, Replies.reply_text}
 use Rattle.app_explore.specs.Lists.{listed}
 
 -- what stands before the reply at this place

@@ -1,11 +1,9 @@
 -- The lines of a small program. It is given by the calls that are made before the parties begin, and by the calls of each party.
 use Rattle.std.specs.Prelude.{ℕ, ◌+◌, ◌<◌, ◌≤◌, ◌==◌, List, [], ◌∷◌, ◌++◌, codes, length}
-use Rattle.std.specs.List.{AllByRecursion, slice_split}
-use Rattle.std.specs.Fmt.{decimal}
+use Rattle.std.specs.{List.AllByRecursion, List.slice_split, Fmt.decimal}
 use Rattle.queue_steps.specs.declared.model.Call.{Call}
 use Rattle.app_text.specs.Calls.{call_text, IsCallOfWord}
-use Rattle.app_explore.specs.Lists.{listed}
-use Rattle.app_explore.specs.declared.limits.TheConstants.{MOST_PARTIES, MOST_CALLS, MOST_CALLS_BEFORE}
+use Rattle.app_explore.specs.{Lists.listed, declared.limits.TheConstants.MOST_PARTIES, declared.limits.TheConstants.MOST_CALLS, declared.limits.TheConstants.MOST_CALLS_BEFORE}
 
 -- a call behind a space
 abbrev pub spaced_call : Call ℕ → List ℕ

@@ -1,9 +1,7 @@
 -- What reading the lines of a program finds.
 use Rattle.std.specs.Prelude.{◌≡◌, ◌≢◌, ℕ, ◌+◌, List, [], ◌∷◌, ◌++◌, codes, length}
 use Rattle.queue_steps.specs.declared.model.Call.{Call}
-use Rattle.app_explore.specs.Programs.{program_lines, IsProgram}
-use Rattle.app_explore.specs.declared.read_faults.ReadFault.{ReadFault}
-use Rattle.app_explore.specs.declared.read_faults.ReadFault.TheVariants as fault
+use Rattle.app_explore.specs.{Programs.program_lines, Programs.IsProgram, declared.read_faults.ReadFault.ReadFault, declared.read_faults.ReadFault.ReadFault as fault}
 
 -- these are the lines of this program
 pub record IsReadAs (lines : List (List ℕ)) (before : List (Call ℕ)) (parties : List (List (Call ℕ))) : Type 0 where

@@ -1,16 +1,8 @@
 -- The words that ask for something.
 use Rattle.std.specs.Prelude.{◌≡◌, ◌⊎◌, ℕ, ◌<◌, List, [], ◌∷◌, ◌++◌, codes, Bool, true, false, get_or}
 use Rattle.std.specs.Fmt.{decimal}
-use Rattle.app_text.specs.KindNames.{kind_text, IsKindName}
-use Rattle.app_text.specs.Reading.{IsWord}
-use Rattle.app_text.specs.declared.args.KindName.{KindName}
-use Rattle.app_text.specs.declared.args.KindName.TheVariants as kind
-use Rattle.app_explore.specs.Usage.{IsKindFault, IsNoNumber}
-use Rattle.app_explore.specs.declared.args.Request.{Request}
-use Rattle.app_explore.specs.declared.args.Wanted.{Wanted}
-use Rattle.app_explore.specs.declared.args.Wanted.TheVariants as wanted
-use Rattle.app_explore.specs.declared.usage.UsageFault.{UsageFault}
-use Rattle.app_explore.specs.declared.usage.UsageFault.TheVariants as usage
+use Rattle.app_text.specs.{KindNames.kind_text, KindNames.IsKindName, Reading.IsWord, declared.args.KindName.KindName, declared.args.KindName.KindName as kind}
+use Rattle.app_explore.specs.{Usage.IsKindFault, Usage.IsNoNumber, declared.args.Request.Request, declared.args.Wanted.Wanted, declared.args.Wanted.Wanted as wanted, declared.usage.UsageFault.UsageFault, declared.usage.UsageFault.UsageFault as usage}
 
 -- the word behind the kind that lets blocks be refused
 abbrev pub refuse_words : Bool → List (List ℕ)

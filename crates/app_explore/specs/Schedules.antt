@@ -1,16 +1,9 @@
 -- The lines of a replay that make a schedule happen.
 use Rattle.std.specs.Prelude.{◌≡◌, ◌≤◌, map, replicate, ℕ, zero, suc, ◌+◌, ◌-◌, ◌==◌, Some, nat_lt, if◌then◌else◌, Bool, true, false, List, [], ◌∷◌, ◌++◌, flat_map}
-use Rattle.queue_steps.specs.declared.sizes.TheConstants.{SOLO_STEPS}
-use Rattle.queue_steps.specs.declared.model.Call.{Call}
-use Rattle.machine_memory.specs.declared.types.Event.{Event}
-use Rattle.machine_memory.specs.declared.types.Event.TheVariants.{Begin, Step}
-use Rattle.machine_memory.specs.declared.types.Told.{Told}
-use Rattle.machine_memory.specs.declared.types.Told.TheVariants.{Ran}
+use Rattle.queue_steps.specs.declared.{sizes.TheConstants.SOLO_STEPS, model.Call.Call}
+use Rattle.machine_memory.specs.declared.types.{Event.Event, Event.TheVariants.Begin, Event.TheVariants.Step, Told.Told, Told.TheVariants.Ran}
 pub use Rattle.machine_replay.specs.Conforms.{party_of}
-use Rattle.app_text.specs.Actions.{replay_line_text}
-use Rattle.app_text.specs.declared.actions.Action.{Action}
-use Rattle.app_text.specs.declared.actions.Action.TheVariants as action
-use Rattle.app_text.specs.declared.actions.ReplayLine.{ReplayLine}
+use Rattle.app_text.specs.{Actions.replay_line_text, declared.actions.Action.Action, declared.actions.Action.Action as action, declared.actions.ReplayLine.ReplayLine}
 use Rattle.machine_explore.specs.Traces.{Seen}
 
 -- lines, each with its end

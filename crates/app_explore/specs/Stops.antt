@@ -1,14 +1,9 @@
 -- What is written of a stop, and the status that it ends with.
 use Rattle.std.specs.Prelude.{ℕ, List, ◌∷◌, ◌++◌, codes}
 use Rattle.std.specs.Fmt.{decimal}
-use Rattle.app_text.specs.Faults.{fault_text, fault_status}
-use Rattle.app_text.specs.declared.faults.Fault.TheVariants as fault
-use Rattle.app_explore.specs.Faults.{line_fault_text}
-use Rattle.app_explore.specs.Usage.{usage_text}
-use Rattle.machine_explore.specs.declared.search.faults.SearchFault.{SearchFault}
-use Rattle.machine_explore.specs.declared.search.faults.SearchFault.TheVariants as sought
-use Rattle.app_explore.specs.declared.faults.Stop.{Stop}
-use Rattle.app_explore.specs.declared.faults.Stop.TheVariants as stop
+use Rattle.app_text.specs.{Faults.fault_text, Faults.fault_status, declared.faults.Fault.Fault as fault}
+use Rattle.app_explore.specs.{Faults.line_fault_text, Usage.usage_text, declared.faults.Stop.Stop, declared.faults.Stop.Stop as stop}
+use Rattle.machine_explore.specs.declared.search.faults.SearchFault.{SearchFault, SearchFault as sought}
 
 abbrev pub stop_text : Stop → List ℕ
 stop_text (stop.Usage why) = codes "usage: queue_explore KIND [refuse] [schedule N | lanes N | waits [N]]" ++ 10 ∷ codes "reads: [before: CALLS] 0: CALLS 1: CALLS .., a line each; CALLS is CALL; CALL ..; CALL is push N, force N, pop, close, is_closed, is_empty, is_full, len or capacity" ++ 10 ∷ usage_text why

@@ -2,8 +2,7 @@
 use Rattle.std.specs.Prelude.{◌≡◌, ◌≢◌, ℕ, List, ◌++◌, codes}
 use Rattle.std.specs.Fmt.{decimal}
 use Rattle.app_text.specs.KindNames.{IsCapacity}
-use Rattle.app_explore.specs.declared.usage.UsageFault.{UsageFault}
-use Rattle.app_explore.specs.declared.usage.UsageFault.TheVariants as usage
+use Rattle.app_explore.specs.declared.usage.UsageFault.{UsageFault, UsageFault as usage}
 
 abbrev pub usage_text : UsageFault → List ℕ
 usage_text usage.WordCount = codes "words: too few or too many"

@@ -2,8 +2,7 @@
 use Rattle.std.specs.Prelude.{ℕ, ◌+◌, Option, Some, None, List, [], ◌∷◌, ◌++◌, codes, length}
 use Rattle.std.specs.Fmt.{decimal}
 use Rattle.queue_steps.specs.declared.model.Call.{Call}
-use Rattle.machine_explore.specs.declared.waiting.Side.{Side}
-use Rattle.machine_explore.specs.Waiting.{Waiting}
+use Rattle.machine_explore.specs.{declared.waiting.Side.Side, Waiting.Waiting}
 use Rattle.app_text.specs.Calls.{call_text}
 use Rattle.machine_memory.specs.Places.{label_text}
 

@@ -1,13 +1,9 @@
 -- Who waits for whom in a program.
 use Rattle.std.specs.Prelude.{◌≡◌, ℕ, ◌-◌, ◌<◌, Bool, Some, List, length, map, slice_get}
 use Rattle.std.specs.List.{All}
-use Rattle.queue_steps.specs.declared.model.Call.{Call}
-use Rattle.queue_steps.specs.declared.steps.types.Kind.{Kind}
-use Rattle.machine_explore.specs.declared.schedule.Move.{Move}
-use Rattle.machine_explore.specs.Waiting.{HasNoOtherWait, IsWaitOf, Waiting}
-use Rattle.app_explore.specs.Outcomes.{AreInOrder}
-use Rattle.app_explore.specs.Schedules.{MakeAll, move_lines, schedule_text}
-use Rattle.app_explore.specs.WaitLines.{wait_text, waits_text}
+use Rattle.queue_steps.specs.declared.{model.Call.Call, steps.types.Kind.Kind}
+use Rattle.machine_explore.specs.{declared.schedule.Move.Move, Waiting.HasNoOtherWait, Waiting.IsWaitOf, Waiting.Waiting}
+use Rattle.app_explore.specs.{Outcomes.AreInOrder, Schedules.MakeAll, Schedules.move_lines, Schedules.schedule_text, WaitLines.wait_text, WaitLines.waits_text}
 
 -- a schedule shows that the one waits for the other at its end
 abbrev pub IsShownWait : Kind → Bool → List (Call ℕ) → List (List (Call ℕ)) → Waiting → Type 0

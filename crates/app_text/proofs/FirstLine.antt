@@ -1,8 +1,6 @@
 -- Where the first line of a text ends.
 use Rattle.std.proofs.Common.{◌≡◌, ℕ, ◌+◌, ◌-◌, ◌<◌, ◌≤◌, List, [], ◌∷◌, length, take, drop, length-drop, Bool, true, false, cond, ◌==◌, nat_lt, Some, None, refl, sym, subst, arith, add-one, one-add}
-use Rattle.std.proofs.Math.Seq.{take-length}
-use Rattle.std.proofs.lemmas.Option.{cond_some}
-use Rattle.std.proofs.lemmas.Bool.{ltb-true, ltb-false}
+use Rattle.std.proofs.{Math.Seq.take-length, lemmas.Option.cond_some, lemmas.Bool.ltb-true, lemmas.Bool.ltb-false}
 use Rattle.std.specs.List.{position, position_or_len}
 use Rattle.app_text.specs.Lines.{lines_of, with_byte}
 

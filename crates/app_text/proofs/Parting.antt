@@ -1,19 +1,9 @@
 -- Where a text is parted at its first space.
 use Rattle.std.proofs.Common.{◌≡◌, ◌≢◌, ℕ, ◌+◌, ◌-◌, ◌<◌, ◌≤◌, List, [], ◌∷◌, ◌++◌, length, take, drop, Bool, true, false, cond, ◌==◌, nat_lt, Option, Some, None, refl, sym, ap, subst, arith, add-one, one-add}
-use Rattle.std.proofs.lemmas.Option.{cond_some}
-use Rattle.std.proofs.lemmas.Bool.{ltb-true, ltb-false, ne_eqb, eqb-true}
-use Rattle.std.proofs.lemmas.Fmt.{digits_decimal}
-use Rattle.std.proofs.lemmas.Str.Parse.{digit_at}
-use Rattle.std.specs.Fmt.{decimal}
-use Rattle.std.specs.List.{position, position_or_len}
-use Rattle.std.specs.Str.Parse.{AllDigits}
-use Rattle.app_text.specs.Reading.{IsWord}
-use Rattle.app_text.specs.Spaces.{parted, with_first}
-use Rattle.app_text.specs.Actions.{action_text, IsAction, replay_line_text, IsReplayLine}
-use Rattle.app_text.specs.declared.actions.Action.{Action}
-use Rattle.app_text.specs.declared.actions.ReplayLine.{ReplayLine}
-use Rattle.app_text.proofs.ReadNumber.{model}
-use Rattle.app_text.proofs.FirstLine.{all_left}
+use Rattle.std.proofs.lemmas.{Option.cond_some, Bool.ltb-true, Bool.ltb-false, Bool.ne_eqb, Bool.eqb-true, Fmt.digits_decimal, Str.Parse.digit_at}
+use Rattle.std.specs.{Fmt.decimal, List.position, List.position_or_len, Str.Parse.AllDigits}
+use Rattle.app_text.specs.{Reading.IsWord, Spaces.parted, Spaces.with_first, Actions.action_text, Actions.IsAction, Actions.replay_line_text, Actions.IsReplayLine, declared.actions.Action.Action, declared.actions.ReplayLine.ReplayLine}
+use Rattle.app_text.proofs.{ReadNumber.model, FirstLine.all_left}
 
 abbrev pub first_space : List ℕ → ℕ
 first_space bs = position_or_len (λ b. b == 32) bs

@@ -1,7 +1,6 @@
 -- The texts of calls are read back.
 use Rattle.std.proofs.Common.{◌≢◌, ℕ, List, refl, subst, IsUtf8}
-use Rattle.queue_steps.specs.declared.model.Call.{Call}
-use Rattle.queue_steps.specs.declared.model.Call.TheVariants as call
+use Rattle.queue_steps.specs.declared.model.Call.{Call, Call as call}
 use Rattle.app_text.specs.Calls.{call_text, IsPlainCall}
 
 -- the text of a call without a number is text

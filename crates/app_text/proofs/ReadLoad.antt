@@ -2,9 +2,7 @@
 use Rattle.std.proofs.Common.{◌≡◌, ◌≢◌, ℕ, ◌*◌, ◌%◌, List, [], get_or, ap, subst, sym, ◌∙◌, arith}
 use Rattle.std.specs.Fmt.{decimal}
 use Rattle.std.proofs.lemmas.Fmt.{decimal_injective}
-use Rattle.app_text.specs.Reading.{IsWord}
-use Rattle.app_text.specs.KindNames.{IsThreadCount, IsItemCount, IsLoad, IsEvenLoad, load_words}
-use Rattle.app_text.specs.declared.load.Load.{Load}
+use Rattle.app_text.specs.{Reading.IsWord, KindNames.IsThreadCount, KindNames.IsItemCount, KindNames.IsLoad, KindNames.IsEvenLoad, KindNames.load_words, declared.load.Load.Load}
 
 -- digits spell no number of this sort if the number that they spell is not of it
 pub other_number : (P : ℕ → Type 0) (n : ℕ) (digits : List ℕ) → ((m : ℕ) → P m → IsWord m) → IsWord n → decimal n ≡ digits → (P n → ⊥) → (m : ℕ) → P m → decimal m ≢ digits

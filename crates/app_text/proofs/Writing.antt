@@ -2,9 +2,7 @@
 use Rattle.std.proofs.Common.{◌≡◌, ◌∙◌, ℕ, ◌-◌, List, [], ◌++◌, length, take, drop, Option, Some, None, Result, Ok, Err, MatchResult, OnErr, refl, sym, ap, arith, append_assoc, append-nil}
 use Rattle.std.proofs.lemmas.List.{take-append-drop, take_all, length-drop}
 use Rattle.std.specs.Io.KnownBytes.{Appends, Keeps}
-use Rattle.app_text.specs.declared.faults.Fault.{Fault}
-use Rattle.app_text.specs.declared.faults.Fault.TheVariants as fault
-use Rattle.app_text.specs.Streams.{IsBegun, LeavesRest, Puts}
+use Rattle.app_text.specs.{declared.faults.Fault.Fault, declared.faults.Fault.Fault as fault, Streams.IsBegun, Streams.LeavesRest, Streams.Puts}
 
 Appends-none : (known : Option (List ℕ)) → Appends known known []
 Appends-none None = tt

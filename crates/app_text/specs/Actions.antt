@@ -1,11 +1,7 @@
 -- The text of a line of a replay.
 use Rattle.std.specs.Prelude.{ℕ, List, ◌∷◌, ◌++◌, codes}
 use Rattle.std.specs.Fmt.{decimal}
-use Rattle.app_text.specs.Reading.{IsWord}
-use Rattle.app_text.specs.Calls.{call_text, IsCallOfWord}
-use Rattle.app_text.specs.declared.actions.Action.{Action}
-use Rattle.app_text.specs.declared.actions.Action.TheVariants as action
-use Rattle.app_text.specs.declared.actions.ReplayLine.{ReplayLine}
+use Rattle.app_text.specs.{Reading.IsWord, Calls.call_text, Calls.IsCallOfWord, declared.actions.Action.Action, declared.actions.Action.Action as action, declared.actions.ReplayLine.ReplayLine}
 
 abbrev pub action_text : Action → List ℕ
 action_text (action.Call c) = call_text c

@@ -1,8 +1,7 @@
 -- The text of a call.
 use Rattle.std.specs.Prelude.{ℕ, List, ◌++◌, codes}
 use Rattle.std.specs.Fmt.{decimal}
-use Rattle.queue_steps.specs.declared.model.Call.{Call}
-use Rattle.queue_steps.specs.declared.model.Call.TheVariants as call
+use Rattle.queue_steps.specs.declared.model.Call.{Call, Call as call}
 use Rattle.app_text.specs.Reading.{IsWord}
 
 -- the line of a call

@@ -1,7 +1,6 @@
 -- What is printed of effects.
 use Rattle.std.specs.Prelude.{ℕ, List, codes}
-use Rattle.machine_memory.specs.declared.types.EffectKind.{EffectKind}
-use Rattle.machine_memory.specs.declared.types.EffectKind.TheVariants as effect
+use Rattle.machine_memory.specs.declared.types.EffectKind.{EffectKind, EffectKind as effect}
 
 abbrev pub effect_text : EffectKind → List ℕ
 effect_text effect.Append = codes "append"

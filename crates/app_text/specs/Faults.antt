@@ -1,8 +1,7 @@
 -- What is written of a fault, and the status that it ends with.
 use Rattle.std.specs.Prelude.{ℕ, List, ◌++◌, codes}
 use Rattle.std.specs.Fmt.{decimal}
-use Rattle.app_text.specs.declared.faults.Fault.{Fault}
-use Rattle.app_text.specs.declared.faults.Fault.TheVariants as fault
+use Rattle.app_text.specs.declared.faults.Fault.{Fault, Fault as fault}
 
 abbrev pub fault_text : Fault → List ℕ
 fault_text fault.Usage = codes "usage: queue_run script KIND | replay KIND PARTIES | threads KIND PUSHERS POPPERS ITEMS | handshake | channel KIND SENDERS RECEIVERS ITEMS"

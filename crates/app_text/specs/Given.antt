@@ -1,10 +1,6 @@
 -- The arguments as the system gives them.
 use Rattle.std.specs.Prelude.{◌≡◌, ◌≢◌, ℕ, List, [], Result, Ok, Err, String, ⊤, drop, map, string_bytes}
-use Rattle.std.specs.IoError.{error_kind}
-use Rattle.std.specs.Vec.Iter.{into_iter_items}
-use Rattle.std.specs.declared.io.Error.{Error}
-use Rattle.std.specs.declared.io.ErrorKind.TheVariants.{OutOfMemory}
-use Rattle.std.specs.declared.vec.IntoIter.{IntoIter}
+use Rattle.std.specs.{IoError.error_kind, Vec.Iter.into_iter_items, declared.io.Error.Error, declared.io.ErrorKind.TheVariants.OutOfMemory, declared.vec.IntoIter.IntoIter}
 
 module _ {Z : Type 0} where
   -- what was given asks by these words: all behind the program's name, however many. Arguments that are no text ask by none

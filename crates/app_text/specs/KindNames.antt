@@ -1,17 +1,8 @@
 -- The words that name a kind of queue, and the arguments that name a form.
 use Rattle.std.specs.Prelude.{◌≡◌, ℕ, ◌<◌, ◌≤◌, ◌*◌, ◌%◌, ◌==◌, if◌then◌else◌, List, [], ◌∷◌, ◌++◌, codes, Option}
 use Rattle.std.specs.Fmt.{decimal}
-use Rattle.queue_steps.specs.Next.{capacity_of as capacity_of_kind}
-use Rattle.queue_steps.specs.declared.steps.types.Kind.{Kind}
-use Rattle.queue_steps.specs.declared.steps.types.Kind.TheVariants as queue
-use Rattle.app_text.specs.Reading.{IsWord}
-use Rattle.app_text.specs.declared.args.TheConstants.{MOST_PARTIES}
-use Rattle.app_text.specs.declared.args.KindName.{KindName}
-use Rattle.app_text.specs.declared.args.KindName.TheVariants as kind
-use Rattle.app_text.specs.declared.args.Mode.{Mode}
-use Rattle.app_text.specs.declared.args.Mode.TheVariants as mode
-use Rattle.app_text.specs.declared.load.Load.{Load}
-use Rattle.app_text.specs.declared.load.TheConstants.{MOST_THREADS, MOST_ITEMS}
+use Rattle.queue_steps.specs.{Next.capacity_of as capacity_of_kind, declared.steps.types.Kind.Kind, declared.steps.types.Kind.Kind as queue}
+use Rattle.app_text.specs.{Reading.IsWord, declared.args.TheConstants.MOST_PARTIES, declared.args.KindName.KindName, declared.args.KindName.KindName as kind, declared.args.Mode.Mode, declared.args.Mode.Mode as mode, declared.load.Load.Load, declared.load.TheConstants.MOST_THREADS, declared.load.TheConstants.MOST_ITEMS}
 
 abbrev pub kind_text : KindName → List ℕ
 kind_text kind.Single = codes "single"

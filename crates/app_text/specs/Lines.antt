@@ -1,8 +1,7 @@
 -- The lines of a text, and what reading them says.
 use Rattle.std.specs.Prelude.{◌≡◌, ◌≢◌, ℕ, ◌+◌, ◌==◌, if◌then◌else◌, List, [], ◌∷◌, ◌++◌, map, length}
 use Rattle.std.specs.List.{AllByRecursion}
-use Rattle.app_text.specs.declared.faults.Fault.{Fault}
-use Rattle.app_text.specs.declared.faults.Fault.TheVariants as fault
+use Rattle.app_text.specs.declared.faults.Fault.{Fault, Fault as fault}
 
 -- with this byte before the first line
 abbrev pub with_byte : ℕ → List (List ℕ) → List (List ℕ)

@@ -1,9 +1,7 @@
 -- What is read of an input, and written of an output.
 use Rattle.std.specs.Prelude.{◌≡◌, ℕ, List, ◌++◌, Option, Result, MatchResult}
-use Rattle.std.specs.Io.KnownBytes.{Appends}
-use Rattle.std.specs.Option.{IfSome}
-use Rattle.app_text.specs.declared.faults.Fault.{Fault}
-use Rattle.app_text.specs.declared.faults.Fault.TheVariants as fault
+use Rattle.std.specs.{Io.KnownBytes.Appends, Option.IfSome}
+use Rattle.app_text.specs.declared.faults.Fault.{Fault, Fault as fault}
 
 -- these bytes were read: all that the reader had, where that is known
 abbrev pub IsInput : Option (List ℕ) → List ℕ → Type 0

@@ -1,32 +1,15 @@
 -- What ends of a channel have taken, and the works of a crew that is given them.
 use Rattle.std.proofs.Common.{◌≡◌, ℕ, ◌+◌, ◌≤◌, ◌&&◌, Bool, true, false, Option, Result, Ok, Err, List, [], ◌∷◌, length, get_or, replicate, refl, ap, sym, subst, ◌∙◌, ⊎_elim, arith, add-zero, append-nil, ◌++◌}
-use Rattle.std.specs.List.{All, count_by}
+use Rattle.std.specs.{List.All, List.count_by, Option.IfSome}
 use Rattle.std.proofs.lemmas.List.Elements.{All-weaker}
-use Rattle.queue_steps.specs.declared.model.Effect.{Effect}
-use Rattle.queue_steps.specs.declared.model.Call.TheVariants as call
-use Rattle.queue_steps.specs.declared.model.Effect.TheVariants as effect
-use Rattle.queue_steps.specs.declared.model.Reply.TheVariants as reply
-use Rattle.queue_steps.specs.Effect.{after}
-use Rattle.counted_channel.specs.declared.calls.errors.SendError.{SendError}
-use Rattle.counted_channel.specs.declared.calls.errors.SendError.TheVariants as send
-use Rattle.counted_channel.specs.declared.calls.errors.Disconnected.{Disconnected}
-use Rattle.queue_steps.specs.Shares.{Share, entire, half, plus, IsEntire, SamePart}
-use Rattle.queue_steps.specs.Parties.{IsView}
+use Rattle.queue_steps.specs.{declared.model.Effect.Effect, declared.model.Call.Call as call, declared.model.Effect.Effect as effect, declared.model.Reply.Reply as reply, Effect.after, Shares.Share, Shares.entire, Shares.half, Shares.plus, Shares.IsEntire, Shares.SamePart, Parties.IsView, declared.sizes.TheConstants.MAX_CAPACITY}
+use Rattle.counted_channel.specs.{declared.calls.errors.SendError.SendError, declared.calls.errors.SendError.SendError as send, declared.calls.errors.Disconnected.Disconnected, Channel.End, Channel.EndParts, Channel.Ends, Channel.GivenBack, Channel.sent, Channel.received}
 use Rattle.queue_steps.proofs.ShareLaws.{same_refl, same_sym, same_trans, entire_same, plus_comm, plus_assoc, plus_same, halves_same}
 use Rattle.concurrent_queue.specs.Shared.{QueueId, PartyView, Calls, Parts, Joins}
-use Rattle.counted_channel.specs.Channel.{End, EndParts, Ends, GivenBack, sent, received}
 use Rattle.law_parties.specs.Doings.{is_take, takes, Acts, SawClosed}
 use Rattle.law_parties.proofs.Doings.{acts, acts_none, still_closed, unchanged}
-use Rattle.std.specs.Option.{IfSome}
-use Rattle.queue_steps.specs.declared.sizes.TheConstants.{MAX_CAPACITY}
-use Rattle.app_text.specs.KindNames.{capacity_of}
-use Rattle.app_text.specs.declared.load.Load.{Load}
-use Rattle.app_threads.specs.Counts.{counted, AreSums, IsTally}
-use Rattle.app_threads.specs.Sharing.{IsEnded, SeesLeft}
-use Rattle.app_threads.specs.declared.sharing.EndedChannel.{EndedChannel}
-use Rattle.app_threads.specs.Works.{IsWorkOf, PartsRole, TookNothing, ends_share, ends_taken, role_party}
-use Rattle.app_threads.specs.declared.crew.WorkResult.{WorkResult}
-use Rattle.app_threads.specs.declared.ends.Role.{Role}
+use Rattle.app_text.specs.{KindNames.capacity_of, declared.load.Load.Load}
+use Rattle.app_threads.specs.{Counts.counted, Counts.AreSums, Counts.IsTally, Sharing.IsEnded, Sharing.SeesLeft, declared.sharing.EndedChannel.EndedChannel, Works.IsWorkOf, Works.PartsRole, Works.TookNothing, Works.ends_share, Works.ends_taken, Works.role_party, declared.crew.WorkResult.WorkResult, declared.ends.Role.Role}
 use Rattle.app_threads.proofs.Works.{none_at, none_few, none_own, taken_more, few_more, close_quits, none_parted, all_parted, work_of_same, joined_works}
 
 -- a party that is given back by its end has taken nothing

@@ -1,37 +1,14 @@
 -- What calls of a crew's threads come to, and two works that are joined.
 use Rattle.std.proofs.Common.{◌≡◌, ⊎_elim, ℕ, zero, suc, ◌+◌, ◌*◌, ◌<◌, ◌≤◌, ◌^◌, ◌&&◌, Bool, true, false, cond, inl, inr, Option, List, [], ◌∷◌, length, get_or, set, replicate, Err, refl, ap, sym, subst, ◌∙◌, arith, add-zero}
-use Rattle.std.proofs.Math.Nat.{add-mul}
+use Rattle.std.proofs.{Math.Nat.add-mul, lemmas.Bool.true≢false, lemmas.Bool.false≢true, lemmas.Bool.Decides.eqb_tells, lemmas.List.get_or-set_other, lemmas.Grind.get_or-set_at, lemmas.List.Elements.All-head, lemmas.List.Elements.All-tail, lemmas.List.Elements.All-replicate, lemmas.List.Elements.All-set, lemmas.List.Elements.All-weaker, lemmas.List.Elements.All-from_get_or}
 use Rattle.std.specs.List.{All, count_by}
-use Rattle.std.proofs.lemmas.Bool.{true≢false, false≢true}
-use Rattle.std.proofs.lemmas.Bool.Decides.{eqb_tells}
-use Rattle.std.proofs.lemmas.List.{get_or-set_other}
-use Rattle.std.proofs.lemmas.Grind.{get_or-set_at}
-use Rattle.std.proofs.lemmas.List.Elements.{All-head, All-tail, All-replicate, All-set, All-weaker, All-from_get_or}
 use mathlib.Core.Option.{some, some-injective, some-ne-none}
 use lib.ListN.{get_elem?}
-use Rattle.queue_steps.specs.declared.model.Call.TheVariants as call
-use Rattle.queue_steps.specs.declared.model.Reply.TheVariants as reply
-use Rattle.queue_steps.specs.declared.model.Call.{Call}
-use Rattle.queue_steps.specs.declared.model.Reply.{Reply}
-use Rattle.queue_steps.specs.declared.model.Effect.{Effect}
-use Rattle.queue_steps.specs.declared.model.Effect.TheVariants as effect
-use Rattle.queue_steps.specs.declared.errors.PopError.TheVariants as pop
-use Rattle.queue_steps.specs.declared.errors.PushError.TheVariants as push
-use Rattle.queue_steps.specs.State.{State, start}
-use Rattle.queue_steps.specs.Effect.{Runs, IsHistory, made, after_from, after}
-use Rattle.queue_steps.specs.Replies.{Allows}
-use Rattle.queue_steps.specs.Shares.{Share, entire, half, plus, SamePart, IsEntire}
-use Rattle.queue_steps.specs.Parties.{IsView, StandAt, Between}
-use Rattle.queue_steps.proofs.ShareLaws.{same_refl, same_trans, plus_same, halves_joined}
-use Rattle.queue_steps.proofs.Keeping.{stays_closed}
+use Rattle.queue_steps.specs.{declared.model.Call.Call as call, declared.model.Reply.Reply as reply, declared.model.Call.Call, declared.model.Reply.Reply, declared.model.Effect.Effect, declared.model.Effect.Effect as effect, declared.errors.PopError.PopError as pop, declared.errors.PushError.PushError as push, State.State, State.start, Effect.Runs, Effect.IsHistory, Effect.made, Effect.after_from, Effect.after, Replies.Allows, Shares.Share, Shares.entire, Shares.half, Shares.plus, Shares.SamePart, Shares.IsEntire, Parties.IsView, Parties.StandAt, Parties.Between}
+use Rattle.queue_steps.proofs.{ShareLaws.same_refl, ShareLaws.same_trans, ShareLaws.plus_same, ShareLaws.halves_joined, Keeping.stays_closed}
 use Rattle.concurrent_queue.specs.Shared.{QueueId, PartyView, Calls, Parts, Joins}
-use Rattle.app_threads.specs.Counts.{counted, EachSumFits, AreSums}
+use Rattle.app_threads.specs.{Counts.counted, Counts.EachSumFits, Counts.AreSums, Works.Quits, Works.IsWork, Works.IsWorkOf, Meetings.AreHandsOf, Meetings.AreThreeParts, Meetings.Unites, Meetings.IsShaken, Meetings.IsMeeting, declared.handshake.Hands.Hands, declared.handshake.Shaken.Shaken, declared.crew.WorkResult.WorkResult}
 use Rattle.law_parties.specs.Doings.{passes, is_take, takes, Acts, SawClosed}
-use Rattle.app_threads.specs.Works.{Quits, IsWork, IsWorkOf}
-use Rattle.app_threads.specs.Meetings.{AreHandsOf, AreThreeParts, Unites, IsShaken, IsMeeting}
-use Rattle.app_threads.specs.declared.handshake.Hands.{Hands}
-use Rattle.app_threads.specs.declared.handshake.Shaken.{Shaken}
-use Rattle.app_threads.specs.declared.crew.WorkResult.{WorkResult}
 use Rattle.law_parties.proofs.Doings.{acts, acts_on, single, unchanged, did_both, still_closed}
 
 -- a party that has done nothing makes a call

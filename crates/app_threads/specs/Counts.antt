@@ -1,20 +1,10 @@
 -- What counts of values show, and what is written of it.
 use Rattle.std.specs.Prelude.{◌≡◌, ℕ, ◌+◌, ◌<◌, ◌≤◌, ◌^◌, ◌==◌, set, get_or, not, List, [], ◌∷◌, ◌++◌, codes, length, slice_index, position, Option, Some, None}
-use Rattle.std.specs.Fmt.{decimal}
-use Rattle.std.specs.Io.KnownBytes.{Appends}
-use Rattle.std.specs.Option.{IfSome}
-use Rattle.queue_steps.specs.declared.sizes.TheConstants.{MAX_CAPACITY}
-use Rattle.app_text.specs.KindNames.{capacity_of}
-use Rattle.queue_steps.specs.Parties.{View}
-use Rattle.app_text.specs.declared.load.Load.{Load}
+use Rattle.std.specs.{Fmt.decimal, Io.KnownBytes.Appends, Option.IfSome}
+use Rattle.queue_steps.specs.{declared.sizes.TheConstants.MAX_CAPACITY, Parties.View}
+use Rattle.app_text.specs.{KindNames.capacity_of, declared.load.Load.Load}
 use Rattle.law_parties.specs.Doings.{takes}
-use Rattle.app_threads.specs.Sharing.{HasWholeParty, IsEnded, left_in}
-use Rattle.app_threads.specs.declared.counts.Finding.{Finding}
-use Rattle.app_threads.specs.declared.counts.Finding.TheVariants as finding
-use Rattle.app_threads.specs.declared.sharing.Sharing.{Sharing}
-use Rattle.app_threads.specs.declared.sharing.Sharing.TheVariants as sharing
-use Rattle.app_threads.specs.declared.verdict.Verdict.{Verdict}
-use Rattle.app_threads.specs.declared.verdict.Verdict.TheVariants as verdict
+use Rattle.app_threads.specs.{Sharing.HasWholeParty, Sharing.IsEnded, Sharing.left_in, declared.counts.Finding.Finding, declared.counts.Finding.Finding as finding, declared.sharing.Sharing.Sharing, declared.sharing.Sharing.Sharing as sharing, declared.verdict.Verdict.Verdict, declared.verdict.Verdict.Verdict as verdict}
 
 -- the value has come once more
 abbrev pub counted : ℕ → List ℕ → List ℕ

@@ -4,13 +4,7 @@ use Rattle.std.specs.Io.KnownBytes.{Appends}
 use Rattle.queue_steps.specs.Shares.{entire, half, plus, IsEntire}
 use Rattle.concurrent_queue.specs.Shared.{QueueId, PartyView, IsPartyOf}
 use Rattle.law_parties.specs.Doings.{takes}
-use Rattle.app_threads.specs.declared.handshake.Hands.{Hands}
-use Rattle.app_threads.specs.declared.handshake.Shaken.{Shaken}
-use Rattle.app_threads.specs.Sharing.{HasWholeParty}
-use Rattle.app_threads.specs.declared.sharing.Sharing.{Sharing}
-use Rattle.app_threads.specs.declared.sharing.Sharing.TheVariants as sharing
-use Rattle.app_threads.specs.declared.verdict.Verdict.{Verdict}
-use Rattle.app_threads.specs.declared.verdict.Verdict.TheVariants as verdict
+use Rattle.app_threads.specs.{declared.handshake.Hands.Hands, declared.handshake.Shaken.Shaken, Sharing.HasWholeParty, declared.sharing.Sharing.Sharing, declared.sharing.Sharing.Sharing as sharing, declared.verdict.Verdict.Verdict, declared.verdict.Verdict.Verdict as verdict}
 
 abbrev pub AreHandsOf : Hands → QueueId → QueueId → Type 0
 AreHandsOf h out back = IsPartyOf h.sends out × IsPartyOf h.takes back

@@ -1,12 +1,9 @@
 -- What threads shared: what the party that all of theirs have become tells of its queue.
 use Rattle.std.specs.Prelude.{◌≡◌, ℕ, List, Option, length}
-use Rattle.queue_steps.specs.Shares.{IsEntire}
-use Rattle.queue_steps.specs.Parties.{IsView}
-use Rattle.queue_steps.specs.Effect.{after}
+use Rattle.queue_steps.specs.{Shares.IsEntire, Parties.IsView, Effect.after}
 use Rattle.concurrent_queue.specs.Shared.{IsPartyOf, PartyView}
 use Rattle.law_parties.specs.Doings.{SawClosed, takes}
-use Rattle.app_threads.specs.declared.sharing.Shared.{Shared}
-use Rattle.app_threads.specs.declared.sharing.EndedChannel.{EndedChannel}
+use Rattle.app_threads.specs.declared.sharing.{Shared.Shared, EndedChannel.EndedChannel}
 
 -- The queue is of this capacity. The party is one of this queue's, and has all of the share: all parties have become this one, what it has seen is the
 -- history of everything that was done, and every place of that is its own

@@ -1,11 +1,7 @@
 -- The status that a run ends with which came to its end, and the faults of a run that reads nothing.
-use Rattle.std.specs.Prelude.{ℕ, List, Option}
-use Rattle.std.specs.Io.KnownBytes.{Keeps}
-use Rattle.app_text.specs.declared.faults.Fault.{Fault}
-use Rattle.app_text.specs.Streams.{IsBegun}
-use Rattle.app_text.specs.declared.faults.Fault.TheVariants as fault
-use Rattle.app_threads.specs.declared.verdict.Verdict.{Verdict}
-use Rattle.app_threads.specs.declared.verdict.Verdict.TheVariants as verdict
+use Rattle.std.specs.{Prelude.ℕ, Prelude.List, Prelude.Option, Io.KnownBytes.Keeps}
+use Rattle.app_text.specs.{declared.faults.Fault.Fault, Streams.IsBegun, declared.faults.Fault.Fault as fault}
+use Rattle.app_threads.specs.declared.verdict.Verdict.{Verdict, Verdict as verdict}
 
 abbrev pub verdict_status : Verdict → ℕ
 verdict_status verdict.Right = 0

@@ -5,9 +5,7 @@ use Rattle.queue_steps.specs.Shares.{Share, plus, SamePart}
 use Rattle.concurrent_queue.specs.Shared.{QueueId, PartyView, IsPartyOf}
 use Rattle.law_parties.specs.Doings.{takes, SawClosed}
 use Rattle.counted_channel.specs.Channel.{ChannelId, End, IsEndOf}
-use Rattle.app_threads.specs.declared.crew.WorkResult.{WorkResult}
-use Rattle.app_threads.specs.declared.ends.Role.{Role}
-use Rattle.app_threads.specs.declared.ends.Role.TheVariants as role
+use Rattle.app_threads.specs.declared.{crew.WorkResult.WorkResult, ends.Role.Role, ends.Role.Role as role}
 
 -- the party took nothing, and has seen the queue closed
 pub record Quits (v w : PartyView ℕ) : Type 0 where

@@ -1,10 +1,7 @@
 -- A call and its reply, put together of their kind and their value.
 use Rattle.std.specs.Prelude.{IsSome}
 use Rattle.std.proofs.Common.{◌≡◌, Option, Some, refl, sym, ap, subst, ◌∙◌}
-use Rattle.queue_steps.specs.declared.model.Call.{Call}
-use Rattle.queue_steps.specs.declared.model.Reply.{Reply}
-use Rattle.queue_steps.specs.Kinds.{call_kind, call_value, filled}
-use Rattle.queue_steps.specs.Sequential.{Owned, Sequential}
+use Rattle.queue_steps.specs.{declared.model.Call.Call, declared.model.Reply.Reply, Kinds.call_kind, Kinds.call_value, Kinds.filled, Sequential.Owned, Sequential.Sequential}
 use Rattle.call_driver.specs.Apart.{IsCall, AnswersApart}
 
 -- the parts of a call

@@ -1,23 +1,7 @@
 -- How a call that is on its way goes on.
 use Rattle.std.proofs.Common.{◌≡◌, ℕ, zero, suc, ◌+◌, ◌-◌, ◌<◌, Option, Some, refl, arith, sym, ap, subst, ◌∙◌}
-use Rattle.queue_steps.specs.declared.sizes.TheConstants.{SOLO_STEPS, WAIT_FREE_STEPS}
-use Rattle.queue_steps.specs.declared.model.Call.{Call}
-use Rattle.queue_steps.specs.declared.model.Reply.{Reply}
-use Rattle.queue_steps.specs.declared.steps.types.Kind.{Kind}
-use Rattle.queue_steps.specs.declared.steps.types.Answer.{Answer}
-use Rattle.queue_steps.specs.declared.steps.types.Answer.TheVariants as answer
-use Rattle.queue_steps.specs.declared.steps.types.Next.{Next}
-use Rattle.queue_steps.specs.declared.steps.types.Next.TheVariants as next
-use Rattle.queue_steps.specs.declared.steps.types.Op.{Op}
-use Rattle.queue_steps.specs.declared.steps.types.Touch.{Touch}
-use Rattle.queue_steps.specs.declared.steps.types.Local.{Local}
-use Rattle.queue_steps.specs.Next.{CanNext, next_of, first_local}
-use Rattle.queue_steps.specs.Kinds.{call_kind, call_value, filled}
-use Rattle.queue_steps.specs.WaitFree.{EndsBefore, EndsWaitFree}
-use Rattle.call_driver.specs.Leads.{MayGive, Gave, Leads, GoesOn, Begins}
-use Rattle.call_driver.specs.OnWay.{OnWay, Before, Stood}
-use Rattle.call_driver.specs.declared.site.Site.{Ghosts}
-use Rattle.call_driver.specs.declared.progress.Progress.{Progress}
+use Rattle.queue_steps.specs.{declared.sizes.TheConstants.SOLO_STEPS, declared.sizes.TheConstants.WAIT_FREE_STEPS, declared.model.Call.Call, declared.model.Reply.Reply, declared.steps.types.Kind.Kind, declared.steps.types.Answer.Answer, declared.steps.types.Answer.Answer as answer, declared.steps.types.Next.Next, declared.steps.types.Next.Next as next, declared.steps.types.Op.Op, declared.steps.types.Touch.Touch, declared.steps.types.Local.Local, Next.CanNext, Next.next_of, Next.first_local, Kinds.call_kind, Kinds.call_value, Kinds.filled, WaitFree.EndsBefore, WaitFree.EndsWaitFree}
+use Rattle.call_driver.specs.{Leads.MayGive, Leads.Gave, Leads.Leads, Leads.GoesOn, Leads.Begins, OnWay.OnWay, OnWay.Before, OnWay.Stood, declared.site.Site.Ghosts, declared.progress.Progress.Progress}
 
 module _ {O M T B S K : Type 0} (m : Ghosts O M T B S K) where
   -- wherever a call stands, it leads on

@@ -1,15 +1,7 @@
 -- Calls that change nothing.
 use Rattle.std.specs.Prelude.{◌≡◌, Option, Some, None, refl, Ok, Err}
 use Rattle.std.proofs.Common.{inl, inr, ap, ◌∙◌, subst}
-use Rattle.queue_steps.specs.declared.model.Call.{Call}
-use Rattle.queue_steps.specs.declared.model.Call.TheVariants as call
-use Rattle.queue_steps.specs.declared.model.Reply.{Reply}
-use Rattle.queue_steps.specs.declared.model.Reply.TheVariants as reply
-use Rattle.queue_steps.specs.declared.errors.PushError.TheVariants as push
-use Rattle.queue_steps.specs.declared.errors.ForcePushError.TheVariants as force
-use Rattle.queue_steps.specs.Kinds.{call_kind, call_value, with_value, reply_kind, filled}
-use Rattle.queue_steps.specs.Looks.{IsLook, look_reply}
-use Rattle.queue_steps.specs.Sequential.{Owned, Sequential}
+use Rattle.queue_steps.specs.{declared.model.Call.Call, declared.model.Call.Call as call, declared.model.Reply.Reply, declared.model.Reply.Reply as reply, declared.errors.PushError.PushError as push, declared.errors.ForcePushError.ForcePushError as force, Kinds.call_kind, Kinds.call_value, Kinds.with_value, Kinds.reply_kind, Kinds.filled, Looks.IsLook, Looks.look_reply, Sequential.Owned, Sequential.Sequential}
 
 -- the same call, of a queue of T
 abbrev pub as_call : {T : Type 0} → Call Unit → Call T

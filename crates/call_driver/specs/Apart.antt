@@ -1,9 +1,6 @@
 -- Calls and replies whose value lies apart from their kind.
 use Rattle.std.specs.Prelude.{◌≡◌, Option, Some}
-use Rattle.queue_steps.specs.declared.model.Call.{Call}
-use Rattle.queue_steps.specs.declared.model.Reply.{Reply}
-use Rattle.queue_steps.specs.Kinds.{call_kind, call_value, filled}
-use Rattle.queue_steps.specs.Sequential.{Owned, Sequential}
+use Rattle.queue_steps.specs.{declared.model.Call.Call, declared.model.Reply.Reply, Kinds.call_kind, Kinds.call_value, Kinds.filled, Sequential.Owned, Sequential.Sequential}
 
 -- the call c is of the kind k, and carries x
 abbrev pub IsCall : {T : Type 0} → Call Unit → Option T → Call T → Type 0

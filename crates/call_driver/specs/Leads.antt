@@ -1,18 +1,6 @@
 -- A call that is on its way: each of its steps may be done, and whatever the step answers, the call goes on or ends right.
 use Rattle.std.specs.Prelude.{◌≡◌, ℕ, suc, Option, Some, None}
-use Rattle.queue_steps.specs.declared.sizes.TheConstants.{SOLO_STEPS}
-use Rattle.queue_steps.specs.declared.model.Call.{Call}
-use Rattle.queue_steps.specs.declared.model.Reply.{Reply}
-use Rattle.queue_steps.specs.declared.steps.types.Kind.{Kind}
-use Rattle.queue_steps.specs.declared.steps.types.Answer.{Answer}
-use Rattle.queue_steps.specs.declared.steps.types.Answer.TheVariants as answer
-use Rattle.queue_steps.specs.declared.steps.types.Next.{Next}
-use Rattle.queue_steps.specs.declared.steps.types.Next.TheVariants as next
-use Rattle.queue_steps.specs.declared.steps.types.Op.{Op}
-use Rattle.queue_steps.specs.declared.steps.types.Touch.{Touch}
-use Rattle.queue_steps.specs.declared.steps.types.Local.{Local}
-use Rattle.queue_steps.specs.Next.{CanNext, next_of, first_local}
-use Rattle.queue_steps.specs.Kinds.{call_kind, call_value, filled}
+use Rattle.queue_steps.specs.{declared.sizes.TheConstants.SOLO_STEPS, declared.model.Call.Call, declared.model.Reply.Reply, declared.steps.types.Kind.Kind, declared.steps.types.Answer.Answer, declared.steps.types.Answer.Answer as answer, declared.steps.types.Next.Next, declared.steps.types.Next.Next as next, declared.steps.types.Op.Op, declared.steps.types.Touch.Touch, declared.steps.types.Local.Local, Next.CanNext, Next.next_of, Next.first_local, Kinds.call_kind, Kinds.call_value, Kinds.filled}
 
 -- the block that a reply hands out may be given up
 abbrev pub MayGive : {B M S : Type 0} → (M → S → B → Type 0) → M → S → Option B → Type 0

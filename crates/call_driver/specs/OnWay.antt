@@ -1,15 +1,8 @@
 -- A call within the driver: what is so of one that is on its way, and what steps leave of it.
 use Rattle.std.specs.Prelude.{◌≡◌, ℕ, zero, suc, Option, Some}
-use Rattle.std.specs.ControlFlow.{MatchControlFlow}
-use Rattle.std.specs.declared.ops.ControlFlow.{ControlFlow}
-use Rattle.queue_steps.specs.declared.sizes.TheConstants.{SOLO_STEPS}
-use Rattle.queue_steps.specs.declared.model.Call.{Call}
-use Rattle.queue_steps.specs.declared.model.Reply.{Reply}
-use Rattle.queue_steps.specs.declared.steps.types.Kind.{Kind}
-use Rattle.queue_steps.specs.Kinds.{call_kind, filled}
-use Rattle.call_driver.specs.Leads.{GoesOn}
-use Rattle.call_driver.specs.declared.site.Site.{Ghosts}
-use Rattle.call_driver.specs.declared.progress.Progress.{Progress}
+use Rattle.std.specs.{ControlFlow.MatchControlFlow, declared.ops.ControlFlow.ControlFlow}
+use Rattle.queue_steps.specs.{declared.sizes.TheConstants.SOLO_STEPS, declared.model.Call.Call, declared.model.Reply.Reply, declared.steps.types.Kind.Kind, Kinds.call_kind, Kinds.filled}
+use Rattle.call_driver.specs.{Leads.GoesOn, declared.site.Site.Ghosts, declared.progress.Progress.Progress}
 
 module _ {O M T B S K : Type 0} (m : Ghosts O M T B S K) where
   -- the kind and the call are those of the call c that the seat `first` began

@@ -1,14 +1,6 @@
 -- One owner's cells as a site: what a step of the driver is on them, and where a call stands that ends right.
 use Rattle.std.specs.Prelude.{ℕ, Option}
-use Rattle.queue_steps.specs.declared.model.Call.{Call}
-use Rattle.queue_steps.specs.declared.model.Reply.{Reply}
-use Rattle.queue_steps.specs.declared.steps.types.Kind.{Kind}
-use Rattle.queue_steps.specs.declared.steps.types.Answer.{Answer}
-use Rattle.queue_steps.specs.declared.steps.types.Op.{Op}
-use Rattle.queue_steps.specs.declared.steps.types.Touch.{Touch}
-use Rattle.queue_steps.specs.declared.steps.types.Local.{Local}
-use Rattle.queue_steps.specs.Next.{CanNext, next_of}
-use Rattle.queue_steps.specs.Sequential.{Owned, Sequential}
+use Rattle.queue_steps.specs.{declared.model.Call.Call, declared.model.Reply.Reply, declared.steps.types.Kind.Kind, declared.steps.types.Answer.Answer, declared.steps.types.Op.Op, declared.steps.types.Touch.Touch, declared.steps.types.Local.Local, Next.CanNext, Next.next_of, Sequential.Owned, Sequential.Sequential}
 use Rattle.call_driver.specs.EndsIn.{EndsIn, Answered}
 
 module _ {T B C : Type 0} (can_touch : C → Touch → Op B → Type 0) (touches : C → Touch → Op B → Option T → C → Option T → Type 0)

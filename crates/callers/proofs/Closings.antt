@@ -1,11 +1,6 @@
 -- A party that has seen the queue closed is told so, and so is one that meets it.
 use Rattle.std.proofs.Common.{◌≡◌, ◌∙◌, inl, inr, ℕ, Bool, true, Option, List, [], ◌∷◌, ◌++◌, ap, sym, subst}
-use Rattle.queue_steps.specs.declared.model.Call.TheVariants as call
-use Rattle.queue_steps.specs.declared.model.Effect.{Effect}
-use Rattle.queue_steps.specs.declared.model.Reply.TheVariants as reply
-use Rattle.queue_steps.specs.State.{State, start}
-use Rattle.queue_steps.specs.Effect.{Runs, IsHistory, made, after}
-use Rattle.queue_steps.specs.Replies.{Allows}
+use Rattle.queue_steps.specs.{declared.model.Call.Call as call, declared.model.Effect.Effect, declared.model.Reply.Reply as reply, State.State, State.start, Effect.Runs, Effect.IsHistory, Effect.made, Effect.after, Replies.Allows}
 use Rattle.concurrent_queue.specs.Shared.{PartyView, Calls, Meets}
 use Rattle.law_parties.specs.Doings.{SawClosed}
 use Rattle.law_parties.proofs.Doings.{still_closed}

@@ -1,9 +1,7 @@
 -- A forced push that displaced did so at one moment.
 use Rattle.std.proofs.Common.{ℕ, Option, Some, None, Ok, subst}
 use Rattle.std.specs.Option.{IfSome}
-use Rattle.queue_steps.specs.declared.model.Call.TheVariants as call
-use Rattle.queue_steps.specs.declared.model.Reply.TheVariants as reply
-use Rattle.queue_steps.specs.Parties.{View, SharedCall}
+use Rattle.queue_steps.specs.{declared.model.Call.Call as call, declared.model.Reply.Reply as reply, Parties.View, Parties.SharedCall}
 use Rattle.queue_laws.proofs.Moment.Sharing.{shared_calls_at_once}
 use Rattle.concurrent_queue.specs.Shared.{QueueId, PartyView, IsPartyOf, Calls}
 use Rattle.callers.specs.Displaced.{DisplacedAtOnce}

@@ -1,15 +1,8 @@
 -- What a forced push that displaced an item is in what the history of its queue settles into.
 use Rattle.std.specs.Prelude.{◌≡◌, ℕ, List, ◌++◌, length, Option, Some, Ok}
 use mathlib.Core.List.{IsPrefix}
-use Rattle.queue_steps.specs.declared.model.Call.TheVariants as call
-use Rattle.queue_steps.specs.declared.model.Reply.TheVariants as reply
-use Rattle.queue_steps.specs.declared.model.Effect.{Effect}
-use Rattle.queue_steps.specs.Effect.{IsHistory, after}
-use Rattle.queue_steps.specs.Replies.{Tells}
-use Rattle.queue_steps.specs.Parties.{View}
-use Rattle.queue_laws.specs.Moment.Moments.{IsAtOnce, arrived}
-use Rattle.queue_laws.specs.Moment.Entries.{effects_in}
-use Rattle.queue_laws.specs.Moment.Shared.{is_own, settled_history, StandsTogether}
+use Rattle.queue_steps.specs.{declared.model.Call.Call as call, declared.model.Reply.Reply as reply, declared.model.Effect.Effect, Effect.IsHistory, Effect.after, Replies.Tells, Parties.View}
+use Rattle.queue_laws.specs.Moment.{Moments.IsAtOnce, Moments.arrived, Entries.effects_in, Shared.is_own, Shared.settled_history, Shared.StandsTogether}
 
 -- At the places that the party's call has added, its effects are those of a forced push that put the value for the old item, in what the history h settles into: one right after the other, past what the party
 -- had seen before and within what it has seen then.

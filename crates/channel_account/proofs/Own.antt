@@ -5,24 +5,14 @@ use Rattle.std.proofs.lemmas.List.Elements.{All-head, All-tail}
 use mathlib.Core.List.{IsPrefix}
 use mathlib.Core.Option.{none, some}
 use lib.ListN.{get_elem?}
-use Rattle.queue_laws.specs.Common.Vocabulary.{Effect}
-use Rattle.queue_steps.specs.declared.model.Call.{Call}
-use Rattle.queue_steps.specs.declared.model.Reply.{Reply}
-use Rattle.queue_steps.specs.declared.model.Call.TheVariants as call
-use Rattle.queue_steps.specs.declared.model.Reply.TheVariants as reply
-use Rattle.queue_steps.specs.Shares.{entire}
-use Rattle.queue_steps.specs.Parties.{View, IsView, StandAt}
-use Rattle.queue_laws.specs.History.Histories.{handed_in, handed_out}
+use Rattle.queue_laws.specs.{Common.Vocabulary.Effect, History.Histories.handed_in, History.Histories.handed_out}
+use Rattle.queue_steps.specs.{declared.model.Call.Call, declared.model.Reply.Reply, declared.model.Call.Call as call, declared.model.Reply.Reply as reply, Shares.entire, Parties.View, Parties.IsView, Parties.StandAt}
 use Rattle.law_parties.proofs.Drained.{saw_drained, still_drained}
 use Rattle.law_parties.specs.Doings.{SawDrained}
 use Rattle.concurrent_queue.specs.Shared.{PartyView, Calls, Parts, Joins}
-use Rattle.counted_channel.specs.declared.calls.errors.SendError.{SendError}
-use Rattle.counted_channel.specs.declared.calls.errors.SendError.TheVariants as send
-use Rattle.counted_channel.specs.declared.calls.errors.Disconnected.{Disconnected}
-use Rattle.counted_channel.specs.Channel.{End, ChannelCall, EndParts, GivenBack, Ends, sent, received}
+use Rattle.counted_channel.specs.{declared.calls.errors.SendError.SendError, declared.calls.errors.SendError.SendError as send, declared.calls.errors.Disconnected.Disconnected, Channel.End, Channel.ChannelCall, Channel.EndParts, Channel.GivenBack, Channel.Ends, Channel.sent, Channel.received}
 use Rattle.channel_handle.specs.Ends.{AreEnds, IsPair}
-use Rattle.channel_account.specs.Own.{found_before, at_places, own}
-use Rattle.channel_account.specs.Told.{told, HasDone, HasSent, HasReceived, PartsTold, JoinsTold, AreNew, SawEnd}
+use Rattle.channel_account.specs.{Own.found_before, Own.at_places, Own.own, Told.told, Told.HasDone, Told.HasSent, Told.HasReceived, Told.PartsTold, Told.JoinsTold, Told.AreNew, Told.SawEnd}
 
 module _ {T : Type 0} where
   -- what stands in a history stands in a longer one

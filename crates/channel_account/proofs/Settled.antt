@@ -4,18 +4,12 @@ use Rattle.std.specs.List.{count_by}
 use Rattle.std.proofs.lemmas.List.Sums.{sum_by-cons, sum_by-append}
 use mathlib.Core.Option.{some, none}
 use lib.ListN.{get_elem?}
-use Rattle.queue_laws.specs.Common.Vocabulary.{Effect}
-use Rattle.queue_steps.specs.Effect.{after}
-use Rattle.queue_steps.specs.Legal.{IsSoundOwned}
-use Rattle.queue_steps.specs.Sequential.{Owned}
-use Rattle.queue_steps.specs.Parties.{IsView}
-use Rattle.queue_laws.specs.History.Histories.{handed_in, handed_out}
+use Rattle.queue_laws.specs.{Common.Vocabulary.Effect, History.Histories.handed_in, History.Histories.handed_out}
+use Rattle.queue_steps.specs.{Effect.after, Legal.IsSoundOwned, Sequential.Owned, Parties.IsView}
 use Rattle.law_parties.specs.Doings.{passes, done_by, hands_in_such, hands_out_such}
-use Rattle.law_parties.proofs.Drained.{is_drained}
-use Rattle.law_parties.proofs.Whole.{all_kept, ins, outs, one_more}
+use Rattle.law_parties.proofs.{Drained.is_drained, Whole.all_kept, Whole.ins, Whole.outs, Whole.one_more}
 use Rattle.concurrent_queue.specs.Shared.{PartyView, Finishes}
-use Rattle.channel_account.specs.Own.{found_before, at_places, own}
-use Rattle.channel_account.specs.Told.{told, SameItems, SawEnd}
+use Rattle.channel_account.specs.{Own.found_before, Own.at_places, Own.own, Told.told, Told.SameItems, Told.SawEnd}
 
 module _ {T : Type 0} where
   found_counted : (test : Effect T → Bool) (o : mathlib.Core.Option.Option (Effect T)) (es : List (Effect T)) → cond (passes test o) 1 0 + count_by test es ≡ count_by test (found_before o es)

@@ -2,8 +2,7 @@
 use Rattle.std.specs.Prelude.{ℕ, List, [], ◌∷◌}
 use mathlib.Core.Option.{Option, none, some}
 use lib.ListN.{get_elem?}
-use Rattle.queue_steps.specs.declared.model.Effect.{Effect}
-use Rattle.queue_steps.specs.Parties.{View}
+use Rattle.queue_steps.specs.{declared.model.Effect.Effect, Parties.View}
 
 -- the effect that was found, before others
 abbrev pub found_before : {T : Type 0} → Option (Effect T) → List (Effect T) → List (Effect T)

@@ -1,9 +1,8 @@
 -- What a contract sees of a sender in futures.
 use Rattle.std.specs.Prelude.{◌≡◌, ℕ, Option, Some, None, Result, Ok}
 use Rattle.std.specs.Arc.{arc_value}
-use Rattle.queue_steps.specs.declared.model.Call.TheVariants as call
-use Rattle.counted_channel.specs.declared.calls.errors.SendError.{SendError}
-use Rattle.counted_channel.specs.Channel.{End, ChannelCall, sent}
+use Rattle.queue_steps.specs.declared.model.Call.{Call as call}
+use Rattle.counted_channel.specs.{declared.calls.errors.SendError.SendError, Channel.End, Channel.ChannelCall, Channel.sent}
 use Rattle.channel_futures.specs.declared.outgoing.Outgoing.{Outgoing}
 
 module _ {T : Type 0} where

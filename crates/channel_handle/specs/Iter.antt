@@ -1,9 +1,6 @@
 -- What a clause reads of a receiver's iterators.
-use Rattle.std.specs.Prelude.{ℕ}
-use Rattle.std.specs.Sync.Forever.{forever_left}
-use Rattle.channel_handle.specs.declared.iter.IntoIter.{IntoIter}
-use Rattle.channel_handle.specs.declared.iter.Iter.{Iter}
-use Rattle.channel_handle.specs.declared.iter.TryIter.{TryIter}
+use Rattle.std.specs.{Prelude.ℕ, Sync.Forever.forever_left}
+use Rattle.channel_handle.specs.declared.iter.{IntoIter.IntoIter, Iter.Iter, TryIter.TryIter}
 
 -- how many turns an `Iter` has left
 abbrev pub iter_left : {T R A : Type 0} → Iter T R A → ℕ

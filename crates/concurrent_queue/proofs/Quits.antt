@@ -1,37 +1,16 @@
 -- What the party of a call that was given up is then.
 use Rattle.std.proofs.Common.{◌≡◌, ℕ, true, List, [], ◌++◌, Option, None, refl, ap, ◌∙◌}
 use Rattle.std.proofs.lemmas.List.{append-nil}
-use Rattle.atomic_table.specs.Seated.{TableId}
-use Rattle.atomic_table.specs.declared.shared.Seat.{Seat}
-use Rattle.mem_blocks.specs.Seats.{Same}
-use Rattle.mem_blocks.specs.declared.block.BlockPtr.{BlockPtr as Link}
-use Rattle.mem_blocks.specs.declared.web.Rested.{Rested}
-use Rattle.queue_steps.specs.declared.model.Call.TheVariants as call
-use Rattle.queue_steps.specs.declared.model.Effect.{Effect}
-use Rattle.queue_steps.specs.declared.model.Reply.{Reply}
-use Rattle.queue_steps.specs.declared.model.Reply.TheVariants as reply
-use Rattle.queue_steps.specs.Replies.{Tells}
-use Rattle.queue_steps.specs.SequentialCalls.{SequentialCall}
-use Rattle.shared_parties.specs.declared.known.CallState.{CallState}
-use Rattle.shared_parties.specs.Known.{view_of}
-use Rattle.shared_parties.specs.Calling.{cap_of}
-use Rattle.shared_parties.specs.Quitting.{its_call}
+use Rattle.atomic_table.specs.{Seated.TableId, declared.shared.Seat.Seat}
+use Rattle.mem_blocks.specs.{Seats.Same, declared.block.BlockPtr.BlockPtr as Link, declared.web.Rested.Rested}
+use Rattle.queue_steps.specs.{declared.model.Call.Call as call, declared.model.Effect.Effect, declared.model.Reply.Reply, declared.model.Reply.Reply as reply, Replies.Tells, SequentialCalls.SequentialCall}
+use Rattle.shared_parties.specs.{declared.known.CallState.CallState, Known.view_of, Calling.cap_of, Quitting.its_call}
 use Rattle.shared_parties.proofs.Quits.{places_none, quit_looks}
-use Rattle.shared_tables.specs.Quitting.{HasQuit}
-use Rattle.shared_tables.specs.Seats.{view_at}
-use Rattle.shared_tables.specs.TableRule.{TableOf}
-use Rattle.shared_chain.specs.declared.web.ChainWeb.{ChainWeb}
-use Rattle.shared_chain.specs.ChainCalls.{chain_calls}
-use Rattle.shared_chain.specs.Quitting.{HasQuit as HasQuitIn}
-use Rattle.shared_calls.specs.declared.chain.Asking.{Asking}
-use Rattle.shared_calls.specs.declared.left.Left.{Left}
-use Rattle.concurrent_queue.specs.declared.party.SeatPlace.TheVariants as place
-use Rattle.concurrent_queue.specs.Begun.{Begun}
-use Rattle.concurrent_queue.specs.SawMore.{SawMore}
-use Rattle.concurrent_queue.specs.Shared.{PartyView, IsHeld, Calls, party_view_of}
-use Rattle.concurrent_queue.specs.Pending.{StopsHere, StopsInside}
-use Rattle.concurrent_queue.proofs.Stops.{first_seat, comes_back}
-use Rattle.concurrent_queue.proofs.StopsIn.{first_asking, comes_back_in}
+use Rattle.shared_tables.specs.{Quitting.HasQuit, Seats.view_at, TableRule.TableOf}
+use Rattle.shared_chain.specs.{declared.web.ChainWeb.ChainWeb, ChainCalls.chain_calls, Quitting.HasQuit as HasQuitIn}
+use Rattle.shared_calls.specs.declared.{chain.Asking.Asking, left.Left.Left}
+use Rattle.concurrent_queue.specs.{declared.party.SeatPlace.SeatPlace as place, Begun.Begun, SawMore.SawMore, Shared.PartyView, Shared.IsHeld, Shared.Calls, Shared.party_view_of, Pending.StopsHere, Pending.StopsInside}
+use Rattle.concurrent_queue.proofs.{Stops.first_seat, Stops.comes_back, StopsIn.first_asking, StopsIn.comes_back_in}
 
 module _ {T : Type 0} where
   told_none : (r : Reply T) (es : List (Effect T)) → Tells call.Capacity r es → es ≡ []

@@ -1,32 +1,11 @@
 -- A call of a party at a table that stands before one of its steps: how it comes to stand there, and how it is taken up.
 use Rattle.std.proofs.Common.{◌≡◌, ℕ, [], Option, refl, sym, ap, subst, ◌∙◌}
-use Rattle.atomic_table.specs.Seated.{TableId}
-use Rattle.atomic_table.specs.declared.shared.Seat.{Seat}
-use Rattle.queue_steps.specs.declared.model.Call.{Call}
-use Rattle.queue_steps.specs.declared.model.Reply.{Reply}
-use Rattle.queue_steps.specs.declared.steps.types.Kind.{Kind}
-use Rattle.queue_steps.specs.Kinds.{call_kind}
-use Rattle.queue_steps.specs.Next.{next_of}
-use Rattle.queue_steps.specs.Parties.{IsView}
-use Rattle.shared_parties.specs.declared.known.CallState.{CallState}
-use Rattle.shared_parties.specs.declared.known.InCall.{InCall}
-use Rattle.shared_parties.specs.declared.known.Work.TheVariants as work
-use Rattle.shared_parties.specs.Calling.{cap_of}
-use Rattle.shared_parties.specs.CallsAt.{begun_at}
-use Rattle.shared_parties.specs.Quitting.{its_call}
-use Rattle.shared_parties.specs.CallStates.{idle}
-use Rattle.shared_parties.specs.Known.{party}
-use Rattle.shared_tables.specs.AtTable.{TableSeat, Ended}
-use Rattle.shared_tables.specs.Seats.{view_at}
-use Rattle.shared_tables.specs.TableRule.{TableOf}
-use Rattle.shared_tables.specs.TableTurns.{After, TableStands}
-use Rattle.shared_calls.specs.declared.left.Left.{Left}
-use Rattle.concurrent_queue.specs.declared.party.SeatPlace.{SeatPlace}
-use Rattle.concurrent_queue.specs.declared.party.SeatPlace.TheVariants as place
-use Rattle.concurrent_queue.specs.Shared.{QueueId, QueueName, at_table, PartyView, party_view, IsHeld, Calls, party_view_of}
-use Rattle.concurrent_queue.specs.Begun.{Begun}
-use Rattle.shared_calls.specs.Pausing.{IsStep}
-use Rattle.concurrent_queue.specs.Pending.{begun_by, IsStoppedAt, StopsHere}
+use Rattle.atomic_table.specs.{Seated.TableId, declared.shared.Seat.Seat}
+use Rattle.queue_steps.specs.{declared.model.Call.Call, declared.model.Reply.Reply, declared.steps.types.Kind.Kind, Kinds.call_kind, Next.next_of, Parties.IsView}
+use Rattle.shared_parties.specs.{declared.known.CallState.CallState, declared.known.InCall.InCall, declared.known.Work.Work as work, Calling.cap_of, CallsAt.begun_at, Quitting.its_call, CallStates.idle, Known.party}
+use Rattle.shared_tables.specs.{AtTable.TableSeat, AtTable.Ended, Seats.view_at, TableRule.TableOf, TableTurns.After, TableTurns.TableStands}
+use Rattle.shared_calls.specs.{declared.left.Left.Left, Pausing.IsStep}
+use Rattle.concurrent_queue.specs.{declared.party.SeatPlace.SeatPlace, declared.party.SeatPlace.SeatPlace as place, Shared.QueueId, Shared.QueueName, Shared.at_table, Shared.PartyView, Shared.party_view, Shared.IsHeld, Shared.Calls, Shared.party_view_of, Begun.Begun, Pending.begun_by, Pending.IsStoppedAt, Pending.StopsHere}
 use Rattle.concurrent_queue.proofs.TableCalls.{table_ends}
 use Rattle.shared_calls.proofs.Steps.{at_step, at_its}
 

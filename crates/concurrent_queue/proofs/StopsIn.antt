@@ -1,39 +1,14 @@
 -- A call of a party of a shared chain that stands before one of its steps: how it comes to stand there, and how it is taken up.
 use Rattle.std.proofs.Common.{◌≡◌, ℕ, true, None, Option, refl, sym, ap, subst, ◌∙◌}
-use Rattle.mem_blocks.specs.Web.{Sitter, sitter}
-use Rattle.mem_blocks.specs.declared.block.BlockPtr.{BlockPtr as Link}
-use Rattle.mem_blocks.specs.declared.web.Rested.{Rested}
-use Rattle.queue_steps.specs.declared.model.Call.{Call}
-use Rattle.queue_steps.specs.declared.model.Reply.{Reply}
-use Rattle.queue_steps.specs.declared.steps.types.Kind.{Kind}
-use Rattle.queue_steps.specs.declared.steps.types.Kind.TheVariants as queue
-use Rattle.queue_steps.specs.Kinds.{call_kind}
-use Rattle.queue_steps.specs.Next.{next_of}
-use Rattle.queue_steps.specs.Parties.{IsView, SharedCall}
-use Rattle.shared_parties.specs.declared.known.CallState.{CallState}
-use Rattle.shared_parties.specs.declared.known.InCall.{InCall}
-use Rattle.shared_parties.specs.declared.known.Work.TheVariants as work
-use Rattle.shared_parties.specs.Called.{call_of_work, nothing_called}
-use Rattle.shared_parties.specs.CallsAt.{begun_at}
-use Rattle.shared_parties.specs.Quitting.{its_call}
-use Rattle.shared_parties.specs.CallStates.{idle, IsResting, HasAll}
-use Rattle.shared_parties.specs.Known.{party, view_of}
-use Rattle.shared_chain.specs.Names.{link_of, next_map}
+use Rattle.mem_blocks.specs.{Web.Sitter, Web.sitter, declared.block.BlockPtr.BlockPtr as Link, declared.web.Rested.Rested}
+use Rattle.queue_steps.specs.{declared.model.Call.Call, declared.model.Reply.Reply, declared.steps.types.Kind.Kind, declared.steps.types.Kind.Kind as queue, Kinds.call_kind, Next.next_of, Parties.IsView, Parties.SharedCall}
+use Rattle.shared_parties.specs.{declared.known.CallState.CallState, declared.known.InCall.InCall, declared.known.Work.Work as work, Called.call_of_work, Called.nothing_called, CallsAt.begun_at, Quitting.its_call, CallStates.idle, CallStates.IsResting, CallStates.HasAll, Known.party, Known.view_of}
+use Rattle.shared_chain.specs.{Names.link_of, Names.next_map, Turning.SitsAt, Turning.ChainStands, Turning.ChainEnded, declared.web.ChainWeb.ChainWeb}
 use Rattle.shared_chain.specs.Steps as chain
-use Rattle.shared_chain.specs.Turning.{SitsAt, ChainStands, ChainEnded}
-use Rattle.shared_chain.specs.declared.web.ChainWeb.{ChainWeb}
 use Rattle.shared_chain.proofs.Frames.Renamed.{next_of_map}
-use Rattle.shared_calls.specs.declared.chain.Asking.{Asking}
-use Rattle.shared_calls.specs.declared.left.Left.{Left}
-use Rattle.concurrent_queue.specs.declared.party.SeatPlace.{SeatPlace}
-use Rattle.concurrent_queue.specs.declared.party.SeatPlace.TheVariants as place
-use Rattle.concurrent_queue.specs.Shared.{QueueId, in_web, PartyView, party_view, IsHeld, Calls, party_view_of}
-use Rattle.concurrent_queue.specs.Begun.{Begun}
-use Rattle.shared_calls.specs.InWeb.{EndedAt}
-use Rattle.shared_calls.specs.Pausing.{IsStep}
-use Rattle.concurrent_queue.specs.Pending.{IsStoppedIn, StopsInside}
-use Rattle.concurrent_queue.proofs.Stops.{begun_is}
-use Rattle.concurrent_queue.proofs.WebParties.{web_ends}
+use Rattle.shared_calls.specs.{declared.chain.Asking.Asking, declared.left.Left.Left, InWeb.EndedAt, Pausing.IsStep}
+use Rattle.concurrent_queue.specs.{declared.party.SeatPlace.SeatPlace, declared.party.SeatPlace.SeatPlace as place, Shared.QueueId, Shared.in_web, Shared.PartyView, Shared.party_view, Shared.IsHeld, Shared.Calls, Shared.party_view_of, Begun.Begun, Pending.IsStoppedIn, Pending.StopsInside}
+use Rattle.concurrent_queue.proofs.{Stops.begun_is, WebParties.web_ends}
 use Rattle.shared_calls.proofs.Steps.{in_step, step_named}
 
 module _ {T A Q : Type 0} (w : ChainWeb T A) where

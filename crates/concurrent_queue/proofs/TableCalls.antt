@@ -1,18 +1,10 @@
 -- A party at a table that begins a call, and one whose call ended.
 use Rattle.std.proofs.Common.{◌≡◌, ◌∙◌, ℕ, Option, sym, ap, subst}
-use Rattle.atomic_table.specs.Seated.{TableId}
-use Rattle.atomic_table.specs.declared.shared.Seat.{Seat}
-use Rattle.queue_steps.specs.declared.model.Call.{Call}
-use Rattle.queue_steps.specs.declared.model.Reply.{Reply}
-use Rattle.queue_steps.specs.Effect.{IsHistory}
-use Rattle.shared_parties.specs.declared.known.CallState.{CallState}
-use Rattle.shared_tables.specs.AtTable.{TableSeat, IsAt, Ended}
-use Rattle.shared_parties.specs.Calling.{cap_of}
-use Rattle.shared_tables.specs.TableRule.{TableOf}
-use Rattle.concurrent_queue.specs.declared.party.SeatPlace.{SeatPlace}
-use Rattle.concurrent_queue.specs.declared.party.SeatPlace.TheVariants as place
-use Rattle.concurrent_queue.specs.Calling.{IsHeldAt}
-use Rattle.concurrent_queue.specs.Shared.{QueueId, at_table, PartyView, IsHeld, Calls, party_view_of}
+use Rattle.atomic_table.specs.{Seated.TableId, declared.shared.Seat.Seat}
+use Rattle.queue_steps.specs.{declared.model.Call.Call, declared.model.Reply.Reply, Effect.IsHistory}
+use Rattle.shared_parties.specs.{declared.known.CallState.CallState, Calling.cap_of}
+use Rattle.shared_tables.specs.{AtTable.TableSeat, AtTable.IsAt, AtTable.Ended, TableRule.TableOf}
+use Rattle.concurrent_queue.specs.{declared.party.SeatPlace.SeatPlace, declared.party.SeatPlace.SeatPlace as place, Calling.IsHeldAt, Shared.QueueId, Shared.at_table, Shared.PartyView, Shared.IsHeld, Shared.Calls, Shared.party_view_of}
 use Rattle.concurrent_queue.proofs.PartyViews.{ended_party_view, ended_calls}
 
 -- a table is told by its name

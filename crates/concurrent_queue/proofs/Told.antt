@@ -1,25 +1,14 @@
 -- A party whose call was tried: it is held again, and the call was made or has done nothing.
 use Rattle.std.proofs.Common.{◌≡◌, ℕ, Option, None, Continue, Break, refl, sym, ap, subst, ◌∙◌}
-use Rattle.std.specs.ControlFlow.{MatchControlFlow}
-use Rattle.std.specs.declared.ops.ControlFlow.{ControlFlow}
-use Rattle.atomic_table.specs.Seated.{TableId}
-use Rattle.atomic_table.specs.declared.shared.Seat.{Seat}
+use Rattle.std.specs.{ControlFlow.MatchControlFlow, declared.ops.ControlFlow.ControlFlow}
+use Rattle.atomic_table.specs.{Seated.TableId, declared.shared.Seat.Seat}
 use Rattle.mem_blocks.specs.declared.web.Rested.{Rested}
-use Rattle.queue_steps.specs.declared.model.Call.{Call}
-use Rattle.queue_steps.specs.declared.model.Call.TheVariants as call
-use Rattle.queue_steps.specs.declared.model.Reply.{Reply}
-use Rattle.queue_steps.specs.declared.model.Reply.TheVariants as reply
-use Rattle.queue_steps.specs.Kinds.{call_value}
+use Rattle.queue_steps.specs.{declared.model.Call.Call, declared.model.Call.Call as call, declared.model.Reply.Reply, declared.model.Reply.Reply as reply, Kinds.call_value}
 use Rattle.shared_parties.specs.declared.known.CallState.{CallState}
 use Rattle.shared_tables.specs.AtTable.{Ended}
-use Rattle.concurrent_queue.specs.declared.party.SeatPlace.{SeatPlace}
-use Rattle.concurrent_queue.specs.declared.party.SeatPlace.TheVariants as place
+use Rattle.concurrent_queue.specs.{declared.party.SeatPlace.SeatPlace, declared.party.SeatPlace.SeatPlace as place, Shared.QueueId, Shared.PartyView, Shared.IsHeld, Shared.party_view_of, Tries.Tries}
 use Rattle.shared_calls.specs.InWeb.{EndedAt}
-use Rattle.concurrent_queue.specs.Shared.{QueueId, PartyView, IsHeld, party_view_of}
-use Rattle.concurrent_queue.specs.Tries.{Tries}
-use Rattle.concurrent_queue.proofs.Quits.{saw_more}
-use Rattle.concurrent_queue.proofs.TableCalls.{queue_at, here, table_ends}
-use Rattle.concurrent_queue.proofs.WebParties.{web_ends}
+use Rattle.concurrent_queue.proofs.{Quits.saw_more, TableCalls.queue_at, TableCalls.here, TableCalls.table_ends, WebParties.web_ends}
 
 module _ {T : Type 0} where
   pub told_table : (a : SeatPlace T) (s : Seat (Option T) (CallState T)) (cap : Option ℕ) (t : TableId) → a ≡ place.Table s → IsHeld a → (q : Seat (Option T) (CallState T)) (b : SeatPlace T) (v : PartyView T) (c : Call T) (x z : ControlFlow (Reply T) (Option T))

@@ -1,15 +1,11 @@
 -- A party of a shared chain whose call ended, as contracts see it.
 use Rattle.std.proofs.Common.{◌≡◌, true, None, sym, ap, subst}
 use Rattle.mem_blocks.specs.declared.web.Rested.{Rested}
-use Rattle.queue_steps.specs.declared.model.Call.{Call}
-use Rattle.queue_steps.specs.declared.model.Reply.{Reply}
-use Rattle.shared_parties.specs.declared.known.CallState.{CallState}
-use Rattle.shared_parties.specs.Parting.{IsParty}
+use Rattle.queue_steps.specs.declared.model.{Call.Call, Reply.Reply}
+use Rattle.shared_parties.specs.{declared.known.CallState.CallState, Parting.IsParty}
 use Rattle.shared_parties.proofs.Views.{ended_party}
 use Rattle.shared_calls.specs.InWeb.{EndedAt}
-use Rattle.concurrent_queue.specs.declared.party.SeatPlace.{SeatPlace}
-use Rattle.concurrent_queue.specs.declared.party.SeatPlace.TheVariants as place
-use Rattle.concurrent_queue.specs.Shared.{PartyView, party_view, party_view_of, in_web, IsHeld, Calls}
+use Rattle.concurrent_queue.specs.{declared.party.SeatPlace.SeatPlace, declared.party.SeatPlace.SeatPlace as place, Shared.PartyView, Shared.party_view, Shared.party_view_of, Shared.in_web, Shared.IsHeld, Shared.Calls}
 use Rattle.concurrent_queue.proofs.PartyViews.{calls_party_view}
 
 module _ {T : Type 0} where

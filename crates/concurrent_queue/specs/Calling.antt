@@ -1,14 +1,9 @@
 -- A party of a queue between its calls, by where its seat is.
 use Rattle.std.specs.Prelude.{ℕ, Option}
-use Rattle.atomic_table.specs.declared.shared.Seat.{Seat}
-use Rattle.shared_parties.specs.declared.known.CallState.{CallState}
-use Rattle.concurrent_queue.specs.declared.party.SeatPlace.{SeatPlace}
-use Rattle.concurrent_queue.specs.declared.party.SeatPlace.TheVariants as place
-use Rattle.concurrent_queue.specs.declared.shared.Form.{Form}
-use Rattle.atomic_table.specs.Seated.{TableId}
-use Rattle.shared_parties.specs.Calling.{cap_of}
+use Rattle.atomic_table.specs.{declared.shared.Seat.Seat, Seated.TableId}
+use Rattle.shared_parties.specs.{declared.known.CallState.CallState, Calling.cap_of}
+use Rattle.concurrent_queue.specs.{declared.party.SeatPlace.SeatPlace, declared.party.SeatPlace.SeatPlace as place, declared.shared.Form.Form, Shared.QueueId, Shared.IsPartyOf, Shared.IsHeld, Shared.at_table, Shared.form_id, Shared.party_view_of}
 use Rattle.shared_tables.specs.TableRule.{TableOf}
-use Rattle.concurrent_queue.specs.Shared.{QueueId, IsPartyOf, IsHeld, at_table, form_id, party_view_of}
 
 -- the queue at a table of this kind
 abbrev pub queue_at : {T : Type 0} → (ℕ → TableOf T) → TableId → QueueId

@@ -1,34 +1,14 @@
 -- A party whose call is on its way and stands before one of its steps: what its seat tells of the call, and what is so of it.
 use Rattle.std.specs.Prelude.{◌≡◌, ◌≤◌, ℕ, Option, Some, None}
-use Rattle.atomic_table.specs.declared.shared.Seat.{Seat}
+use Rattle.atomic_table.specs.{declared.shared.Seat.Seat, Seated.TableId}
 use Rattle.mem_blocks.specs.declared.block.BlockPtr.{BlockPtr as Link}
-use Rattle.queue_steps.specs.declared.steps.types.Answer.{Answer}
-use Rattle.queue_steps.specs.declared.steps.types.Kind.TheVariants as queue
-use Rattle.queue_steps.specs.declared.steps.types.Local.{Local}
-use Rattle.queue_steps.specs.Kinds.{call_kind}
-use Rattle.queue_steps.specs.Next.{CanNext, next_of}
-use Rattle.queue_steps.specs.Parties.{IsView}
-use Rattle.shared_parties.specs.declared.known.CallState.{CallState}
-use Rattle.shared_parties.specs.declared.known.Work.TheVariants as work
-use Rattle.shared_parties.specs.Quitting.{its_call}
-use Rattle.shared_parties.specs.Calling.{cap_of}
-use Rattle.shared_parties.specs.CallsAt.{begun_at}
-use Rattle.shared_tables.specs.TableRule.{TableOf}
-use Rattle.shared_tables.specs.TableTurns.{After}
-use Rattle.shared_tables.specs.SlotTable.{slot_table}
-use Rattle.shared_tables.specs.RingTable.{ring_table}
-use Rattle.shared_chain.specs.Names.{link_of, local_map, answer_map}
+use Rattle.queue_steps.specs.{declared.steps.types.Answer.Answer, declared.steps.types.Kind.Kind as queue, declared.steps.types.Local.Local, Kinds.call_kind, Next.CanNext, Next.next_of, Parties.IsView}
+use Rattle.shared_parties.specs.{declared.known.CallState.CallState, declared.known.Work.Work as work, Quitting.its_call, Calling.cap_of, CallsAt.begun_at}
+use Rattle.shared_tables.specs.{TableRule.TableOf, TableTurns.After, SlotTable.slot_table, RingTable.ring_table}
+use Rattle.shared_chain.specs.{Names.link_of, Names.local_map, Names.answer_map, Turning.SitsAt, declared.web.ChainWeb.ChainWeb}
 use Rattle.shared_chain.specs.Steps as chain
-use Rattle.shared_chain.specs.Turning.{SitsAt}
-use Rattle.shared_chain.specs.declared.web.ChainWeb.{ChainWeb}
-use Rattle.shared_calls.specs.declared.chain.Asking.{Asking}
-use Rattle.shared_calls.specs.declared.left.Left.{Left}
-use Rattle.concurrent_queue.specs.declared.shared.pending.CallPlace.{CallPlace}
-use Rattle.concurrent_queue.specs.declared.shared.pending.CallPlace.TheVariants as place
-use Rattle.atomic_table.specs.Seated.{TableId}
-use Rattle.concurrent_queue.specs.Shared.{QueueName, at_table, in_web}
-use Rattle.concurrent_queue.specs.Begun.{Begun}
-use Rattle.shared_calls.specs.Pausing.{IsStep}
+use Rattle.shared_calls.specs.{declared.chain.Asking.Asking, declared.left.Left.Left, Pausing.IsStep}
+use Rattle.concurrent_queue.specs.{declared.shared.pending.CallPlace.CallPlace, declared.shared.pending.CallPlace.CallPlace as place, Shared.QueueName, Shared.at_table, Shared.in_web, Begun.Begun}
 
 -- of a seat on the queue of this name and capacity, what it was when its call began, and the call
 abbrev pub begun_by : {T : Type 0} → QueueName → Option ℕ → CallState T → Begun T

@@ -1,24 +1,11 @@
 -- Queues that parties share, as contracts see them.
 use Rattle.std.specs.Prelude.{◌≡◌, ◌≢◌, ℕ, true, [], Option, Some, None}
 use Rattle.atomic_table.specs.Seated.{TableId}
-use Rattle.queue_steps.specs.declared.model.Call.{Call}
-use Rattle.queue_steps.specs.declared.model.Reply.{Reply}
-use Rattle.queue_steps.specs.Shares.{IsEntire}
-use Rattle.queue_steps.specs.Parties.{View, SharedCall, Split, Join, Meet, IsWhole}
-use Rattle.queue_steps.specs.SequentialCalls.{SequentialCall}
-use Rattle.queue_steps.specs.Effect.{after}
-use Rattle.queue_steps.specs.Legal.{IsShown}
-use Rattle.queue_steps.specs.Sequential.{Owned}
+use Rattle.queue_steps.specs.{declared.model.Call.Call, declared.model.Reply.Reply, Shares.IsEntire, Parties.View, Parties.SharedCall, Parties.Split, Parties.Join, Parties.Meet, Parties.IsWhole, SequentialCalls.SequentialCall, Effect.after, Legal.IsShown, Sequential.Owned}
 use Rattle.shared_chain.specs.Turning.{web_of}
-use Rattle.concurrent_queue.specs.declared.shared.Form.{Form}
-use Rattle.concurrent_queue.specs.declared.shared.Form.TheVariants as form
+use Rattle.concurrent_queue.specs.declared.{shared.Form.Form, shared.Form.Form as form, party.SeatPlace.SeatPlace, party.SeatPlace.SeatPlace as place}
 use Rattle.mem_blocks.specs.Laid.{WebId}
-use Rattle.shared_parties.specs.declared.known.CallState.{CallState}
-use Rattle.shared_parties.specs.Known.{view_of}
-use Rattle.shared_parties.specs.CallStates.{empty_seat}
-use Rattle.shared_parties.specs.Parting.{IsParty}
-use Rattle.concurrent_queue.specs.declared.party.SeatPlace.{SeatPlace}
-use Rattle.concurrent_queue.specs.declared.party.SeatPlace.TheVariants as place
+use Rattle.shared_parties.specs.{declared.known.CallState.CallState, Known.view_of, CallStates.empty_seat, Parting.IsParty}
 
 -- by what a queue is told from others: its table, or its web. A seat that is away is of none
 pub data QueueName : Type 0 where

@@ -1,12 +1,8 @@
 -- What a contract sees of an iterator over a shared queue.
 use Rattle.std.specs.Prelude.{◌≡◌, Option, Result}
-use Rattle.std.specs.Result.{result_ok}
-use Rattle.std.specs.Borrow.{GName}
-use Rattle.queue_steps.specs.declared.model.Call.TheVariants as call
-use Rattle.queue_steps.specs.declared.model.Reply.TheVariants as reply
-use Rattle.queue_steps.specs.declared.errors.PopError.{PopError}
-use Rattle.concurrent_queue.specs.declared.shared.iter.TryIter.{TryIter}
-use Rattle.concurrent_queue.specs.Shared.{PartyView, IsPartyOf, Calls}
+use Rattle.std.specs.{Result.result_ok, Borrow.GName}
+use Rattle.queue_steps.specs.declared.{model.Call.Call as call, model.Reply.Reply as reply, errors.PopError.PopError}
+use Rattle.concurrent_queue.specs.{declared.shared.iter.TryIter.TryIter, Shared.PartyView, Shared.IsPartyOf, Shared.Calls}
 
 -- r is what a pop of the party gave, and took the party from v to w
 abbrev pub Popped : {T : Type 0} → PartyView T → Option T → PartyView T → Type 0

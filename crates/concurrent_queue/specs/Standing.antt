@@ -1,17 +1,7 @@
 -- A party's seat, and a call on its way, beside what its queue is made of.
 use Rattle.std.specs.Prelude.{◌≡◌}
-use Rattle.shared_tables.specs.SlotTable.{slot_table}
-use Rattle.shared_tables.specs.RingTable.{ring_table}
-use Rattle.concurrent_queue.specs.declared.party.SeatPlace.{SeatPlace}
-use Rattle.concurrent_queue.specs.declared.party.SeatPlace.TheVariants as place
-use Rattle.concurrent_queue.specs.declared.shared.Form.{Form}
-use Rattle.concurrent_queue.specs.declared.shared.Form.TheVariants as form
-use Rattle.concurrent_queue.specs.declared.shared.standing.Seated.{Seated}
-use Rattle.concurrent_queue.specs.declared.shared.standing.Seated.TheVariants as seated
-use Rattle.concurrent_queue.specs.declared.shared.standing.Standing.{Standing}
-use Rattle.concurrent_queue.specs.declared.shared.standing.Standing.TheVariants as standing
-use Rattle.concurrent_queue.specs.Begun.{Begun}
-use Rattle.concurrent_queue.specs.Pending.{StopsHere, StopsInside}
+use Rattle.shared_tables.specs.{SlotTable.slot_table, RingTable.ring_table}
+use Rattle.concurrent_queue.specs.{declared.party.SeatPlace.SeatPlace, declared.party.SeatPlace.SeatPlace as place, declared.shared.Form.Form, declared.shared.Form.Form as form, declared.shared.standing.Seated.Seated, declared.shared.standing.Seated.Seated as seated, declared.shared.standing.Standing.Standing, declared.shared.standing.Standing.Standing as standing, Begun.Begun, Pending.StopsHere, Pending.StopsInside}
 
 -- the call of v stands there
 abbrev pub StandsAs : {T A : Type 0} → Standing T A → Begun T → Type 0

@@ -1,23 +1,8 @@
 -- What a call that gives up in the place of waiting adds to its party's view: what the call does that waits, or nothing.
 use Rattle.std.specs.Prelude.{◌≡◌, Option, Ok, Err, Result}
-use Rattle.std.specs.ControlFlow.{MatchControlFlow}
-use Rattle.std.specs.declared.ops.ControlFlow.{ControlFlow}
-use Rattle.queue_steps.specs.declared.model.Call.{Call}
-use Rattle.queue_steps.specs.declared.model.Call.TheVariants as call
-use Rattle.queue_steps.specs.declared.model.Reply.{Reply}
-use Rattle.queue_steps.specs.declared.model.Reply.TheVariants as reply
-use Rattle.queue_steps.specs.declared.errors.PushError.TheVariants as push
-use Rattle.queue_steps.specs.declared.errors.ForcePushError.TheVariants as force
-use Rattle.queue_steps.specs.declared.errors.PopError.TheVariants as pop
-use Rattle.queue_steps.specs.Kinds.{call_value}
-use Rattle.concurrent_queue.specs.declared.try_errors.TryPushError.{TryPushError}
-use Rattle.concurrent_queue.specs.declared.try_errors.TryPushError.TheVariants as try_push
-use Rattle.concurrent_queue.specs.declared.try_errors.TryForcePushError.{TryForcePushError}
-use Rattle.concurrent_queue.specs.declared.try_errors.TryForcePushError.TheVariants as try_force
-use Rattle.concurrent_queue.specs.declared.try_errors.TryPopError.{TryPopError}
-use Rattle.concurrent_queue.specs.declared.try_errors.TryPopError.TheVariants as try_pop
-use Rattle.concurrent_queue.specs.SawMore.{SawMore}
-use Rattle.concurrent_queue.specs.Shared.{PartyView, Calls}
+use Rattle.std.specs.{ControlFlow.MatchControlFlow, declared.ops.ControlFlow.ControlFlow}
+use Rattle.queue_steps.specs.{declared.model.Call.Call, declared.model.Call.Call as call, declared.model.Reply.Reply, declared.model.Reply.Reply as reply, declared.errors.PushError.PushError as push, declared.errors.ForcePushError.ForcePushError as force, declared.errors.PopError.PopError as pop, Kinds.call_value}
+use Rattle.concurrent_queue.specs.{declared.try_errors.TryPushError.TryPushError, declared.try_errors.TryPushError.TryPushError as try_push, declared.try_errors.TryForcePushError.TryForcePushError, declared.try_errors.TryForcePushError.TryForcePushError as try_force, declared.try_errors.TryPopError.TryPopError, declared.try_errors.TryPopError.TryPopError as try_pop, SawMore.SawMore, Shared.PartyView, Shared.Calls}
 
 module _ {T : Type 0} where
   -- the call c was made, or has done nothing and its value comes back

@@ -1,11 +1,6 @@
 -- The texts of the errors of calls that never wait, and the value that each hands back.
 use Rattle.std.specs.Prelude.{ℕ, List, codes}
-use Rattle.concurrent_queue.specs.declared.try_errors.TryPushError.{TryPushError}
-use Rattle.concurrent_queue.specs.declared.try_errors.TryPushError.TheVariants as push
-use Rattle.concurrent_queue.specs.declared.try_errors.TryForcePushError.{TryForcePushError}
-use Rattle.concurrent_queue.specs.declared.try_errors.TryForcePushError.TheVariants as force
-use Rattle.concurrent_queue.specs.declared.try_errors.TryPopError.{TryPopError}
-use Rattle.concurrent_queue.specs.declared.try_errors.TryPopError.TheVariants as pop
+use Rattle.concurrent_queue.specs.declared.try_errors.{TryPushError.TryPushError, TryPushError.TryPushError as push, TryForcePushError.TryForcePushError, TryForcePushError.TryForcePushError as force, TryPopError.TryPopError, TryPopError.TryPopError as pop}
 
 abbrev pub try_push_error_text : {T : Type 0} → TryPushError T → List ℕ
 try_push_error_text (push.Full value) = codes "Full"

@@ -8,9 +8,7 @@ use native.Mathlib.Nat.{add-mod_right}
 use Rattle.atomic_table.specs.Table.{Act, keeps, step, stepped, carried_after, Valid, Allows, Splits, Joins}
 use Rattle.queue_steps.specs.Shares.{Share, entire, nothing, half, plus, IsEntire, IsPart, IsSome, weight}
 use Rattle.queue_steps.proofs.ShareLaws.{part_weight, weight_halves, weight_none}
-use Rattle.counted_channel.specs.declared.counting.Side.{Side}
-use Rattle.counted_channel.specs.declared.counting.SeatCounts.{SeatCounts}
-use Rattle.counted_channel.specs.declared.counting.TheConstants.{MAX_ENDS}
+use Rattle.counted_channel.specs.declared.counting.{Side.Side, SeatCounts.SeatCounts, TheConstants.MAX_ENDS}
 use Rattle.counted_channel.specs.Counting.{side, nobody, both, at_side, side_at, stake_at, halved, two_seats, both_sides, first_sender, first_receiver, SideKept, Table, Seated, IsCounted, IsEndSeat, Added, Subtracted}
 use Rattle.counted_channel.proofs.OneSide.{total_at, ends, extra, stake, heft, changes, stays, divides, unites, few, solo}
 

@@ -2,16 +2,11 @@
 use Rattle.std.proofs.Common.{◌≡◌, ◌≢◌, ◌⊎◌, ℕ, zero, suc, ◌+◌, ◌*◌, ◌^◌, ◌<◌, ◌≤◌, List, [], ◌∷◌, ◌++◌, set, refl, ap, sym, ◌∙◌, subst, inl, ⊎_elim, arith}
 use mathlib.Core.Option.{some, some-injective, some-ne-none}
 use lib.ListN.{get_elem?}
-use Rattle.std.proofs.Common.{mul-le-mul_right}
-use Rattle.std.proofs.lemmas.Nat.{pow-add}
-use Rattle.std.proofs.Math.Nat.{zero-mul, add-mul, eq-zero-or-pos}
+use Rattle.std.proofs.{Common.mul-le-mul_right, lemmas.Nat.pow-add, Math.Nat.zero-mul, Math.Nat.add-mul, Math.Nat.eq-zero-or-pos}
 use Rattle.atomic_table.proofs.Lists.{at_set, at_snoc, set_else}
 use Rattle.queue_steps.specs.Shares.{Share, nothing, plus, IsEntire, IsSome, weight}
 use Rattle.queue_steps.proofs.ShareLaws.{weight_deeper, weight_plus, weight_none, weight_some, weight_entire, plus_comm, plus_some}
-use Rattle.counted_channel.specs.declared.counting.Side.{Side}
-use Rattle.counted_channel.specs.declared.counting.SeatCounts.{SeatCounts}
-use Rattle.counted_channel.specs.declared.counting.TheConstants.{MAX_ENDS}
-use Rattle.counted_channel.specs.Counting.{nobody, together, total, SideKept}
+use Rattle.counted_channel.specs.{declared.counting.Side.Side, declared.counting.SeatCounts.SeatCounts, declared.counting.TheConstants.MAX_ENDS, Counting.nobody, Counting.together, Counting.total, Counting.SideKept}
 
 module _ (f : SeatCounts → ℕ) where
   total_set : (l : List SeatCounts) (i : ℕ) (a b : SeatCounts) → get_elem? l i ≡ some a → total f (set l i b) + f a ≡ total f l + f b

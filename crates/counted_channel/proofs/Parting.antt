@@ -1,7 +1,6 @@
 -- A party that was parted and joined again has its places and its share.
 use Rattle.std.proofs.Common.{◌≡◌, ◌++◌, sym, ◌∙◌, subst, append-nil}
-use Rattle.queue_steps.specs.Effect.{IsHistory}
-use Rattle.queue_steps.specs.Shares.{Share, SamePart, half}
+use Rattle.queue_steps.specs.{Effect.IsHistory, Shares.Share, Shares.SamePart, Shares.half}
 use Rattle.queue_steps.proofs.ShareLaws.{same_refl, halves_joined}
 use Rattle.concurrent_queue.specs.Shared.{QueueId, PartyView, Parts, Joins}
 use Rattle.counted_channel.specs.Channel.{End, GivenBack}

@@ -1,24 +1,10 @@
 -- A poll that came to nothing leaves its end having done nothing, and a call after it is a call from before it.
 use Rattle.std.proofs.Common.{◌≡◌, ℕ, Option, Err, Result, List, [], ◌∷◌, refl, ap, sym, ◌∙◌, subst}
 use Rattle.std.specs.Result.{result_ok}
-use Rattle.queue_steps.specs.declared.model.Call.{Call}
-use Rattle.queue_steps.specs.declared.model.Call.TheVariants as call
-use Rattle.queue_steps.specs.declared.model.Reply.{Reply}
-use Rattle.queue_steps.specs.declared.model.Reply.TheVariants as reply
-use Rattle.queue_steps.specs.declared.errors.PopError.TheVariants as pop
-use Rattle.queue_steps.specs.declared.errors.PushError.TheVariants as push
-use Rattle.queue_steps.specs.Shares.{Share, IsEntire}
-use Rattle.queue_steps.specs.Parties.{View}
-use Rattle.concurrent_queue.specs.SawMore.{SawMore}
-use Rattle.concurrent_queue.specs.Shared.{PartyView, Calls}
-use Rattle.counted_channel.specs.declared.calls.polled.At.{At}
-use Rattle.counted_channel.specs.declared.calls.polled.At.TheVariants as at
-use Rattle.counted_channel.specs.QueueCalls.Polled.{party_at, IsBetween, IsPopping}
-use Rattle.counted_channel.specs.declared.calls.errors.Disconnected.{Disconnected}
+use Rattle.queue_steps.specs.{declared.model.Call.Call, declared.model.Call.Call as call, declared.model.Reply.Reply, declared.model.Reply.Reply as reply, declared.errors.PopError.PopError as pop, declared.errors.PushError.PushError as push, Shares.Share, Shares.IsEntire, Parties.View}
+use Rattle.concurrent_queue.specs.{SawMore.SawMore, Shared.PartyView, Shared.Calls}
+use Rattle.counted_channel.specs.{declared.calls.polled.At.At, declared.calls.polled.At.At as at, QueueCalls.Polled.party_at, QueueCalls.Polled.IsBetween, QueueCalls.Polled.IsPopping, declared.calls.errors.Disconnected.Disconnected, declared.counting.SeatCounts.SeatCounts, Channel.End, Channel.ChannelCall, Channel.end_at, Channel.received, Polling.EndWaited, Polling.HasReceived}
 use Rattle.atomic_table.specs.Seated.{TableId}
-use Rattle.counted_channel.specs.declared.counting.SeatCounts.{SeatCounts}
-use Rattle.counted_channel.specs.Channel.{End, ChannelCall, end_at, received}
-use Rattle.counted_channel.specs.Polling.{EndWaited, HasReceived}
 use Rattle.counted_channel.proofs.Trying.{Tried, untried, prefix_on, tried_more, conforms_then, empty_is_refused, full_is_refused}
 
 module _ {T : Type 0} where

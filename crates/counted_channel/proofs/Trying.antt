@@ -2,20 +2,7 @@
 use Rattle.std.proofs.Common.{◌≡◌, ◌⊎◌, ℕ, ◌+◌, ◌≤◌, Option, None, Err, List, [], ◌∷◌, ◌++◌, length, refl, ap, sym, ◌∙◌, subst, append_assoc, append-nil, arith}
 use mathlib.Core.List.{IsPrefix}
 use Rattle.std.proofs.Common.{length-append}
-use Rattle.queue_steps.specs.declared.model.Call.{Call}
-use Rattle.queue_steps.specs.declared.model.Call.TheVariants as call
-use Rattle.queue_steps.specs.declared.model.Reply.{Reply}
-use Rattle.queue_steps.specs.declared.model.Reply.TheVariants as reply
-use Rattle.queue_steps.specs.declared.model.Effect.{Effect}
-use Rattle.queue_steps.specs.declared.errors.PopError.TheVariants as pop
-use Rattle.queue_steps.specs.declared.errors.PushError.TheVariants as push
-use Rattle.queue_steps.specs.Effect.{after}
-use Rattle.queue_steps.specs.Replies.{LacksMemory, Tells}
-use Rattle.queue_steps.specs.Shares.{Share, IsEntire}
-use Rattle.queue_steps.specs.Parties.{View, StandAt, Displaces, SharedCall}
-use Rattle.queue_steps.specs.Sequential.{sequential_reply, sequential_state}
-use Rattle.queue_steps.specs.Legal.{IsShown}
-use Rattle.queue_steps.specs.SequentialCalls.{SequentialCall}
+use Rattle.queue_steps.specs.{declared.model.Call.Call, declared.model.Call.Call as call, declared.model.Reply.Reply, declared.model.Reply.Reply as reply, declared.model.Effect.Effect, declared.errors.PopError.PopError as pop, declared.errors.PushError.PushError as push, Effect.after, Replies.LacksMemory, Replies.Tells, Shares.Share, Shares.IsEntire, Parties.View, Parties.StandAt, Parties.Displaces, Parties.SharedCall, Sequential.sequential_reply, Sequential.sequential_state, Legal.IsShown, SequentialCalls.SequentialCall}
 use Rattle.concurrent_queue.specs.Shared.{QueueId, PartyView, Calls}
 
 module _ {T : Type 0} where

@@ -2,14 +2,10 @@
 use Rattle.std.specs.Prelude.{◌≡◌, ℕ}
 use mathlib.Core.List.{IsPrefix}
 use Rattle.atomic_table.specs.Seated.{TableId}
-use Rattle.queue_steps.specs.declared.model.Call.{Call}
-use Rattle.queue_steps.specs.declared.model.Reply.{Reply}
-use Rattle.queue_steps.specs.Effect.{IsHistory}
-use Rattle.queue_steps.specs.Shares.{Share, SamePart, IsPart, entire, half, plus}
+use Rattle.queue_steps.specs.{declared.model.Call.Call, declared.model.Reply.Reply, Effect.IsHistory, Shares.Share, Shares.SamePart, Shares.IsPart, Shares.entire, Shares.half, Shares.plus}
 use Rattle.concurrent_queue.specs.Shared.{QueueId, PartyView, Calls, Parts, Joins}
 pub use Rattle.counted_channel.specs.QueueCalls.Calls.{Ends, sent, force_sent, received}
-use Rattle.counted_channel.specs.declared.counting.SeatCounts.{SeatCounts}
-use Rattle.counted_channel.specs.Counting.{stake_at}
+use Rattle.counted_channel.specs.{declared.counting.SeatCounts.SeatCounts, Counting.stake_at}
 
 -- which channel: its queue, and the table that counts its ends
 pub record ChannelId : Type 0 where

@@ -4,9 +4,7 @@ use mathlib.Core.Option.{some}
 use lib.ListN.{get_elem?}
 use Rattle.atomic_table.specs.Table.{State, Me, Step}
 use Rattle.queue_steps.specs.Shares.{Share, entire, nothing, half, plus, IsEntire, IsPart, IsSome, weight}
-use Rattle.counted_channel.specs.declared.counting.Side.{Side}
-use Rattle.counted_channel.specs.declared.counting.SeatCounts.{SeatCounts}
-use Rattle.counted_channel.specs.declared.counting.TheConstants.{MAX_ENDS}
+use Rattle.counted_channel.specs.declared.counting.{Side.Side, SeatCounts.SeatCounts, TheConstants.MAX_ENDS}
 
 abbrev pub side : ℕ → ℕ → Share → Side
 side ends extra stake = record { ends = ends; extra = extra; stake = stake }

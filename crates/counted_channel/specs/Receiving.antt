@@ -1,11 +1,8 @@
 -- What a contract sees of the items that a receiver receives.
 use Rattle.std.specs.Prelude.{◌≡◌, Option, Result}
-use Rattle.std.specs.Result.{result_ok}
-use Rattle.std.specs.Borrow.{GName}
-use Rattle.queue_steps.specs.declared.model.Call.TheVariants as call
-use Rattle.counted_channel.specs.declared.calls.errors.Disconnected.{Disconnected}
-use Rattle.counted_channel.specs.declared.items.Items.{Items}
-use Rattle.counted_channel.specs.Channel.{End, IsEndOf, ChannelCall, received}
+use Rattle.std.specs.{Result.result_ok, Borrow.GName}
+use Rattle.queue_steps.specs.declared.model.Call.{Call as call}
+use Rattle.counted_channel.specs.{declared.calls.errors.Disconnected.Disconnected, declared.items.Items.Items, Channel.End, Channel.IsEndOf, Channel.ChannelCall, Channel.received}
 
 -- r is what a `recv` of the end gave, and took the end from d to e
 abbrev pub Received : {T : Type 0} → End T → Option T → End T → Type 0

@@ -1,9 +1,6 @@
 -- Where a call on the two words may begin, stop and end.
 use Rattle.std.specs.Prelude.{◌≡◌, ℕ, Bool, true, false}
-use Rattle.event_count.specs.declared.wakes.steps.Phase.{Phase}
-use Rattle.event_count.specs.declared.wakes.steps.Phase.TheVariants.{Idle, Starting, Prepared, Missed, Returned, Given, Taking, Clearing}
-use Rattle.event_count.specs.declared.wakes.steps.Step.{Step}
-use Rattle.event_count.specs.declared.wakes.steps.Step.TheVariants.{Rest, Park}
+use Rattle.event_count.specs.declared.wakes.steps.{Phase.Phase, Phase.TheVariants.Idle, Phase.TheVariants.Starting, Phase.TheVariants.Prepared, Phase.TheVariants.Missed, Phase.TheVariants.Returned, Phase.TheVariants.Given, Phase.TheVariants.Taking, Phase.TheVariants.Clearing, Step.Step, Step.TheVariants.Rest, Step.TheVariants.Park}
 
 -- a call of `prepare` or of a notify
 abbrev pub Begins : Phase → Type 0

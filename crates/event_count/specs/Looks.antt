@@ -1,8 +1,5 @@
 -- Looks with a ticket and without one.
-use Rattle.event_count.specs.declared.patience.Look.{Look}
-use Rattle.event_count.specs.declared.patience.Look.TheVariants as look
-use Rattle.event_count.specs.declared.patience.Vain.{Vain}
-use Rattle.event_count.specs.declared.patience.Vain.TheVariants as vain
+use Rattle.event_count.specs.declared.patience.{Look.Look, Look.Look as look, Vain.Vain, Vain.Vain as vain}
 
 module _ {C : Type 0} where
   -- a look in vain that was made without a ticket

@@ -1,15 +1,7 @@
 -- Which call a reply answers.
 use Rattle.std.specs.Prelude.{◌≡◌, Bool, true, false, Option, Some, None, Ok, Err, refl, if◌then◌else◌}
 use Rattle.std.proofs.Common.{inl, inr, ap, sym, ◌∙◌, subst}
-use Rattle.queue_steps.specs.State.{State, is_full}
-use Rattle.queue_steps.specs.declared.model.Call.{Call}
-use Rattle.queue_steps.specs.declared.model.Call.TheVariants as call
-use Rattle.queue_steps.specs.declared.model.Reply.{Reply}
-use Rattle.queue_steps.specs.declared.model.Reply.TheVariants as reply
-use Rattle.queue_steps.specs.declared.errors.PushError.TheVariants as push
-use Rattle.queue_steps.specs.declared.errors.ForcePushError.TheVariants as force
-use Rattle.queue_steps.specs.Kinds.{call_kind, call_of_reply, filled}
-use Rattle.queue_steps.specs.Sequential.{Owned, Sequential, is_spent}
+use Rattle.queue_steps.specs.{State.State, State.is_full, declared.model.Call.Call, declared.model.Call.Call as call, declared.model.Reply.Reply, declared.model.Reply.Reply as reply, declared.errors.PushError.PushError as push, declared.errors.ForcePushError.ForcePushError as force, Kinds.call_kind, Kinds.call_of_reply, Kinds.filled, Sequential.Owned, Sequential.Sequential, Sequential.is_spent}
 use Rattle.call_driver.specs.Apart.{AnswersApart}
 
 -- a reply that is filled, if it is, answers the call that its kind answers

@@ -1,21 +1,8 @@
 -- What a call that may change the queue answers and leaves, in std's words.
 use Rattle.std.proofs.Common.{◌≡◌, ◌⊎◌, ℕ, Bool, true, false, not, ◌&&◌, ◌==◌, List, [], ◌∷◌, ◌++◌, length, Option, Some, None, Result, Ok, Err, refl, ap, sym, subst, inl, inr, arith}
-use Rattle.std.specs.Prelude.{OnOk, IfOk, IfErr, IfSome}
-use Rattle.std.specs.Option.{option_to_list}
-use Rattle.queue_steps.specs.declared.sizes.TheConstants.{LIMIT}
-use Rattle.queue_steps.specs.State.{is_full, fills, is_single_cap}
-use Rattle.queue_steps.specs.Effect.{rest}
-use Rattle.queue_steps.specs.Errors.{push_error_value, force_push_error_value}
+use Rattle.std.specs.{Prelude.OnOk, Prelude.IfOk, Prelude.IfErr, Prelude.IfSome, Option.option_to_list}
+use Rattle.queue_steps.specs.{declared.sizes.TheConstants.LIMIT, State.is_full, State.fills, State.is_single_cap, Effect.rest, Errors.push_error_value, Errors.force_push_error_value, declared.errors.PopError.PopError, declared.errors.PushError.PushError, declared.errors.ForcePushError.ForcePushError, declared.errors.PopError.PopError as pop, declared.errors.PushError.PushError as push, declared.errors.ForcePushError.ForcePushError as force, declared.model.Call.Call as call, declared.model.Reply.Reply, declared.model.Reply.Reply as reply}
 use Rattle.queue_steps.specs.Sequential.{Owned, Sequential, is_spent, shut, displaced, counted, front, moved, pop_result}
-use Rattle.queue_steps.specs.declared.errors.PopError.{PopError}
-use Rattle.queue_steps.specs.declared.errors.PushError.{PushError}
-use Rattle.queue_steps.specs.declared.errors.ForcePushError.{ForcePushError}
-use Rattle.queue_steps.specs.declared.errors.PopError.TheVariants as pop
-use Rattle.queue_steps.specs.declared.errors.PushError.TheVariants as push
-use Rattle.queue_steps.specs.declared.errors.ForcePushError.TheVariants as force
-use Rattle.queue_steps.specs.declared.model.Call.TheVariants as call
-use Rattle.queue_steps.specs.declared.model.Reply.{Reply}
-use Rattle.queue_steps.specs.declared.model.Reply.TheVariants as reply
 use Rattle.queue_steps.proofs.TableCases.{table_cases}
 
 fills_tells : (cap : Option ℕ) (n : ℕ) → fills cap n ≡ true → cap ≡ Some n

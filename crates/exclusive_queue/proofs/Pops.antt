@@ -1,10 +1,6 @@
 -- What pops do to the number of items.
 use Rattle.std.proofs.Common.{◌≡◌, ◌<◌, Bool, List, [], ◌∷◌, length, Result, Ok, Err, refl, arith, sym, ap, ◌∙◌, subst, inl, inr}
-use Rattle.queue_steps.specs.Effect.{rest}
-use Rattle.queue_steps.specs.Sequential.{Owned, Sequential, pop_result}
-use Rattle.queue_steps.specs.declared.errors.PopError.{PopError}
-use Rattle.queue_steps.specs.declared.model.Call.TheVariants as call
-use Rattle.queue_steps.specs.declared.model.Reply.TheVariants as reply
+use Rattle.queue_steps.specs.{Effect.rest, Sequential.Owned, Sequential.Sequential, Sequential.pop_result, declared.errors.PopError.PopError, declared.model.Call.Call as call, declared.model.Reply.Reply as reply}
 
 module _ {T : Type 0} where
   fewer : (closed : Bool) (items : List T) (x : T) → pop_result closed items ≡ Ok x → length (rest items) < length items

@@ -6,12 +6,8 @@ use Rattle.std.specs.declared.alloc.Allocator as Allocator
 use Rattle.std.specs.contracts.alloc.Global as global
 use Rattle.std.specs.contracts.impls.GlobalAllocator.TheImpl.{ghosts}
 use Rattle.std.proofs.Crossing.{frees, send, sync}
-use Rattle.own_cells.proofs.OneRing.Sent.{ring_send, ring_sync}
-use Rattle.exclusive_queue.specs.contracts.exclusive.form.Form.{the_row as form_row, enum as form_enum}
-use Rattle.exclusive_queue.specs.contracts.exclusive.Exclusive.{the_row as exclusive_row}
-use Rattle.exclusive_queue.specs.contracts.exclusive.Exclusive.TheInside.{the_type as exclusive_type}
-use Rattle.own_cells.proofs.chain.unbounded.LinkedBlocks.TheSendSync.{the_send as blocks_send, the_sync as blocks_sync}
-use Rattle.own_cells.proofs.slot.single.Single.TheSendSync.{the_send as single_send, the_sync as single_sync}
+use Rattle.own_cells.proofs.{OneRing.Sent.ring_send, OneRing.Sent.ring_sync, chain.unbounded.LinkedBlocks.TheSendSync.the_send as blocks_send, chain.unbounded.LinkedBlocks.TheSendSync.the_sync as blocks_sync, slot.single.Single.TheSendSync.the_send as single_send, slot.single.Single.TheSendSync.the_sync as single_sync}
+use Rattle.exclusive_queue.specs.contracts.exclusive.{form.Form.the_row as form_row, form.Form.enum as form_enum, Exclusive.the_row as exclusive_row, Exclusive.TheInside.the_type as exclusive_type}
 
 form_send : (T A : RattleType) (g : Allocator.Ghosts A.Denot) → IsSend T → IsSend A → Frees g g.dealloc_token → IsSend (form_row T A g)
 form_send T A g s t f = variants_send (form_enum T A g) ((single_send T s, tt), ((ring_send T A g s t f, tt), (((blocks_send T A g s t f, tt), tt))))

@@ -1,8 +1,6 @@
 -- Runs of calls one behind the other.
 use Rattle.std.proofs.Common.{List, [], ◌∷◌, ◌++◌, refl, subst}
-use Rattle.queue_steps.specs.Sequential.{Owned, Sequential, SequentialRun}
-use Rattle.queue_steps.specs.declared.model.Call.{Call}
-use Rattle.queue_steps.specs.declared.model.Reply.{Reply}
+use Rattle.queue_steps.specs.{Sequential.Owned, Sequential.Sequential, Sequential.SequentialRun, declared.model.Call.Call, declared.model.Reply.Reply}
 
 -- a run, and one call behind it
 pub run_more : {T : Type 0} (P Q R : Owned T) (cs : List (Call T)) (rs : List (Reply T)) (c : Call T) (r : Reply T) → SequentialRun P cs rs Q → Sequential Q c r R → SequentialRun P (cs ++ c ∷ []) (rs ++ r ∷ []) R

@@ -1,11 +1,7 @@
 -- Between its calls a queue with one owner is sound, however it keeps its items.
 use Rattle.queue_steps.specs.Legal.{IsSoundOwned}
-use Rattle.own_cells.specs.OneRing.Laws.Sound.{ring_sound}
-use Rattle.own_cells.specs.OneSlot.Laws.Sound.{single_sound}
-use Rattle.own_cells.specs.OneChain.Laws.OwnChainSequential.{own_chain_sound}
-use Rattle.exclusive_queue.specs.Exclusive.{form_owned, IsFormIdle}
-use Rattle.exclusive_queue.specs.declared.exclusive.form.Form.{Form}
-use Rattle.exclusive_queue.specs.declared.exclusive.form.Form.TheVariants as form
+use Rattle.own_cells.specs.{OneRing.Laws.Sound.ring_sound, OneSlot.Laws.Sound.single_sound, OneChain.Laws.OwnChainSequential.own_chain_sound}
+use Rattle.exclusive_queue.specs.{Exclusive.form_owned, Exclusive.IsFormIdle, declared.exclusive.form.Form.Form, declared.exclusive.form.Form.Form as form}
 
 pub sound : {T A : Type 0} (f : Form T A) → IsFormIdle f → IsSoundOwned (form_owned f)
 sound (form.Single s) idle = single_sound s idle

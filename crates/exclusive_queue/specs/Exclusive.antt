@@ -3,9 +3,7 @@ use Rattle.queue_steps.specs.Sequential.{Owned}
 use Rattle.own_cells.specs.OneSlot.SingleCells as single
 use Rattle.own_cells.specs.OneRing.RingOwned as ring
 use Rattle.own_cells.specs.OneChain.OwnChainOwned as line
-use Rattle.exclusive_queue.specs.declared.exclusive.form.Form.{Form}
-use Rattle.exclusive_queue.specs.declared.exclusive.form.Form.TheVariants as form
-use Rattle.exclusive_queue.specs.declared.exclusive.Exclusive.TheInside.{Inside}
+use Rattle.exclusive_queue.specs.declared.exclusive.{form.Form.Form, form.Form.Form as form, Exclusive.TheInside.Inside}
 
 abbrev pub form_owned : {T A : Type 0} → Form T A → Owned T
 form_owned (form.Single s) = single.single_owned s

@@ -1,9 +1,7 @@
 -- What a contract sees of an iterator over a queue with one owner.
 use Rattle.std.specs.Prelude.{◌≡◌, List, Option}
-use Rattle.std.specs.Borrow.{GName}
-use Rattle.std.specs.Iterator.{YieldsFirst, Yields}
-use Rattle.queue_steps.specs.Sequential.{Owned, moved, sequential_state}
-use Rattle.queue_steps.specs.declared.model.Call.TheVariants as call
+use Rattle.std.specs.{Borrow.GName, Iterator.YieldsFirst, Iterator.Yields}
+use Rattle.queue_steps.specs.{Sequential.Owned, Sequential.moved, Sequential.sequential_state, declared.model.Call.Call as call}
 use Rattle.exclusive_queue.specs.declared.exclusive.iter.TryIter.{TryIter}
 
 -- the queue as a pop leaves it

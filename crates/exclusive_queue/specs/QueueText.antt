@@ -1,7 +1,6 @@
 -- What `{:?}` prints of a queue, and of an iterator over it.
 use Rattle.std.specs.Prelude.{ℕ, Bool, List, [], ◌∷◌, length, Option, Some, None, codes, if◌then◌else◌}
-use Rattle.std.specs.List.{concat}
-use Rattle.std.specs.Fmt.{decimal}
+use Rattle.std.specs.{List.concat, Fmt.decimal}
 use Rattle.queue_steps.specs.Sequential.{Owned}
 
 abbrev pub capacity_text : Option ℕ → List ℕ

@@ -1,8 +1,7 @@
 -- What an iterator over a queue with one owner has left.
 use Rattle.std.specs.Prelude.{List, [], ◌∷◌, Option, Some, None}
 use Rattle.std.specs.Borrow.{Bor}
-use Rattle.exclusive_queue.specs.declared.exclusive.reading.Left.{Left}
-use Rattle.exclusive_queue.specs.declared.exclusive.reading.Left.TheVariants as left
+use Rattle.exclusive_queue.specs.declared.exclusive.reading.Left.{Left, Left as left}
 
 abbrev pub shown : {T : Type 0} → Option (Bor T) → List T
 shown None = []

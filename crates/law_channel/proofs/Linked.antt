@@ -1,15 +1,13 @@
 -- The eventcounts of a channel count what its queue has, in every run.
 use Rattle.std.proofs.Common.{◌≡◌, ◌⊎◌, inl, inr, ℕ, zero, suc, ◌+◌, ◌≤◌, Bool, true, false, Option, Some, None, List, [], ◌∷◌, length, refl, sym, ap, ◌∙◌, subst, arith, eqb-true, length-append}
 use Rattle.std.proofs.lemmas.Bool.{eqb-false}
-use Rattle.queue_steps.specs.State.{State, fills, is_full}
-use Rattle.queue_steps.specs.Effect.{Fits, made, rest, with_coming}
+use Rattle.queue_steps.specs.{State.State, State.fills, State.is_full, Effect.Fits, Effect.made, Effect.rest, Effect.with_coming}
 use Rattle.queue_laws.specs.Common.Vocabulary.{Effect}
 use Rattle.event_count.specs.Sleep.World.{World, run}
 use Rattle.event_count.specs.Sleep.World as wakes
 use Rattle.law_channel.specs.Machine.{Items, Room, Channel, places, open_channel, Event, Steps, Rises, Prepares, Leaves, Fails, FindsClosed, Acts, TellsAgain, IsAt, is_free, MayAct, takes_place, MayHappen, happens, Runs, after_from}
 use Rattle.law_channel.specs.Laws.{on_way, taken}
-use Rattle.law_channel.proofs.Marks.{Marked, start_marked, marked_on}
-use Rattle.law_channel.proofs.Sides.{Became}
+use Rattle.law_channel.proofs.{Marks.Marked, Marks.start_marked, Marks.marked_on, Sides.Became}
 use Rattle.law_channel.proofs.Sides as sides
 
 -- all are notified for the first time by whoever closes the queue

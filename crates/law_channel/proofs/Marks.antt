@@ -1,12 +1,9 @@
 -- What is kept of the marks of those that sleep or go to sleep, and of those that notify all.
 use Rattle.std.proofs.Common.{◌≡◌, inl, inr, ℕ, ◌+◌, ◌-◌, ◌==◌, Bool, true, false, if◌then◌else◌, Option, Some, None, List, map, replicate, count_by, slice_get, slice_set, sym, subst}
-use Rattle.event_count.specs.declared.wakes.steps.Phase.{Phase}
+use Rattle.event_count.specs.{declared.wakes.steps.Phase.Phase, declared.wakes.steps.Whom.TheVariants.One, declared.wakes.steps.Whom.TheVariants.All, Sleep.Steps.low, Sleep.Steps.step_of, Sleep.Steps.looked_of}
 use Rattle.event_count.specs.declared.wakes.steps.Phase.TheVariants.{Idle, Starting, Loaded, Prepared, Missed, Returned, Given, Taking, Clearing, Moving, Waking}
-use Rattle.event_count.specs.declared.wakes.steps.Whom.TheVariants.{One, All}
-use Rattle.event_count.specs.Sleep.Steps.{low, step_of, looked_of}
 use Rattle.event_count.specs.Sleep.World.{Party, Awake, Asleep, World, Event, Steps, Rises, Prepares, Looks, Leaves, Gives, Tells, is_asleep, risen, put, goes_on, counts_late, wakes_one, takes, rises, looks, leaves, prepares, gives, tells, happens}
-use Rattle.event_count.proofs.Sleep.Counts.{set_get, map_get, replicate_get}
-use Rattle.event_count.proofs.Sleep.Telling.{acts_keeps}
+use Rattle.event_count.proofs.Sleep.{Counts.set_get, Counts.map_get, Counts.replicate_get, Telling.acts_keeps}
 
 -- P holds of the mark of a party that sleeps or goes to sleep, and E where a party notifies all
 abbrev pub Waits : (ℕ → Type 0) → Type 0 → Party → Type 0

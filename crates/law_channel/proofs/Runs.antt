@@ -1,17 +1,13 @@
 -- The laws of every run of a channel, from those of its two eventcounts.
 use Rattle.std.proofs.Common.{◌≡◌, ◌⊎◌, inl, inr, ℕ, ◌-◌, Bool, true, false, Option, Some, None, List, [], ◌∷◌, ◌++◌, refl, sym, ap, ◌∙◌, subst, arith}
 use Rattle.queue_steps.specs.Effect as history
-use Rattle.event_count.specs.Sleep.World.{Party, Awake, Asleep, World, run}
+use Rattle.event_count.specs.{Sleep.World.Party, Sleep.World.Awake, Sleep.World.Asleep, Sleep.World.World, Sleep.World.run, Sleep.Laws.is_rousing, Sleep.Laws.Sleeps, Sleep.Laws.AreHeeded, Sleep.Laws.AreRoused, Sleep.Laws.IsTelling, Sleep.Laws.HasMissedNothing, declared.wakes.steps.Phase.TheVariants.Moving, declared.wakes.steps.Phase.TheVariants.Waking, declared.wakes.steps.Whom.TheVariants.All}
 use Rattle.event_count.specs.Sleep.World as wakes
-use Rattle.event_count.specs.Sleep.Laws.{is_rousing, Sleeps, AreHeeded, AreRoused, IsTelling, HasMissedNothing}
-use Rattle.event_count.specs.declared.wakes.steps.Phase.TheVariants.{Moving, Waking}
-use Rattle.event_count.specs.declared.wakes.steps.Whom.TheVariants.{All}
 use Rattle.event_count.proofs.Sleep.Counts.{some_counted}
 use Rattle.event_count.proofs.Sleep.Runs as waking
 use Rattle.law_channel.specs.Machine.{Side, Items, Room, Channel, at_side, places, open_channel, Event, Steps, Rises, Prepares, Leaves, Fails, FindsClosed, Acts, TellsAgain, seen_at, happens, Runs, after_from}
 use Rattle.law_channel.specs.Laws.{IsReached, effects_of, IsOneHistory, taken, NoItemWaits, NoRoomWaits, NoCloseIsSleptThrough}
-use Rattle.law_channel.proofs.Marks.{Waits, Marked}
-use Rattle.law_channel.proofs.Linked.{Timed, Roomy, Early, EarlyIn, Linked, link_start, link_after}
+use Rattle.law_channel.proofs.{Marks.Waits, Marks.Marked, Linked.Timed, Linked.Roomy, Linked.Early, Linked.EarlyIn, Linked.Linked, Linked.link_start, Linked.link_after}
 
 run_append : (xs ys : List wakes.Event) (w : World) → run (xs ++ ys) w ≡ run ys (run xs w)
 run_append [] ys w = refl

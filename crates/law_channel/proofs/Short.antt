@@ -1,7 +1,6 @@
 -- Each example may happen, and ends so.
 use Rattle.std.proofs.Common.{inl, [], refl}
-use Rattle.event_count.specs.declared.wakes.steps.Phase.TheVariants.{Idle, Prepared, Returned}
-use Rattle.event_count.specs.Sleep.World.{Awake}
+use Rattle.event_count.specs.{declared.wakes.steps.Phase.TheVariants.Idle, declared.wakes.steps.Phase.TheVariants.Prepared, declared.wakes.steps.Phase.TheVariants.Returned, Sleep.World.Awake}
 use Rattle.law_channel.specs.Examples.{Examples}
 
 pub examples : Examples

@@ -1,7 +1,6 @@
 -- What holds in every run of a channel.
 use Rattle.std.specs.Prelude.{◌≡◌, ◌⊎◌, ℕ, ◌+◌, ◌-◌, true, false, List, [], ◌∷◌, length, Option, Some, None}
-use Rattle.queue_steps.specs.State.{State}
-use Rattle.queue_steps.specs.Effect.{IsHistory, after}
+use Rattle.queue_steps.specs.{State.State, Effect.IsHistory, Effect.after}
 use Rattle.queue_laws.specs.Common.Vocabulary.{Effect}
 use Rattle.event_count.specs.Sleep.Laws.{Sleeps, AreHeeded, AreRoused, IsTelling}
 use Rattle.law_channel.specs.Machine.{Side, Channel, at_side, open_channel, Event, Acts, Runs, after_from}

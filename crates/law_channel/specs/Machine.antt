@@ -1,11 +1,8 @@
 -- A channel: the queue, two eventcounts, and any number of parties over them; and what one event makes of it.
 use Rattle.std.specs.Prelude.{◌≡◌, ℕ, Bool, true, false, List, [], ◌∷◌, Option, Some, None, Err, slice_get}
-use Rattle.queue_steps.specs.State.{State, start}
-use Rattle.queue_steps.specs.Effect.{Fits, made}
-use Rattle.queue_steps.specs.Replies.{IsRightAt}
+use Rattle.queue_steps.specs.{State.State, State.start, Effect.Fits, Effect.made, Replies.IsRightAt}
 use Rattle.queue_laws.specs.Common.Vocabulary.{Call, Reply, Effect, PopError, PushError}
-use Rattle.event_count.specs.declared.wakes.steps.Phase.TheVariants.{Idle, Prepared, Returned}
-use Rattle.event_count.specs.Sleep.World.{Party, Awake, World, run}
+use Rattle.event_count.specs.{declared.wakes.steps.Phase.TheVariants.Idle, declared.wakes.steps.Phase.TheVariants.Prepared, declared.wakes.steps.Phase.TheVariants.Returned, Sleep.World.Party, Sleep.World.Awake, Sleep.World.World, Sleep.World.run}
 use Rattle.event_count.specs.Sleep.World as wakes
 
 -- what is waited for

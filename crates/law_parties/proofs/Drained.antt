@@ -1,11 +1,7 @@
 -- What a party knows that has seen the queue closed and empty.
 use Rattle.std.proofs.Common.{◌≡◌, ℕ, Option, Err, List, ◌++◌, ap, sym, subst, ◌∙◌, ⊎_elim, append_assoc}
 use mathlib.Core.List.{IsPrefix}
-use Rattle.queue_steps.specs.declared.model.Effect.{Effect}
-use Rattle.queue_steps.specs.declared.model.Call.TheVariants as call
-use Rattle.queue_steps.specs.declared.model.Reply.TheVariants as reply
-use Rattle.queue_steps.specs.declared.errors.PopError.TheVariants as pop
-use Rattle.queue_steps.specs.Effect.{IsHistory, after}
+use Rattle.queue_steps.specs.{declared.model.Effect.Effect, declared.model.Call.Call as call, declared.model.Reply.Reply as reply, declared.errors.PopError.PopError as pop, Effect.IsHistory, Effect.after}
 use Rattle.concurrent_queue.specs.Shared.{QueueId, PartyView, Calls}
 use Rattle.queue_laws.specs.History.Histories.{IsDrained}
 use Rattle.queue_laws.proofs.History.Closing.{ends_at}

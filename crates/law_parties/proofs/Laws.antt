@@ -1,17 +1,13 @@
 -- The laws of what parties did.
 use Rattle.std.proofs.Common.{◌≡◌, ℕ, true, Option, List, [], refl, ap, sym, subst, ◌∙◌, add-zero}
-use Rattle.queue_steps.specs.declared.model.Effect.{Effect}
-use Rattle.queue_steps.specs.Effect.{after}
-use Rattle.queue_steps.specs.Parties.{View, IsView}
+use Rattle.queue_steps.specs.{declared.model.Effect.Effect, Effect.after, Parties.View, Parties.IsView}
 use mathlib.Core.List.{IsPrefix}
 use Rattle.std.specs.List.{count_by}
 use lib.ListN.{get_elem?}
 use Rattle.concurrent_queue.specs.Shared.{QueueId}
 use Rattle.law_parties.specs.Doings.{passes, done_by, Did}
 use Rattle.law_parties.specs.Laws.{CallsAct, ClosedStaysSeen, DoingsAddUp, DrainedStays, ItemsAreKept, JoinsAddDoings, MeetsKeepDoings, NumbersAreKept, PopsSeeDrained, SplitsKeepDoings, WholeDidAll}
-use Rattle.law_parties.proofs.Doings.{acts, acts_none, acts_on, did_both, still_closed, unchanged}
-use Rattle.law_parties.proofs.Whole.{all_kept, all_there, done_by_whole}
-use Rattle.law_parties.proofs.Drained.{saw_drained, still_drained, is_drained}
+use Rattle.law_parties.proofs.{Doings.acts, Doings.acts_none, Doings.acts_on, Doings.did_both, Doings.still_closed, Doings.unchanged, Whole.all_kept, Whole.all_there, Whole.done_by_whole, Drained.saw_drained, Drained.still_drained, Drained.is_drained}
 
 pub calls_act : {T : Type 0} → CallsAct T
 calls_act v w c r is call = acts v w c r call.1.effects is call refl

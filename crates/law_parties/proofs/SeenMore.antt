@@ -1,17 +1,9 @@
 -- A party that has seen more and then makes a call has made it after what it had seen before.
 use Rattle.std.proofs.Common.{◌≤◌, ℕ, List, [], ◌∷◌, ◌++◌, length, Option, ap, sym, subst, ◌∙◌, arith}
 use mathlib.Core.List.{IsPrefix}
-use Rattle.queue_steps.specs.State.{State}
-use Rattle.queue_steps.specs.declared.model.Call.{Call}
-use Rattle.queue_steps.specs.declared.model.Effect.{Effect}
-use Rattle.queue_steps.specs.declared.model.Reply.{Reply}
-use Rattle.queue_steps.specs.Replies.{Allows}
-use Rattle.queue_steps.specs.Parties.{View, SharedCall, StandAt, Between, Displaces}
-use Rattle.queue_steps.specs.SequentialCalls.{SequentialCall}
-use Rattle.queue_steps.specs.Shares.{IsEntire}
+use Rattle.queue_steps.specs.{State.State, declared.model.Call.Call, declared.model.Effect.Effect, declared.model.Reply.Reply, Replies.Allows, Parties.View, Parties.SharedCall, Parties.StandAt, Parties.Between, Parties.Displaces, SequentialCalls.SequentialCall, Shares.IsEntire}
 use Rattle.shared_parties.proofs.Histories.{prefix_trans, prefix_length}
-use Rattle.concurrent_queue.specs.SawMore.{SawMore}
-use Rattle.concurrent_queue.specs.Shared.{QueueId, PartyView, Calls}
+use Rattle.concurrent_queue.specs.{SawMore.SawMore, Shared.QueueId, Shared.PartyView, Shared.Calls}
 
 module _ {T : Type 0} where
   -- what stands at these places, none before n, has none before m, which is no later

@@ -3,13 +3,9 @@ use Rattle.std.proofs.Common.{◌≡◌, ℕ, ◌+◌, Bool, cond, Option, None,
 use Rattle.std.specs.List.{count_by}
 use Rattle.std.proofs.lemmas.List.Sums.{sum_by-cons, sum_by-append}
 use lib.ListN.{get_elem?}
-use Rattle.queue_steps.specs.declared.model.Effect.{Effect}
-use Rattle.queue_steps.specs.declared.model.Effect.TheVariants as effect
-use Rattle.queue_steps.specs.Effect.{after, with_coming}
-use Rattle.queue_steps.specs.Parties.{View, IsView, IsWhole}
+use Rattle.queue_steps.specs.{declared.model.Effect.Effect, declared.model.Effect.Effect as effect, Effect.after, Effect.with_coming, Parties.View, Parties.IsView, Parties.IsWhole}
 use Rattle.queue_laws.specs.History.Histories.{handed_in, handed_out}
-use Rattle.queue_laws.proofs.History.Keeping.{keeps_all}
-use Rattle.queue_laws.proofs.History.Numbers.{sum_below, sum_covering, sum_first}
+use Rattle.queue_laws.proofs.History.{Keeping.keeps_all, Numbers.sum_below, Numbers.sum_covering, Numbers.sum_first}
 use Rattle.law_parties.specs.Doings.{passes, done_by, hands_in_such, hands_out_such, hands_in, hands_out}
 
 module _ {T : Type 0} where

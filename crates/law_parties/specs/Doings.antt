@@ -4,10 +4,7 @@ use Rattle.std.specs.List.{count_by}
 use mathlib.Core.Option.{Option, none, some}
 use mathlib.Core.List.{IsPrefix}
 use lib.ListN.{get_elem?}
-use Rattle.queue_steps.specs.declared.model.Effect.{Effect}
-use Rattle.queue_steps.specs.declared.model.Effect.TheVariants as effect
-use Rattle.queue_steps.specs.Effect.{after}
-use Rattle.queue_steps.specs.Parties.{View}
+use Rattle.queue_steps.specs.{declared.model.Effect.Effect, declared.model.Effect.Effect as effect, Effect.after, Parties.View}
 use Rattle.queue_laws.specs.History.Histories.{IsDrained}
 use Rattle.concurrent_queue.specs.Shared.{PartyView}
 

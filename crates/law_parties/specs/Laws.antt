@@ -2,17 +2,9 @@
 use Rattle.std.specs.Prelude.{◌≡◌, ℕ, ◌+◌, ◌==◌, Bool, Option, None, List, [], ◌++◌, Err}
 use Rattle.std.specs.List.{count_by}
 use mathlib.Core.List.{IsPrefix}
-use Rattle.queue_steps.specs.declared.model.Call.{Call}
-use Rattle.queue_steps.specs.declared.model.Reply.{Reply}
-use Rattle.queue_steps.specs.declared.model.Effect.{Effect}
-use Rattle.queue_steps.specs.declared.model.Call.TheVariants as call
-use Rattle.queue_steps.specs.declared.model.Reply.TheVariants as reply
-use Rattle.queue_steps.specs.declared.errors.PopError.TheVariants as pop
-use Rattle.queue_steps.specs.Effect.{IsHistory, after}
-use Rattle.queue_steps.specs.Parties.{View, IsView, IsWhole, Split, Join, Meet}
+use Rattle.queue_steps.specs.{declared.model.Call.Call, declared.model.Reply.Reply, declared.model.Effect.Effect, declared.model.Call.Call as call, declared.model.Reply.Reply as reply, declared.errors.PopError.PopError as pop, Effect.IsHistory, Effect.after, Parties.View, Parties.IsView, Parties.IsWhole, Parties.Split, Parties.Join, Parties.Meet}
 use Rattle.queue_laws.specs.History.Histories.{IsDrained}
-use Rattle.concurrent_queue.specs.SawMore.{SawMore}
-use Rattle.concurrent_queue.specs.Shared.{PartyView, Calls}
+use Rattle.concurrent_queue.specs.{SawMore.SawMore, Shared.PartyView, Shared.Calls}
 use Rattle.law_parties.specs.Doings.{done_by, hands_in_such, hands_out_such, hands_in, hands_out, Did, Acts, SawClosed, SawDrained}
 
 -- a call adds the effects at its places

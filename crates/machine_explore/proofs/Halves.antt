@@ -1,33 +1,16 @@
 -- Where a call stands tells whether it has had an effect.
 use Rattle.std.proofs.Common.{◌≡◌, ◌≢◌, ◌∙◌, ℕ, Bool, true, false, Option, Some, None, List, [], ◌∷◌, refl, sym, ap}
-use Rattle.queue_steps.specs.State.{State}
-use Rattle.queue_steps.specs.declared.steps.types.Kind.{Kind}
-use Rattle.queue_steps.specs.declared.steps.types.Kind.TheVariants as kind
-use Rattle.queue_steps.specs.declared.sizes.TheConstants.{MAX_CAPACITY}
+use Rattle.queue_steps.specs.{State.State, declared.steps.types.Kind.Kind, declared.steps.types.Kind.Kind as kind, declared.sizes.TheConstants.MAX_CAPACITY}
 use Rattle.std.proofs.lemmas.Bool.{ltb-false}
 use Rattle.queue_laws.specs.Chain.ChainAt as chain
-use Rattle.queue_laws.specs.Chain.ChainCells.{Chain}
-use Rattle.queue_laws.specs.Common.Stand.{Stand}
+use Rattle.queue_laws.specs.{Chain.ChainCells.Chain, Common.Stand.Stand, Ring.RingCells.Ring, Slot.SlotHolder.SlotHolder}
 use Rattle.queue_laws.specs.Ring.RingAt as ring
-use Rattle.queue_laws.specs.Ring.RingCells.{Ring}
-use Rattle.queue_laws.specs.Slot.SlotHolder.{SlotHolder}
 use Rattle.queue_laws.specs.Slot.SlotRows as slot
-use Rattle.machine_memory.specs.declared.calls.Running.{Running}
-use Rattle.machine_memory.specs.declared.types.Event.{Event}
-use Rattle.machine_memory.specs.SharedMemory.{Shared}
-use Rattle.machine_steps.specs.Left.{opening_world}
-use Rattle.machine_steps.specs.World.{call_at}
-use Rattle.machine_replay.specs.Book.{Open}
-use Rattle.machine_replay.specs.Played.{local_in, world_after}
-use Rattle.machine_replay.specs.Progress.{Standing as CallStanding, Between, Undone, HalfDone, standing}
-use Rattle.machine_replay.specs.Replays.{CanReplay, is_too_large}
-use Rattle.machine_replay.proofs.Chain.Stretch.{chain_rules}
-use Rattle.machine_replay.proofs.Ring.Stretch.{ring_rules}
-use Rattle.machine_replay.proofs.Single.Stretch.{single_rules}
-use Rattle.machine_replay.proofs.Progress.Standings.{Agrees}
-use Rattle.machine_replay.proofs.Progress.Stretch.{Rules, Party, first, reach}
-use Rattle.machine_explore.specs.Waiting.{is_half_done}
-use Rattle.machine_explore.specs.WaitTables.{is_half_done_at}
+use Rattle.machine_memory.specs.{declared.calls.Running.Running, declared.types.Event.Event, SharedMemory.Shared}
+use Rattle.machine_steps.specs.{Left.opening_world, World.call_at}
+use Rattle.machine_replay.specs.{Book.Open, Played.local_in, Played.world_after, Progress.Standing as CallStanding, Progress.Between, Progress.Undone, Progress.HalfDone, Progress.standing, Replays.CanReplay, Replays.is_too_large}
+use Rattle.machine_replay.proofs.{Chain.Stretch.chain_rules, Ring.Stretch.ring_rules, Single.Stretch.single_rules, Progress.Standings.Agrees, Progress.Stretch.Rules, Progress.Stretch.Party, Progress.Stretch.first, Progress.Stretch.reach}
+use Rattle.machine_explore.specs.{Waiting.is_half_done, WaitTables.is_half_done_at}
 
 has_some : {X : Type 0} → List X → Bool
 has_some [] = false

@@ -1,27 +1,14 @@
 -- What a replay of a run ends with is the outcome of that run.
 use Rattle.std.proofs.Common.{◌≡◌, ◌∙◌, ◌+◌, ◌<◌, ◌≤◌, ◌==◌, ◌&&◌, ◌++◌, ◌∷◌, [], ℕ, nat_lt, not, if◌then◌else◌, List, Some, None, length, map, refl, subst, sym, ap, arith, append_assoc, append-nil}
-use Rattle.std.specs.Prelude.{Contains}
-use Rattle.std.specs.List.{range_with_len}
+use Rattle.std.specs.{Prelude.Contains, List.range_with_len}
 use Rattle.std.proofs.lemmas.Bool.{le-ltb, lt-ltb}
 use Rattle.queue_steps.specs.declared.model.Reply.{Reply}
-use Rattle.machine_steps.specs.Left.{left_of, opening_world}
-use Rattle.machine_memory.specs.SharedMemory.{Shared}
-use Rattle.machine_steps.specs.Steps.{start_of, step_of}
-use Rattle.machine_steps.specs.World.{World}
-use Rattle.machine_memory.specs.declared.calls.Running.{Running}
-use Rattle.machine_memory.specs.declared.types.Event.{Event}
-use Rattle.machine_memory.specs.declared.types.Told.{Told}
-use Rattle.machine_memory.specs.declared.types.Told.TheVariants.{Skipped, Ran}
-use Rattle.machine_replay.specs.Conforms.{entries_from, party_of, reply_entry}
-use Rattle.machine_replay.specs.Played.{told_of, world_after}
+use Rattle.machine_steps.specs.{Left.left_of, Left.opening_world, Steps.start_of, Steps.step_of, World.World}
+use Rattle.machine_memory.specs.{SharedMemory.Shared, declared.calls.Running.Running, declared.types.Event.Event, declared.types.Told.Told, declared.types.Told.TheVariants.Skipped, declared.types.Told.TheVariants.Ran}
+use Rattle.machine_replay.specs.{Conforms.entries_from, Conforms.party_of, Conforms.reply_entry, Played.told_of, Played.world_after}
 use Rattle.machine_replay.proofs.Replays.Serving.{served_is_exact}
-use Rattle.machine_explore.specs.Explored.{outcome_of_run, replies_by}
-use Rattle.machine_explore.specs.Listed.{ReplaysAreListed, outcome_from, replies_from}
-use Rattle.machine_explore.specs.Moves.{reply_in}
-use Rattle.machine_explore.specs.Positions.{Outcome}
-use Rattle.machine_explore.proofs.Reaching.{if-nothing}
-use Rattle.machine_explore.proofs.Showing.{told_by-length}
-use Rattle.machine_explore.proofs.Starting.{told_by-append, world_by-append}
+use Rattle.machine_explore.specs.{Explored.outcome_of_run, Explored.replies_by, Listed.ReplaysAreListed, Listed.outcome_from, Listed.replies_from, Moves.reply_in, Positions.Outcome}
+use Rattle.machine_explore.proofs.{Reaching.if-nothing, Showing.told_by-length, Starting.told_by-append, Starting.world_by-append}
 
 entries-append : {T E : Type 0} (entry : ℕ → ℕ → Told T → List E) (n m : ℕ) (xs ys : List (Event T)) (ts us : List (Told T)) → length ts ≡ length xs → m ≡ n + length xs
     → entries_from entry n (xs ++ ys) (ts ++ us) ≡ entries_from entry n xs ts ++ entries_from entry m ys us

@@ -1,27 +1,13 @@
 -- A program has no outcome but those that a checked table has.
 use Rattle.std.proofs.Common.{◌≡◌, ◌∙◌, ◌<◌, ◌++◌, ℕ, Bool, true, false, List, [], Ok, Err, Result, length, map, subst, sym, ap, append-nil, arith, drop, zero-add}
-use Rattle.std.specs.Prelude.{slice_index_or, Contains, IfOk}
-use Rattle.std.specs.List.{All, range_with_len}
-use Rattle.std.proofs.lemmas.List.{get_or-map, get_or-replicate, length-map, same_lists}
-use Rattle.std.proofs.lemmas.List.Elements.{All-contains, All-weaker}
-use Rattle.std.proofs.lemmas.List.FromFn.{get_or-map-range_with_len, length-map-range_with_len}
-use Rattle.queue_steps.specs.declared.model.Call.{Call}
-use Rattle.queue_steps.specs.declared.model.Reply.{Reply}
-use Rattle.queue_steps.specs.declared.steps.types.Kind.{Kind}
-use Rattle.machine_steps.specs.Left.{left_of, opening_world}
-use Rattle.machine_memory.specs.SharedMemory.{Shared}
-use Rattle.machine_steps.specs.Steps.{start_of, step_of}
-use Rattle.machine_steps.specs.World.{World}
-use Rattle.machine_memory.specs.declared.calls.Running.{Running}
-use Rattle.machine_memory.specs.declared.types.Event.{Event}
-use Rattle.machine_explore.specs.Explored.{HasNoOther, IsGranted, Prepares, begun_by, outcome_of, replies_by}
-use Rattle.machine_explore.specs.Moves.{led}
+use Rattle.std.specs.{Prelude.slice_index_or, Prelude.Contains, Prelude.IfOk, List.All, List.range_with_len}
+use Rattle.std.proofs.lemmas.List.{get_or-map, get_or-replicate, length-map, same_lists, Elements.All-contains, Elements.All-weaker, FromFn.get_or-map-range_with_len, FromFn.length-map-range_with_len}
+use Rattle.queue_steps.specs.declared.{model.Call.Call, model.Reply.Reply, steps.types.Kind.Kind}
+use Rattle.machine_steps.specs.{Left.left_of, Left.opening_world, Steps.start_of, Steps.step_of, World.World}
+use Rattle.machine_memory.specs.{SharedMemory.Shared, declared.calls.Running.Running, declared.types.Event.Event}
+use Rattle.machine_explore.specs.{Explored.HasNoOther, Explored.IsGranted, Explored.Prepares, Explored.begun_by, Explored.outcome_of, Explored.replies_by, Moves.led, Positions.IsFinal, Positions.Outcome, Positions.Progress, Positions.Standing, Positions.calls_of, Positions.no_progress, Positions.outcome_at, Positions.progress_of, Starts.IsStart, Tables.EndsAmong, Tables.IsClosed, Tables.IsInside, Tables.StaysForAll}
 use Rattle.machine_replay.specs.Played.{told_of, world_after}
-use Rattle.machine_explore.specs.Positions.{IsFinal, Outcome, Progress, Standing, calls_of, no_progress, outcome_at, progress_of}
-use Rattle.machine_explore.specs.Starts.{IsStart}
-use Rattle.machine_explore.specs.Tables.{EndsAmong, IsClosed, IsInside, StaysForAll}
-use Rattle.machine_explore.proofs.Preparing.{PreparesBy, prepared_once}
-use Rattle.machine_explore.proofs.Reaching.{Arrives, Begins, reaches}
+use Rattle.machine_explore.proofs.{Preparing.PreparesBy, Preparing.prepared_once, Reaching.Arrives, Reaching.Begins, Reaching.reaches}
 
 pub as_prepared : (k : Kind) (w : World (Shared ℕ) (Running ℕ)) (before : List (Call ℕ)) (events : List (Event ℕ)) → Prepares k w before events → PreparesBy (step_of k) (start_of k) w before events
 as_prepared k w before events all = record { alone = all.alone; begins = all.begins; rests = all.rests }

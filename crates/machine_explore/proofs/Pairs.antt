@@ -1,7 +1,6 @@
 -- Lists whose items go together.
 use Rattle.std.proofs.Common.{◌≡◌, ℕ, ◌+◌, ◌<◌, List, [], ◌∷◌, ◌++◌, length, get_or, take, arith}
-use Rattle.std.proofs.Math.Seq.{take-suc}
-use Rattle.std.proofs.lemmas.Slice.Zip.{all_zipped_more}
+use Rattle.std.proofs.{Math.Seq.take-suc, lemmas.Slice.Zip.all_zipped_more}
 use Rattle.std.specs.List.{AllZip}
 
 -- one pair more goes together

@@ -1,22 +1,13 @@
 -- Calls that party 0 makes alone, one after another, lead to one world, however many of the events are skipped.
 use Rattle.std.proofs.Common.{◌≡◌, ◌≢◌, ◌∙◌, ◌++◌, ◌∷◌, [], ℕ, Bool, true, ◌⊎◌, List, Option, Some, None, refl, subst, sym, ap, inl, inr}
 use Rattle.std.specs.List.{All}
-use Rattle.std.proofs.lemmas.List.{append_cancel_left}
-use Rattle.std.proofs.lemmas.List.Elements.{All-head, All-tail}
-use Rattle.queue_steps.specs.declared.model.Call.{Call}
-use Rattle.machine_replay.specs.Conforms.{party_of}
+use Rattle.std.proofs.lemmas.List.{append_cancel_left, Elements.All-head, Elements.All-tail}
+use Rattle.queue_steps.specs.declared.model.{Call.Call, Reply.Reply}
+use Rattle.machine_replay.specs.{Conforms.party_of, Played.told_by, Played.world_by}
 use Rattle.machine_steps.specs.World.{Begun, Made, World, call_at, world_event}
-use Rattle.queue_steps.specs.declared.model.Reply.{Reply}
-use Rattle.machine_memory.specs.declared.types.EffectKind.{EffectKind}
-use Rattle.machine_memory.specs.declared.types.Event.{Event}
-use Rattle.machine_memory.specs.declared.types.Event.TheVariants.{Begin, Step}
-use Rattle.machine_memory.specs.declared.types.Told.{Told}
-use Rattle.machine_memory.specs.declared.types.Told.TheVariants.{Skipped, Ran}
-use Rattle.machine_explore.specs.Explored.{IsPreparing, begun_by}
-use Rattle.machine_explore.specs.Moves.{call_in}
-use Rattle.machine_replay.specs.Played.{told_by, world_by}
-use Rattle.machine_explore.proofs.Reaching.{begun-own, begun-skipped}
-use Rattle.machine_explore.proofs.Walks.{CanTake, WentOn, went_on}
+use Rattle.machine_memory.specs.declared.types.{EffectKind.EffectKind, Event.Event, Event.TheVariants.Begin, Event.TheVariants.Step, Told.Told, Told.TheVariants.Skipped, Told.TheVariants.Ran}
+use Rattle.machine_explore.specs.{Explored.IsPreparing, Explored.begun_by, Moves.call_in}
+use Rattle.machine_explore.proofs.{Reaching.begun-own, Reaching.begun-skipped, Walks.CanTake, Walks.WentOn, Walks.went_on}
 
 -- an event of party 0
 party_zero : {T : Type 0} (e : Event T) (t : Told T) (es : List (Event T)) (ts : List (Told T)) → party_of e ≡ 0 → begun_by 0 (e ∷ es) (t ∷ ts) ≡ call_in e t ++ begun_by 0 es ts

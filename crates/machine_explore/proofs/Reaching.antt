@@ -1,23 +1,12 @@
 -- A table of standings that no move leaves has where every run comes, on any machine.
 use Rattle.std.proofs.Common.{◌≡◌, ◌≢◌, ◌∙◌, ◌+◌, ◌<◌, ◌==◌, ◌++◌, ◌∷◌, [], ℕ, Bool, true, false, if◌then◌else◌, ◌⊎◌, List, Option, Some, None, length, length-append, refl, subst, sym, ap, inl, inr, arith, append_assoc, append-nil, drop}
-use Rattle.std.specs.Prelude.{slice_get, Contains, ⊤, MatchOption}
-use Rattle.std.specs.List.{All}
-use Rattle.std.proofs.lemmas.Bool.{eq-eqb}
-use Rattle.std.proofs.lemmas.Bool.Decides.{eqb_tells}
-use Rattle.std.proofs.lemmas.List.{get_or-set_same, get_or-set_other, length-set}
-use Rattle.std.proofs.lemmas.List.Elements.{All-contains, All-head, All-tail}
+use Rattle.std.specs.{Prelude.slice_get, Prelude.Contains, Prelude.⊤, Prelude.MatchOption, List.All}
+use Rattle.std.proofs.lemmas.{Bool.eq-eqb, Bool.Decides.eqb_tells, List.get_or-set_same, List.get_or-set_other, List.length-set, List.Elements.All-contains, List.Elements.All-head, List.Elements.All-tail}
 use Rattle.queue_steps.specs.declared.model.Call.{Call}
-use Rattle.machine_replay.specs.Conforms.{party_of}
+use Rattle.machine_replay.specs.{Conforms.party_of, Played.told_by, Played.world_by}
 use Rattle.machine_steps.specs.World.{Begun, Made, World, call_at, world_event}
-use Rattle.machine_memory.specs.declared.types.Event.{Event}
-use Rattle.machine_memory.specs.declared.types.Event.TheVariants.{Begin, Step}
-use Rattle.machine_memory.specs.declared.types.Told.{Told}
-use Rattle.machine_memory.specs.declared.types.Told.TheVariants.{Skipped}
-use Rattle.machine_explore.specs.Explored.{begun_by, replies_by, IsGranted}
-use Rattle.machine_explore.specs.Moves.{advanced, call_in, event_at, event_for, led_by, reply_in}
-use Rattle.machine_replay.specs.Played.{told_by, world_by}
-use Rattle.machine_explore.specs.Positions.{Configuration, Progress, calls_of, no_progress, progress_of}
-use Rattle.machine_explore.specs.Tables.{StaysForAll}
+use Rattle.machine_memory.specs.declared.types.{Event.Event, Event.TheVariants.Begin, Event.TheVariants.Step, Told.Told, Told.TheVariants.Skipped}
+use Rattle.machine_explore.specs.{Explored.begun_by, Explored.replies_by, Explored.IsGranted, Moves.advanced, Moves.call_in, Moves.event_at, Moves.event_for, Moves.led_by, Moves.reply_in, Positions.Configuration, Positions.Progress, Positions.calls_of, Positions.no_progress, Positions.progress_of, Tables.StaysForAll}
 use Rattle.machine_explore.proofs.Walks.{CanTake, WentOn, granted_of, left_over, next_call, went_on}
 
 -- the run of these events from s ends there

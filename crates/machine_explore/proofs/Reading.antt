@@ -1,9 +1,7 @@
 -- What a slice gives at an index.
 use Rattle.std.proofs.Common.{◌≡◌, ◌+◌, ◌<◌, ◌≤◌, ◌∙◌, ◌++◌, ◌∷◌, [], ℕ, Bor, List, None, Option, Some, ap, arith, length, sym, take}
-use Rattle.std.proofs.lemmas.List.{take_all, take_more}
-use Rattle.std.proofs.lemmas.Option.{slice_get-get_or, slice_get_past}
-use Rattle.std.specs.List.{HoldsAt}
-use Rattle.std.specs.Prelude.{MatchOption, option_copied, slice_get, slice_index_or}
+use Rattle.std.proofs.lemmas.{List.take_all, List.take_more, Option.slice_get-get_or, Option.slice_get_past}
+use Rattle.std.specs.{List.HoldsAt, Prelude.MatchOption, Prelude.option_copied, Prelude.slice_get, Prelude.slice_index_or}
 
 -- a copy of what stands there is the item at that index
 pub copied-is : {X : Type 0} (xs : List X) (i : ℕ) (r : Option (Bor X)) → MatchOption r (length xs ≤ i) (λ x. (i < length xs) × HoldsAt (λ y. x.now ≡ y) xs i) → option_copied r ≡ slice_get xs i

@@ -1,33 +1,14 @@
 -- Where the runs of a program start each party is between calls. So what happened since tells who is half done.
 use Rattle.std.proofs.Common.{◌≡◌, ◌≢◌, ◌∙◌, ℕ, false, Option, Some, None, List, [], ◌∷◌, ◌++◌, length, refl, sym, ap, inl, inr}
 use Rattle.std.specs.List.{All}
-use Rattle.std.proofs.lemmas.Bool.{ltb-false}
-use Rattle.std.proofs.lemmas.Bool.Decides.{eqb_tells}
-use Rattle.std.proofs.lemmas.List.Elements.{All-head, All-tail}
-use Rattle.queue_steps.specs.declared.model.Call.{Call}
-use Rattle.queue_steps.specs.declared.sizes.TheConstants.{MAX_CAPACITY}
-use Rattle.queue_steps.specs.declared.steps.types.Kind.{Kind}
-use Rattle.queue_steps.specs.declared.steps.types.Kind.TheVariants as kind
-use Rattle.machine_memory.specs.declared.types.Event.{Event}
-use Rattle.machine_memory.specs.declared.types.Told.{Told}
-use Rattle.machine_steps.specs.Left.{opening_world}
-use Rattle.machine_steps.specs.Steps.{start_of, step_of}
-use Rattle.machine_steps.specs.World.{call_at}
-use Rattle.machine_replay.specs.Book.{Open}
-use Rattle.machine_replay.specs.Conforms.{party_of}
-use Rattle.machine_replay.specs.Played.{told_of, world_after}
-use Rattle.machine_replay.specs.Progress.{Standing as CallStanding, Between, Undone, HalfDone, standing, stands_by, stands_then}
-use Rattle.machine_replay.specs.Replays.{CanReplay, is_too_large}
-use Rattle.machine_replay.proofs.Chain.Stretch.{chain_rules}
-use Rattle.machine_replay.proofs.Ring.Stretch.{ring_rules}
-use Rattle.machine_replay.proofs.Single.Stretch.{single_rules}
-use Rattle.machine_replay.proofs.Progress.Standings.{Agrees}
-use Rattle.machine_replay.proofs.Progress.Stretch.{Rules, call-there, first, reach}
-use Rattle.machine_explore.specs.Explored.{IsPreparing}
-use Rattle.machine_explore.specs.Positions.{Standing}
-use Rattle.machine_explore.specs.Starts.{IsStart}
-use Rattle.machine_explore.proofs.Showing.{told_by-length}
-use Rattle.machine_explore.proofs.Starting.{told_by-append}
+use Rattle.std.proofs.lemmas.{Bool.ltb-false, Bool.Decides.eqb_tells, List.Elements.All-head, List.Elements.All-tail}
+use Rattle.queue_steps.specs.declared.{model.Call.Call, sizes.TheConstants.MAX_CAPACITY, steps.types.Kind.Kind, steps.types.Kind.Kind as kind}
+use Rattle.machine_memory.specs.declared.types.{Event.Event, Told.Told}
+use Rattle.machine_steps.specs.{Left.opening_world, Steps.start_of, Steps.step_of, World.call_at}
+use Rattle.machine_replay.specs.{Book.Open, Conforms.party_of, Played.told_of, Played.world_after, Progress.Standing as CallStanding, Progress.Between, Progress.Undone, Progress.HalfDone, Progress.standing, Progress.stands_by, Progress.stands_then, Replays.CanReplay, Replays.is_too_large}
+use Rattle.machine_replay.proofs.{Chain.Stretch.chain_rules, Ring.Stretch.ring_rules, Single.Stretch.single_rules, Progress.Standings.Agrees, Progress.Stretch.Rules, Progress.Stretch.call-there, Progress.Stretch.first, Progress.Stretch.reach}
+use Rattle.machine_explore.specs.{Explored.IsPreparing, Positions.Standing, Starts.IsStart}
+use Rattle.machine_explore.proofs.{Showing.told_by-length, Starting.told_by-append}
 
 -- an event of another party
 pub other_stands : (p : ℕ) (x : CallStanding) (e : Event ℕ) (t : Told ℕ) → party_of e ≢ p → stands_then p x e t ≡ x

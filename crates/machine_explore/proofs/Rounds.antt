@@ -1,24 +1,12 @@
 -- A party that goes round is in a call, and each of its steps is silent.
 use Rattle.std.proofs.Common.{◌≡◌, ◌≢◌, ◌∙◌, ℕ, zero, suc, ◌+◌, ◌<◌, ◌≤◌, ◌⊎◌, false, true, Option, None, List, ◌∷◌, length, sym, ap, subst, inl, inr, arith}
 use Rattle.std.specs.Prelude.{replicate}
-use Rattle.queue_steps.specs.declared.sizes.TheConstants.{SOLO_STEPS}
-use Rattle.queue_steps.specs.declared.steps.types.Kind.{Kind}
-use Rattle.queue_steps.specs.declared.steps.types.Local.{Local}
-use Rattle.machine_memory.specs.declared.calls.Running.{Running}
-use Rattle.machine_memory.specs.declared.types.Event.{Event}
-use Rattle.machine_memory.specs.declared.types.Event.TheVariants.{Step}
-use Rattle.machine_memory.specs.declared.types.Told.{Told}
-use Rattle.machine_memory.specs.declared.types.Told.TheVariants.{Ran, Skipped}
-use Rattle.machine_memory.specs.SharedMemory.{Shared}
-use Rattle.machine_steps.specs.Machine.{event_of}
-use Rattle.machine_steps.specs.Steps.{start_of, step_of}
-use Rattle.machine_steps.specs.World.{World, call_at}
+use Rattle.queue_steps.specs.declared.{sizes.TheConstants.SOLO_STEPS, steps.types.Kind.Kind, steps.types.Local.Local}
+use Rattle.machine_memory.specs.{declared.calls.Running.Running, declared.types.Event.Event, declared.types.Event.TheVariants.Step, declared.types.Told.Told, declared.types.Told.TheVariants.Ran, declared.types.Told.TheVariants.Skipped, SharedMemory.Shared}
+use Rattle.machine_steps.specs.{Machine.event_of, Steps.start_of, Steps.step_of, World.World, World.call_at}
 use Rattle.machine_replay.specs.Played.{local_in, told_of, world_after}
-use Rattle.machine_explore.specs.Moves.{led}
-use Rattle.machine_explore.specs.Positions.{Standing}
-use Rattle.machine_explore.specs.Waiting.{GoesRound, IsSentBack, is_first}
-use Rattle.machine_explore.proofs.Waits.{IsOn}
-use Rattle.machine_explore.proofs.Walks.{went_on}
+use Rattle.machine_explore.specs.{Moves.led, Positions.Standing, Waiting.GoesRound, Waiting.IsSentBack, Waiting.is_first}
+use Rattle.machine_explore.proofs.{Waits.IsOn, Walks.went_on}
 
 silent_parts : (k : Kind) (w : World (Shared ℕ) (Running ℕ)) (p n : ℕ) → told_of k w (replicate (suc n) (Step p true)) ≡ replicate (suc n) (Ran None None)
     → ((event_of k true w (Step p true)).1 ≡ Ran None None) × (told_of k (event_of k true w (Step p true)).0 (replicate n (Step p true)) ≡ replicate n (Ran None None))

@@ -1,25 +1,11 @@
 -- A run of the machine that is copied, or goes on, and where it then stands.
 use Rattle.std.proofs.Common.{◌≡◌, ◌∙◌, ℕ, true, List, Option, Some, sym, ap}
 use Rattle.std.specs.Prelude.{map}
-use Rattle.queue_steps.specs.declared.model.Reply.{Reply}
-use Rattle.machine_steps.specs.Left.{left_of}
-use Rattle.queue_steps.specs.declared.model.Call.{Call}
-use Rattle.queue_steps.specs.declared.steps.types.Kind.{Kind}
-use Rattle.queue_steps.specs.declared.steps.types.Local.{Local}
-use Rattle.machine_replay.specs.Conforms.{party_of}
-use Rattle.machine_steps.specs.Machine.{event_of}
-use Rattle.machine_replay.specs.MachineRuns.{KeepsRun, IsSomeMachineRun}
-use Rattle.machine_replay.specs.Played.{local_in}
-use Rattle.machine_memory.specs.SharedMemory.{Shared}
-use Rattle.machine_steps.specs.World.{World, call_at}
-use Rattle.machine_memory.specs.declared.calls.Running.{Running}
-use Rattle.machine_replay.specs.declared.machine_run.MachineRun.{MachineRun}
-use Rattle.machine_memory.specs.declared.types.Event.{Event}
-use Rattle.machine_memory.specs.declared.types.Told.{Told}
-use Rattle.machine_explore.specs.Moves.{event_at, led}
-use Rattle.machine_explore.specs.Positions.{Outcome, Progress, Standing, outcome_at}
-use Rattle.machine_explore.specs.Traces.{IsSeen, Seen}
-use Rattle.machine_explore.specs.declared.schedule.Move.{Move}
+use Rattle.queue_steps.specs.declared.{model.Reply.Reply, model.Call.Call, steps.types.Kind.Kind, steps.types.Local.Local}
+use Rattle.machine_steps.specs.{Left.left_of, Machine.event_of, World.World, World.call_at}
+use Rattle.machine_replay.specs.{Conforms.party_of, MachineRuns.KeepsRun, MachineRuns.IsSomeMachineRun, Played.local_in, declared.machine_run.MachineRun.MachineRun}
+use Rattle.machine_memory.specs.{SharedMemory.Shared, declared.calls.Running.Running, declared.types.Event.Event, declared.types.Told.Told}
+use Rattle.machine_explore.specs.{Moves.event_at, Moves.led, Positions.Outcome, Positions.Progress, Positions.Standing, Positions.outcome_at, Traces.IsSeen, Traces.Seen, declared.schedule.Move.Move}
 use Rattle.machine_explore.proofs.Showing.{event_party}
 
 pub copied-some : {T A : Type 0} (c d : MachineRun T A) → KeepsRun c d → IsSomeMachineRun c → IsSomeMachineRun d

@@ -1,34 +1,13 @@
 -- A schedule that goes on move by move is a run of the program.
 use Rattle.std.proofs.Common.{◌≡◌, ◌≢◌, ◌∙◌, ◌+◌, ◌<◌, ◌==◌, ◌++◌, ◌∷◌, [], ℕ, zero, suc, Bool, true, false, if◌then◌else◌, ◌⊎◌, List, Option, Some, None, length, length-append, refl, subst, sym, ap, inl, inr, arith, append_assoc, append-nil, take}
-use Rattle.std.specs.Prelude.{slice_get, slice_index_or}
-use Rattle.std.specs.List.{All}
-use Rattle.std.proofs.lemmas.Bool.Decides.{eqb_tells}
-use Rattle.std.proofs.lemmas.List.{length-replicate, length-set, take_more, take_all}
-use Rattle.std.proofs.lemmas.List.Elements.{All-nil, All-push}
-use Rattle.std.proofs.lemmas.Slice.Zip.{all_zipped_more}
-use Rattle.queue_steps.specs.declared.model.Call.{Call}
-use Rattle.queue_steps.specs.declared.steps.types.Kind.{Kind}
-use Rattle.machine_replay.specs.Conforms.{party_of}
-use Rattle.machine_steps.specs.Left.{left_of, opening_world}
-use Rattle.machine_memory.specs.SharedMemory.{Shared}
-use Rattle.machine_steps.specs.Steps.{start_of, step_of}
-use Rattle.machine_steps.specs.World.{Begun, Made, World, call_at, world_event}
-use Rattle.machine_memory.specs.declared.calls.Running.{Running}
-use Rattle.machine_memory.specs.declared.types.Event.{Event}
-use Rattle.machine_memory.specs.declared.types.Event.TheVariants.{Begin, Step}
-use Rattle.machine_memory.specs.declared.types.Told.{Told}
-use Rattle.machine_memory.specs.declared.types.Told.TheVariants.{Skipped, Ran}
-use Rattle.machine_explore.specs.Certified.{IsMove, IsTaken}
-use Rattle.machine_explore.specs.Explored.{IsGranted, begun_by, replies_by}
-use Rattle.machine_explore.specs.Moves.{advanced, call_in, event_at, event_for, led, reply_in}
-use Rattle.machine_replay.specs.Played.{told_by, told_of, world_after, world_by}
-use Rattle.machine_explore.specs.Positions.{IsFinal, Progress, Standing, calls_of, no_progress, outcome_at, progress_of}
-use Rattle.machine_explore.specs.Starts.{IsStart}
-use Rattle.machine_explore.specs.Traces.{IsSeen, IsTraceOf, IsUnderWay, Seen, seen_at, trace_of}
-use Rattle.machine_explore.specs.declared.schedule.Move.{Move}
-use Rattle.machine_explore.proofs.NoOther.{ends_with, none_begun}
-use Rattle.machine_explore.proofs.Taking.{count_first, event_taken, same_count}
-use Rattle.machine_explore.proofs.Reaching.{if-true, if-false, progress-other, progress-own, same_party}
+use Rattle.std.specs.{Prelude.slice_get, Prelude.slice_index_or, List.All}
+use Rattle.std.proofs.lemmas.{Bool.Decides.eqb_tells, List.length-replicate, List.length-set, List.take_more, List.take_all, List.Elements.All-nil, List.Elements.All-push, Slice.Zip.all_zipped_more}
+use Rattle.queue_steps.specs.declared.{model.Call.Call, steps.types.Kind.Kind}
+use Rattle.machine_replay.specs.{Conforms.party_of, Played.told_by, Played.told_of, Played.world_after, Played.world_by}
+use Rattle.machine_steps.specs.{Left.left_of, Left.opening_world, Steps.start_of, Steps.step_of, World.Begun, World.Made, World.World, World.call_at, World.world_event}
+use Rattle.machine_memory.specs.{SharedMemory.Shared, declared.calls.Running.Running, declared.types.Event.Event, declared.types.Event.TheVariants.Begin, declared.types.Event.TheVariants.Step, declared.types.Told.Told, declared.types.Told.TheVariants.Skipped, declared.types.Told.TheVariants.Ran}
+use Rattle.machine_explore.specs.{Certified.IsMove, Certified.IsTaken, Explored.IsGranted, Explored.begun_by, Explored.replies_by, Moves.advanced, Moves.call_in, Moves.event_at, Moves.event_for, Moves.led, Moves.reply_in, Positions.IsFinal, Positions.Progress, Positions.Standing, Positions.calls_of, Positions.no_progress, Positions.outcome_at, Positions.progress_of, Starts.IsStart, Traces.IsSeen, Traces.IsTraceOf, Traces.IsUnderWay, Traces.Seen, Traces.seen_at, Traces.trace_of, declared.schedule.Move.Move}
+use Rattle.machine_explore.proofs.{NoOther.ends_with, NoOther.none_begun, Taking.count_first, Taking.event_taken, Taking.same_count, Reaching.if-true, Reaching.if-false, Reaching.progress-other, Reaching.progress-own, Reaching.same_party}
 
 -- one event more
 module _ {S R T : Type 0} (step : Bool → S → R → Made S R T) (start : Call T → Begun R T) where

@@ -2,26 +2,12 @@
 use Rattle.std.proofs.Common.{◌≡◌, ◌∙◌, ◌==◌, ◌++◌, ◌∷◌, [], ℕ, Bool, true, if◌then◌else◌, List, Option, None, length, refl, subst, sym, ap, append_assoc, append-nil}
 use Rattle.std.specs.List.{All}
 use Rattle.std.proofs.lemmas.List.Elements.{All-append, All-cons, All-nil, All-push}
-use Rattle.queue_steps.specs.declared.model.Call.{Call}
-use Rattle.queue_steps.specs.declared.model.Reply.{Reply}
-use Rattle.queue_steps.specs.declared.steps.types.Kind.{Kind}
-use Rattle.machine_replay.specs.Conforms.{party_of}
-use Rattle.machine_steps.specs.Left.{opening_world}
-use Rattle.machine_steps.specs.Machine.{event_of}
-use Rattle.machine_memory.specs.SharedMemory.{Shared}
-use Rattle.machine_steps.specs.Steps.{start_of, step_of}
-use Rattle.machine_steps.specs.World.{Begun, Made, World, call_at, world_event}
-use Rattle.machine_memory.specs.declared.calls.Running.{Running}
-use Rattle.machine_memory.specs.declared.types.EffectKind.{EffectKind}
-use Rattle.machine_memory.specs.declared.types.Event.{Event}
-use Rattle.machine_memory.specs.declared.types.Event.TheVariants.{Begin, Step}
-use Rattle.machine_memory.specs.declared.types.Told.{Told}
-use Rattle.machine_memory.specs.declared.types.Told.TheVariants.{Ran}
+use Rattle.queue_steps.specs.declared.{model.Call.Call, model.Reply.Reply, steps.types.Kind.Kind}
+use Rattle.machine_replay.specs.{Conforms.party_of, Played.told_by, Played.told_of, Played.world_after, Played.world_by}
+use Rattle.machine_steps.specs.{Left.opening_world, Machine.event_of, Steps.start_of, Steps.step_of, World.Begun, World.Made, World.World, World.call_at, World.world_event}
+use Rattle.machine_memory.specs.{SharedMemory.Shared, declared.calls.Running.Running, declared.types.EffectKind.EffectKind, declared.types.Event.Event, declared.types.Event.TheVariants.Begin, declared.types.Event.TheVariants.Step, declared.types.Told.Told, declared.types.Told.TheVariants.Ran}
 use Rattle.machine_memory.proofs.Busy.{nobody_calls}
-use Rattle.machine_explore.specs.Explored.{IsPreparing, Prepares, begun_by}
-use Rattle.machine_explore.specs.Moves.{call_in}
-use Rattle.machine_replay.specs.Played.{told_by, told_of, world_after, world_by}
-use Rattle.machine_explore.specs.Starts.{IsPrepared}
+use Rattle.machine_explore.specs.{Explored.IsPreparing, Explored.Prepares, Explored.begun_by, Moves.call_in, Starts.IsPrepared}
 use Rattle.machine_explore.proofs.Showing.{begun_by-snoc, told_by-length, told_by-snoc, world_by-snoc}
 
 module _ {S R T : Type 0} (step : Bool → S → R → Made S R T) (start : Call T → Begun R T) where

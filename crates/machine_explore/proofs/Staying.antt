@@ -1,17 +1,10 @@
 -- A table has where a party leads, as the code finds it.
 use Rattle.std.proofs.Common.{◌≡◌, Bool, true, false, ℕ, List, Option, Some, None, Result, Ok, Err, sym, ap, subst}
-use Rattle.std.specs.Prelude.{option_map, slice_get, slice_set, Contains, IfOk, MatchOption, ⊤}
-use Rattle.std.specs.declared.alloc.AllocError.{AllocError}
+use Rattle.std.specs.{Prelude.option_map, Prelude.slice_get, Prelude.slice_set, Prelude.Contains, Prelude.IfOk, Prelude.MatchOption, Prelude.⊤, declared.alloc.AllocError.AllocError}
 use Rattle.queue_steps.specs.declared.model.Call.{Call}
-use Rattle.machine_steps.specs.Machine.{event_of}
-use Rattle.machine_steps.specs.World.{World, call_at}
-use Rattle.machine_memory.specs.declared.types.Event.TheVariants.{Step}
-use Rattle.machine_memory.specs.declared.types.Told.{Told}
-use Rattle.machine_memory.specs.declared.calls.Running.{Running}
-use Rattle.machine_memory.specs.SharedMemory.{Shared}
-use Rattle.machine_explore.specs.Moves.{advanced, event_for, led}
-use Rattle.machine_explore.specs.Positions.{Standing, calls_of, progress_of}
-use Rattle.machine_explore.specs.Tables.{Stays, StaysOnce}
+use Rattle.machine_steps.specs.{Machine.event_of, World.World, World.call_at}
+use Rattle.machine_memory.specs.{declared.types.Event.TheVariants.Step, declared.types.Told.Told, declared.calls.Running.Running, SharedMemory.Shared}
+use Rattle.machine_explore.specs.{Moves.advanced, Moves.event_for, Moves.led, Positions.Standing, Positions.calls_of, Positions.progress_of, Tables.Stays, Tables.StaysOnce}
 
 -- where the event leads, if there is one, is what the table has
 pub stays_if : {X : Type 0} (o : Option X) (f : X → Standing) (r : Option Standing) (table : List Standing) → r ≡ option_map f o → MatchOption r ⊤ (Contains table) → MatchOption o ⊤ (λ e. Contains table (f e))

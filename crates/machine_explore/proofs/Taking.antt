@@ -1,23 +1,12 @@
 -- By the event by which a party goes on its call goes on: it is not skipped.
 use Rattle.std.proofs.Common.{◌≡◌, ◌≢◌, ◌∙◌, ◌<◌, ◌&&◌, ◌∷◌, [], ℕ, zero, suc, Bool, true, false, if◌then◌else◌, ◌⊎◌, List, Option, Some, None, length, refl, subst, ap, inl, inr, arith}
 use Rattle.std.specs.Prelude.{slice_get, slice_index_or}
-use Rattle.std.proofs.lemmas.Bool.{lt-ltb}
-use Rattle.std.proofs.lemmas.List.{length-replicate}
-use Rattle.queue_steps.specs.declared.model.Call.{Call}
-use Rattle.queue_steps.specs.declared.model.Reply.{Reply}
-use Rattle.queue_steps.specs.declared.steps.types.Kind.{Kind}
-use Rattle.machine_steps.specs.Left.{opening_world}
-use Rattle.machine_memory.specs.SharedMemory.{Shared}
-use Rattle.machine_steps.specs.Steps.{start_of, step_of}
+use Rattle.std.proofs.lemmas.{Bool.lt-ltb, List.length-replicate}
+use Rattle.queue_steps.specs.declared.{model.Call.Call, model.Reply.Reply, steps.types.Kind.Kind}
+use Rattle.machine_steps.specs.{Left.opening_world, Steps.start_of, Steps.step_of}
+use Rattle.machine_memory.specs.{SharedMemory.Shared, declared.calls.Running.Running, declared.types.Event.Event, declared.types.Event.TheVariants.Begin, declared.types.Event.TheVariants.Step, declared.types.Told.TheVariants.Skipped}
 use Rattle.machine_steps.specs.World.{Begun, Made, World, began, began_by, call_at, can_begin, stepped_if, world_event}
-use Rattle.machine_memory.specs.declared.calls.Running.{Running}
-use Rattle.machine_memory.specs.declared.types.Event.{Event}
-use Rattle.machine_memory.specs.declared.types.Event.TheVariants.{Begin, Step}
-use Rattle.machine_memory.specs.declared.types.Told.TheVariants.{Skipped}
-use Rattle.machine_explore.specs.Moves.{event_at, event_for}
-use Rattle.machine_explore.specs.Positions.{Configuration, calls_of, progress_of}
-use Rattle.machine_explore.specs.Starts.{IsStart}
-use Rattle.machine_explore.specs.Positions.{Standing}
+use Rattle.machine_explore.specs.{Moves.event_at, Moves.event_for, Positions.Configuration, Positions.calls_of, Positions.progress_of, Starts.IsStart, Positions.Standing}
 use Rattle.machine_replay.specs.Played.{world_by}
 use Rattle.machine_explore.proofs.Walks.{WentOn, went_on}
 

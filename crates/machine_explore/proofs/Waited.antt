@@ -1,28 +1,12 @@
 -- A program has no wait but those that each standing of a closed table shows.
 use Rattle.std.proofs.Common.{◌≡◌, ◌∙◌, ℕ, ◌+◌, ◌<◌, ◌++◌, Bool, List, length, map, subst, sym, ap, arith, drop, take-append-drop, zero-add}
-use Rattle.std.specs.Prelude.{Contains, slice_index_or}
-use Rattle.std.specs.List.{All}
-use Rattle.std.proofs.lemmas.List.{get_or-map, get_or_default, length-map, same_lists}
-use Rattle.std.proofs.lemmas.List.Elements.{All-contains}
-use Rattle.queue_steps.specs.declared.model.Call.{Call}
-use Rattle.queue_steps.specs.declared.steps.types.Kind.{Kind}
-use Rattle.machine_steps.specs.Left.{opening_world}
-use Rattle.machine_steps.specs.Steps.{start_of, step_of}
-use Rattle.machine_steps.specs.World.{call_at}
-use Rattle.machine_replay.specs.Played.{local_in, told_of, world_after}
-use Rattle.machine_replay.specs.Replays.{CanReplay}
-use Rattle.machine_explore.specs.Explored.{begun_by, replies_by}
-use Rattle.machine_explore.specs.Positions.{Progress, Standing, calls_of, no_progress, progress_of}
-use Rattle.machine_explore.specs.Tables.{IsClosed}
-use Rattle.machine_explore.specs.Traces.{IsWayOf, Seen}
-use Rattle.machine_explore.specs.Waiting.{HasNoOtherWait, IsWaitOf, Waiting, side_at, side_key, wait_key}
-use Rattle.machine_explore.specs.WaitTables.{HasWaitsAt, WaitsThere, is_half_done_at, key_there}
-use Rattle.machine_explore.specs.declared.schedule.Move.{Move}
-use Rattle.machine_explore.specs.declared.waiting.Side.{Side}
-use Rattle.machine_explore.proofs.Halves.{half_told}
-use Rattle.machine_explore.proofs.NoOther.{arrives, none_begun, starts_there}
-use Rattle.machine_explore.proofs.Rounds.{in_call}
-use Rattle.machine_explore.proofs.Starting.{world_by-append}
+use Rattle.std.specs.{Prelude.Contains, Prelude.slice_index_or, List.All}
+use Rattle.std.proofs.lemmas.List.{get_or-map, get_or_default, length-map, same_lists, Elements.All-contains}
+use Rattle.queue_steps.specs.declared.{model.Call.Call, steps.types.Kind.Kind}
+use Rattle.machine_steps.specs.{Left.opening_world, Steps.start_of, Steps.step_of, World.call_at}
+use Rattle.machine_replay.specs.{Played.local_in, Played.told_of, Played.world_after, Replays.CanReplay}
+use Rattle.machine_explore.specs.{Explored.begun_by, Explored.replies_by, Positions.Progress, Positions.Standing, Positions.calls_of, Positions.no_progress, Positions.progress_of, Tables.IsClosed, Traces.IsWayOf, Traces.Seen, Waiting.HasNoOtherWait, Waiting.IsWaitOf, Waiting.Waiting, Waiting.side_at, Waiting.side_key, Waiting.wait_key, WaitTables.HasWaitsAt, WaitTables.WaitsThere, WaitTables.is_half_done_at, WaitTables.key_there, declared.schedule.Move.Move, declared.waiting.Side.Side}
+use Rattle.machine_explore.proofs.{Halves.half_told, NoOther.arrives, NoOther.none_begun, NoOther.starts_there, Rounds.in_call, Starting.world_by-append}
 
 same_progress : (g h : Progress ℕ) → g.begun ≡ h.begun → g.replies ≡ h.replies → g ≡ h
 same_progress g h begun replies = ap (λ n. record { begun = n; replies = g.replies }) begun ∙ ap (λ l. record { begun = h.begun; replies = l }) replies

@@ -2,28 +2,12 @@
 use Rattle.std.proofs.Common.{◌≡◌, ◌∙◌, ℕ, ◌+◌, ◌<◌, Bool, true, None, List, [], ◌∷◌, ◌++◌, length, take, refl, sym, ap, arith}
 use Rattle.std.specs.Prelude.{replicate, slice_index_or}
 use Rattle.std.proofs.lemmas.List.{replicate_more, take_more}
-use Rattle.queue_steps.specs.declared.model.Call.{Call}
-use Rattle.queue_steps.specs.declared.sizes.TheConstants.{SOLO_STEPS}
-use Rattle.queue_steps.specs.declared.steps.types.Kind.{Kind}
-use Rattle.machine_memory.specs.declared.calls.Running.{Running}
-use Rattle.machine_memory.specs.declared.types.Event.{Event}
-use Rattle.machine_memory.specs.declared.types.Event.TheVariants.{Step}
-use Rattle.machine_memory.specs.declared.types.Told.{Told}
-use Rattle.machine_memory.specs.declared.types.Told.TheVariants.{Ran}
-use Rattle.machine_steps.specs.Machine.{event_of}
-use Rattle.machine_memory.specs.SharedMemory.{Shared}
-use Rattle.machine_steps.specs.Steps.{start_of, step_of}
-use Rattle.machine_steps.specs.World.{World}
-use Rattle.machine_replay.specs.Played.{told_of, world_after}
-use Rattle.machine_replay.specs.Progress.{Standing as CallStanding, Between, standing, stands_by, stands_then}
-use Rattle.machine_replay.specs.Replays.{CanReplay}
-use Rattle.machine_explore.specs.Moves.{led}
-use Rattle.machine_explore.specs.Positions.{Standing}
-use Rattle.machine_explore.specs.Starts.{IsStart}
-use Rattle.machine_explore.specs.Traces.{Seen, trace_of}
-use Rattle.machine_explore.specs.Waiting.{GoesRound, is_half_done, stands_seen}
-use Rattle.machine_explore.proofs.Resting.{standing_since}
-use Rattle.machine_explore.proofs.Showing.{told_by-snoc, world_by-snoc}
+use Rattle.queue_steps.specs.declared.{model.Call.Call, sizes.TheConstants.SOLO_STEPS, steps.types.Kind.Kind}
+use Rattle.machine_memory.specs.{declared.calls.Running.Running, declared.types.Event.Event, declared.types.Event.TheVariants.Step, declared.types.Told.Told, declared.types.Told.TheVariants.Ran, SharedMemory.Shared}
+use Rattle.machine_steps.specs.{Machine.event_of, Steps.start_of, Steps.step_of, World.World}
+use Rattle.machine_replay.specs.{Played.told_of, Played.world_after, Progress.Standing as CallStanding, Progress.Between, Progress.standing, Progress.stands_by, Progress.stands_then, Replays.CanReplay}
+use Rattle.machine_explore.specs.{Moves.led, Positions.Standing, Starts.IsStart, Traces.Seen, Traces.trace_of, Waiting.GoesRound, Waiting.is_half_done, Waiting.stands_seen}
+use Rattle.machine_explore.proofs.{Resting.standing_since, Showing.told_by-snoc, Showing.world_by-snoc}
 
 stands_seen-snoc : (xs : List Seen) (p : ℕ) (x : CallStanding) (s : Seen) → stands_seen p x (xs ++ s ∷ []) ≡ stands_then p (stands_seen p x xs) s.event s.told
 stands_seen-snoc [] p x s = refl

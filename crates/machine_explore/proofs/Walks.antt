@@ -1,17 +1,11 @@
 -- What an event does to a machine: it is skipped, or its party goes on by it.
 use Rattle.std.proofs.Common.{◌≡◌, ◌∙◌, ◌+◌, ◌<◌, ◌++◌, ◌∷◌, [], ℕ, suc, zero, Bool, true, false, if◌then◌else◌, ◌⊎◌, List, Option, Some, None, length, refl, sym, ap, inl, inr, arith, drop, ◌&&◌, nat_lt}
 use Rattle.std.specs.Prelude.{slice_get, slice_index_or, is_none}
-use Rattle.std.proofs.lemmas.Bool.{ltb-true}
-use Rattle.std.proofs.lemmas.List.{length-set, drop-drop, drop_at}
-use Rattle.queue_steps.specs.declared.model.Call.{Call}
-use Rattle.queue_steps.specs.declared.model.Reply.{Reply}
+use Rattle.std.proofs.lemmas.{Bool.ltb-true, List.length-set, List.drop-drop, List.drop_at}
+use Rattle.queue_steps.specs.declared.model.{Call.Call, Reply.Reply}
 use Rattle.machine_replay.specs.Conforms.{party_of}
 use Rattle.machine_steps.specs.World.{Begun, Made, World, began, began_by, call_at, can_begin, stepped_if, world_event}
-use Rattle.machine_memory.specs.declared.types.EffectKind.{EffectKind}
-use Rattle.machine_memory.specs.declared.types.Event.{Event}
-use Rattle.machine_memory.specs.declared.types.Event.TheVariants.{Begin, Step}
-use Rattle.machine_memory.specs.declared.types.Told.{Told}
-use Rattle.machine_memory.specs.declared.types.Told.TheVariants.{Skipped, Ran}
+use Rattle.machine_memory.specs.declared.types.{EffectKind.EffectKind, Event.Event, Event.TheVariants.Begin, Event.TheVariants.Step, Told.Told, Told.TheVariants.Skipped, Told.TheVariants.Ran}
 
 -- a party that is in this call, or in none, may take this event
 abbrev pub CanTake : {R T : Type 0} → Option R → Event T → Type 0

@@ -1,17 +1,11 @@
 -- When a schedule shows an outcome.
 use Rattle.std.specs.Prelude.{◌≡◌, ◌≢◌, ℕ, Bool, List, length}
 use Rattle.std.specs.List.{All, AllZip}
-use Rattle.queue_steps.specs.declared.model.Call.{Call}
-use Rattle.queue_steps.specs.declared.steps.types.Kind.{Kind}
-use Rattle.machine_memory.specs.declared.types.Event.{Event}
-use Rattle.machine_memory.specs.declared.types.Event.TheVariants.{Begin, Step}
-use Rattle.machine_memory.specs.declared.types.Told.{Told}
-use Rattle.machine_memory.specs.declared.types.Told.TheVariants.{Skipped}
+use Rattle.queue_steps.specs.declared.{model.Call.Call, steps.types.Kind.Kind}
+use Rattle.machine_memory.specs.declared.types.{Event.Event, Event.TheVariants.Begin, Event.TheVariants.Step, Told.Told, Told.TheVariants.Skipped}
 use Rattle.machine_steps.specs.Left.{opening_world}
 use Rattle.machine_replay.specs.Played.{told_of, world_after}
-use Rattle.machine_explore.specs.declared.schedule.Move.{Move}
-use Rattle.machine_explore.specs.Explored.{IsRunOf, outcome_of_run}
-use Rattle.machine_explore.specs.Positions.{Outcome}
+use Rattle.machine_explore.specs.{declared.schedule.Move.Move, Explored.IsRunOf, Explored.outcome_of_run, Positions.Outcome}
 
 -- the event is that of the move
 abbrev pub IsMove : Move → Event ℕ → Type 0

@@ -1,20 +1,11 @@
 -- Which runs a program has, what each ends with, and when a list of outcomes has them all.
 use Rattle.std.specs.Prelude.{◌≡◌, ℕ, ◌<◌, ◌==◌, Bool, true, false, if◌then◌else◌, None, List, [], ◌∷◌, ◌++◌, length, map, Contains}
 use Rattle.std.specs.List.{All, range_with_len}
-use Rattle.queue_steps.specs.declared.model.Call.{Call}
-use Rattle.queue_steps.specs.declared.model.Reply.{Reply}
-use Rattle.queue_steps.specs.declared.steps.types.Kind.{Kind}
-use Rattle.machine_memory.specs.declared.calls.Running.{Running}
-use Rattle.machine_memory.specs.declared.types.Event.{Event}
-use Rattle.machine_memory.specs.declared.types.Event.TheVariants.{Begin, Step}
-use Rattle.machine_memory.specs.declared.types.Told.{Told}
-use Rattle.machine_replay.specs.Conforms.{party_of}
-use Rattle.machine_steps.specs.Left.{left_of, opening_world}
-use Rattle.machine_replay.specs.Played.{world_after, told_of}
-use Rattle.machine_memory.specs.SharedMemory.{Shared}
-use Rattle.machine_steps.specs.World.{World, call_at}
-use Rattle.machine_explore.specs.Moves.{call_in, reply_in}
-use Rattle.machine_explore.specs.Positions.{Outcome, calls_of}
+use Rattle.queue_steps.specs.declared.{model.Call.Call, model.Reply.Reply, steps.types.Kind.Kind}
+use Rattle.machine_memory.specs.{declared.calls.Running.Running, declared.types.Event.Event, declared.types.Event.TheVariants.Begin, declared.types.Event.TheVariants.Step, declared.types.Told.Told, SharedMemory.Shared}
+use Rattle.machine_replay.specs.{Conforms.party_of, Played.world_after, Played.told_of}
+use Rattle.machine_steps.specs.{Left.left_of, Left.opening_world, World.World, World.call_at}
+use Rattle.machine_explore.specs.{Moves.call_in, Moves.reply_in, Positions.Outcome, Positions.calls_of}
 
 -- the calls that the party began, in their order: those whose beginning was not skipped
 abbrev pub begun_by : {T : Type 0} → ℕ → List (Event T) → List (Told T) → List (Call T)

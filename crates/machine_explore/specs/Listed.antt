@@ -1,15 +1,10 @@
 -- A replay of a run of a program ends with an outcome that is on the list.
 use Rattle.std.specs.Prelude.{ℕ, ◌==◌, ◌&&◌, nat_lt, Bool, not, if◌then◌else◌, List, [], ◌∷◌, ◌++◌, length, map, Contains}
 use Rattle.std.specs.List.{range_with_len}
-use Rattle.queue_steps.specs.declared.model.Call.{Call}
-use Rattle.queue_steps.specs.declared.model.Reply.{Reply}
-use Rattle.queue_steps.specs.declared.steps.types.Kind.{Kind}
-use Rattle.machine_memory.specs.declared.types.Event.{Event}
-use Rattle.machine_memory.specs.declared.types.Replay.{Replay}
-use Rattle.machine_replay.specs.Played.{IsPlayed}
-use Rattle.machine_replay.specs.Served.{IsServed}
-use Rattle.machine_explore.specs.Explored.{HasNoOther, IsRunOf}
-use Rattle.machine_explore.specs.Positions.{Outcome}
+use Rattle.queue_steps.specs.declared.{model.Call.Call, model.Reply.Reply, steps.types.Kind.Kind}
+use Rattle.machine_memory.specs.declared.types.{Event.Event, Replay.Replay}
+use Rattle.machine_replay.specs.{Played.IsPlayed, Served.IsServed}
+use Rattle.machine_explore.specs.{Explored.HasNoOther, Explored.IsRunOf, Positions.Outcome}
 
 -- the replies to party p among these, from the event n on
 abbrev pub replies_from : {T : Type 0} → ℕ → ℕ → List (ℕ × ℕ × Reply T) → List (Reply T)

@@ -1,15 +1,9 @@
 -- How a run of a program goes on.
 use Rattle.std.specs.Prelude.{ℕ, ◌+◌, Bool, true, Option, Some, None, List, [], ◌∷◌, ◌++◌, length, slice_get, slice_set}
-use Rattle.queue_steps.specs.declared.model.Call.{Call}
-use Rattle.queue_steps.specs.declared.model.Reply.{Reply}
-use Rattle.queue_steps.specs.declared.steps.types.Kind.{Kind}
-use Rattle.machine_memory.specs.declared.types.Event.{Event}
-use Rattle.machine_memory.specs.declared.types.Event.TheVariants.{Begin, Step}
-use Rattle.machine_memory.specs.declared.types.Told.{Told}
-use Rattle.machine_memory.specs.declared.types.Told.TheVariants.{Ran}
+use Rattle.queue_steps.specs.declared.{model.Call.Call, model.Reply.Reply, steps.types.Kind.Kind}
+use Rattle.machine_memory.specs.declared.types.{Event.Event, Event.TheVariants.Begin, Event.TheVariants.Step, Told.Told, Told.TheVariants.Ran}
 use Rattle.machine_replay.specs.Conforms.{party_of}
-use Rattle.machine_steps.specs.Steps.{step_of, start_of}
-use Rattle.machine_steps.specs.World.{Made, Begun, call_at, world_event}
+use Rattle.machine_steps.specs.{Steps.step_of, Steps.start_of, World.Made, World.Begun, World.call_at, World.world_event}
 use Rattle.machine_explore.specs.Positions.{Configuration, Progress, Standing, calls_of, progress_of}
 
 -- the call that the event began, if it was not skipped

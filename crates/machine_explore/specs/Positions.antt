@@ -1,12 +1,8 @@
 -- Where a run of a program stands, and the outcome that it ends with.
 use Rattle.std.specs.Prelude.{◌≡◌, ℕ, ◌<◌, List, [], length, map, replicate, slice_index_or}
-use Rattle.queue_steps.specs.declared.model.Call.{Call}
-use Rattle.queue_steps.specs.declared.model.Reply.{Reply}
-use Rattle.queue_steps.specs.declared.steps.types.Kind.{Kind}
-use Rattle.machine_memory.specs.declared.calls.Running.{Running}
-use Rattle.machine_steps.specs.World.{World}
-use Rattle.machine_memory.specs.SharedMemory.{Shared}
-use Rattle.machine_steps.specs.Left.{left_of}
+use Rattle.queue_steps.specs.declared.{model.Call.Call, model.Reply.Reply, steps.types.Kind.Kind}
+use Rattle.machine_memory.specs.{declared.calls.Running.Running, SharedMemory.Shared}
+use Rattle.machine_steps.specs.{World.World, Left.left_of}
 
 -- how far a party is: how many of its calls it has begun, and the replies so far
 pub record Progress (T : Type 0) : Type 0 where

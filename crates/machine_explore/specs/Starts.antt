@@ -1,16 +1,10 @@
 -- Where the runs of a program start, once the calls that come first are made.
 use Rattle.std.specs.Prelude.{◌≡◌, ℕ, false, List, replicate}
-use Rattle.queue_steps.specs.declared.model.Call.{Call}
-use Rattle.queue_steps.specs.declared.steps.types.Kind.{Kind}
-use Rattle.machine_memory.specs.declared.calls.Running.{Running}
-use Rattle.machine_memory.specs.declared.types.Event.{Event}
-use Rattle.machine_steps.specs.Left.{opening_world}
-use Rattle.machine_memory.specs.SharedMemory.{Shared}
-use Rattle.machine_steps.specs.World.{World}
-use Rattle.machine_explore.specs.Explored.{Prepares}
-use Rattle.machine_replay.specs.Played.{world_after}
-use Rattle.machine_replay.specs.Replays.{is_too_large}
-use Rattle.machine_explore.specs.Positions.{Standing, no_progress}
+use Rattle.queue_steps.specs.declared.{model.Call.Call, steps.types.Kind.Kind}
+use Rattle.machine_memory.specs.{declared.calls.Running.Running, declared.types.Event.Event, SharedMemory.Shared}
+use Rattle.machine_steps.specs.{Left.opening_world, World.World}
+use Rattle.machine_explore.specs.{Explored.Prepares, Positions.Standing, Positions.no_progress}
+use Rattle.machine_replay.specs.{Played.world_after, Replays.is_too_large}
 
 -- party 0, alone, has made these calls between w and the later world, and is between calls
 abbrev pub IsPrepared : Kind → World (Shared ℕ) (Running ℕ) → List (Call ℕ) → World (Shared ℕ) (Running ℕ) → Type 0

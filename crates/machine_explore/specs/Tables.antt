@@ -1,12 +1,9 @@
 -- When a table of standings has all that the moves of a program lead to.
 use Rattle.std.specs.Prelude.{◌≡◌, ℕ, ◌<◌, Bool, true, false, List, length, Contains, ⊤, MatchOption}
 use Rattle.std.specs.List.{All}
-use Rattle.queue_steps.specs.declared.model.Call.{Call}
+use Rattle.queue_steps.specs.declared.{model.Call.Call, steps.types.Kind.Kind}
 use Rattle.machine_memory.specs.declared.types.Event.{Event}
-use Rattle.queue_steps.specs.declared.steps.types.Kind.{Kind}
-use Rattle.machine_explore.specs.Moves.{event_at, led}
-use Rattle.machine_explore.specs.Positions.{Configuration, IsFinal, Outcome, Standing, outcome_at}
-use Rattle.machine_explore.specs.Starts.{IsStart}
+use Rattle.machine_explore.specs.{Moves.event_at, Moves.led, Positions.Configuration, Positions.IsFinal, Positions.Outcome, Positions.Standing, Positions.outcome_at, Starts.IsStart}
 
 -- if the party goes on from there, the table has where that leads
 abbrev pub StaysOnce : {S R T : Type 0} → (Configuration S R T → Event T → Configuration S R T) → List (List (Call T)) → List (Configuration S R T) → Configuration S R T → ℕ → Bool → Type 0

@@ -1,24 +1,11 @@
 -- What is seen of a run of a program: of each event where its call stood, what was told, and the list behind it.
 use Rattle.std.specs.Prelude.{◌≡◌, ℕ, ◌<◌, Bool, true, false, Option, Some, List, [], ◌∷◌, ◌++◌, length, take}
 use Rattle.std.specs.List.{All, AllZip}
-use Rattle.queue_steps.specs.declared.model.Call.{Call}
-use Rattle.queue_steps.specs.declared.steps.types.Kind.{Kind}
-use Rattle.queue_steps.specs.declared.steps.types.Local.{Local}
-use Rattle.machine_memory.specs.declared.calls.Running.{Running}
-use Rattle.machine_memory.specs.declared.types.Event.{Event}
-use Rattle.machine_memory.specs.declared.types.Told.{Told}
-use Rattle.machine_replay.specs.Conforms.{party_of}
-use Rattle.machine_steps.specs.Left.{left_of, opening_world}
-use Rattle.machine_steps.specs.Machine.{event_of}
-use Rattle.machine_replay.specs.Played.{local_in, told_of, world_after}
-use Rattle.machine_memory.specs.SharedMemory.{Shared}
-use Rattle.machine_steps.specs.World.{World, call_at}
-use Rattle.machine_explore.specs.declared.schedule.Move.{Move}
-use Rattle.machine_explore.specs.Certified.{IsMove, IsOutcomeOf, IsTaken}
-use Rattle.machine_explore.specs.Explored.{IsGranted, begun_by, replies_by}
-use Rattle.machine_explore.specs.Moves.{event_at, led}
-use Rattle.machine_explore.specs.Positions.{Outcome, Standing, calls_of, progress_of}
-use Rattle.machine_explore.specs.Starts.{IsStart}
+use Rattle.queue_steps.specs.declared.{model.Call.Call, steps.types.Kind.Kind, steps.types.Local.Local}
+use Rattle.machine_memory.specs.{declared.calls.Running.Running, declared.types.Event.Event, declared.types.Told.Told, SharedMemory.Shared}
+use Rattle.machine_replay.specs.{Conforms.party_of, Played.local_in, Played.told_of, Played.world_after}
+use Rattle.machine_steps.specs.{Left.left_of, Left.opening_world, Machine.event_of, World.World, World.call_at}
+use Rattle.machine_explore.specs.{declared.schedule.Move.Move, Certified.IsMove, Certified.IsOutcomeOf, Certified.IsTaken, Explored.IsGranted, Explored.begun_by, Explored.replies_by, Moves.event_at, Moves.led, Positions.Outcome, Positions.Standing, Positions.calls_of, Positions.progress_of, Starts.IsStart}
 
 -- an event, where the party's call stood before it, what was told of it, and the list behind it
 pub record Seen : Type 0 where

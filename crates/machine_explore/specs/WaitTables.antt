@@ -1,15 +1,9 @@
 -- What where calls stand tells of waits, of each standing of a table.
 use Rattle.std.specs.Prelude.{◌≡◌, ◌≢◌, ℕ, ◌<◌, ◌==◌, Bool, true, false, Option, Some, None, List, length, Contains}
-use Rattle.queue_steps.specs.declared.model.Call.{Call}
-use Rattle.queue_steps.specs.declared.steps.bounded.BoundedLocal.TheVariants as ring
-use Rattle.queue_steps.specs.declared.steps.single.SingleLocal.TheVariants as slot
-use Rattle.queue_steps.specs.declared.steps.unbounded.UnboundedLocal.TheVariants as chain
-use Rattle.queue_steps.specs.declared.steps.types.Local.{Local}
-use Rattle.queue_steps.specs.declared.steps.types.Local.TheVariants as local
+use Rattle.queue_steps.specs.declared.{model.Call.Call, steps.bounded.BoundedLocal.BoundedLocal as ring, steps.single.SingleLocal.SingleLocal as slot, steps.unbounded.UnboundedLocal.UnboundedLocal as chain, steps.types.Local.Local, steps.types.Local.Local as local}
 use Rattle.machine_steps.specs.World.{call_at}
 use Rattle.machine_replay.specs.Played.{local_in}
-use Rattle.machine_explore.specs.Positions.{Standing}
-use Rattle.machine_explore.specs.Waiting.{GoesRound, IsSentBack, SideKey, side_at, side_key}
+use Rattle.machine_explore.specs.{Positions.Standing, Waiting.GoesRound, Waiting.IsSentBack, Waiting.SideKey, Waiting.side_at, Waiting.side_key}
 
 -- whether a call that stands there has had an effect
 abbrev pub is_half_done_at : Option (Local ℕ) → Bool

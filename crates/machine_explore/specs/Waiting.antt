@@ -1,26 +1,10 @@
 -- When a party waits for another at the end of a schedule.
 use Rattle.std.specs.Prelude.{◌≡◌, ◌≢◌, ◌⊎◌, ℕ, ◌-◌, ◌<◌, ◌≤◌, ◌==◌, Bool, true, false, Option, Some, None, List, [], ◌∷◌, ◌++◌, length, map, replicate, slice_get, Contains}
-use Rattle.queue_steps.specs.declared.model.Call.{Call}
-use Rattle.queue_steps.specs.declared.sizes.TheConstants.{SOLO_STEPS}
-use Rattle.queue_steps.specs.declared.steps.bounded.BoundedLocal.TheVariants as ring
-use Rattle.queue_steps.specs.declared.steps.unbounded.UnboundedLocal.TheVariants as chain
-use Rattle.queue_steps.specs.declared.steps.types.Kind.{Kind}
-use Rattle.queue_steps.specs.declared.steps.types.Local.{Local}
-use Rattle.queue_steps.specs.declared.steps.types.Local.TheVariants as local
-use Rattle.machine_memory.specs.declared.calls.Running.{Running}
-use Rattle.machine_memory.specs.declared.types.Event.TheVariants.{Step}
-use Rattle.machine_memory.specs.declared.types.Told.TheVariants.{Ran}
-use Rattle.machine_steps.specs.Machine.{event_of}
-use Rattle.machine_memory.specs.Places.{label_text}
-use Rattle.machine_memory.specs.SharedMemory.{Shared}
-use Rattle.machine_steps.specs.World.{World, call_at}
-use Rattle.machine_replay.specs.Played.{local_in, told_of, world_after}
-use Rattle.machine_replay.specs.Progress.{Standing as CallStanding, HalfDone, standing, stands_then}
-use Rattle.machine_explore.specs.declared.schedule.Move.{Move}
-use Rattle.machine_explore.specs.declared.waiting.Side.{Side}
-use Rattle.machine_explore.specs.declared.waiting.Wait.{Wait}
-use Rattle.machine_explore.specs.Positions.{Standing, calls_of, progress_of}
-use Rattle.machine_explore.specs.Traces.{IsWayOf, Seen}
+use Rattle.queue_steps.specs.declared.{model.Call.Call, sizes.TheConstants.SOLO_STEPS, steps.bounded.BoundedLocal.BoundedLocal as ring, steps.unbounded.UnboundedLocal.UnboundedLocal as chain, steps.types.Kind.Kind, steps.types.Local.Local, steps.types.Local.Local as local}
+use Rattle.machine_memory.specs.{declared.calls.Running.Running, declared.types.Event.TheVariants.Step, declared.types.Told.TheVariants.Ran, Places.label_text, SharedMemory.Shared}
+use Rattle.machine_steps.specs.{Machine.event_of, World.World, World.call_at}
+use Rattle.machine_replay.specs.{Played.local_in, Played.told_of, Played.world_after, Progress.Standing as CallStanding, Progress.HalfDone, Progress.standing, Progress.stands_then}
+use Rattle.machine_explore.specs.{declared.schedule.Move.Move, declared.waiting.Side.Side, declared.waiting.Wait.Wait, Positions.Standing, Positions.calls_of, Positions.progress_of, Traces.IsWayOf, Traces.Seen}
 
 -- The party goes round: so many steps of its call, taken now and by it alone, have no effect and get no reply, and then all is as it is now. So alone it would go round for ever.
 -- Rounds of more steps than a lone call may have are not looked for.

@@ -1,19 +1,9 @@
 -- No operation makes more blocks than there were, unless one was granted.
 use Rattle.std.proofs.Common.{◌≡◌, ℕ, ◌+◌, ◌≤◌, zero, suc, Bool, true, false, if◌then◌else◌, Option, Some, None, is_some, List, [], ◌∷◌, ◌++◌, length, refl, arith, get_or, set, length-append}
 use Rattle.std.proofs.lemmas.List.{length-set}
-use Rattle.queue_steps.specs.declared.steps.types.Link.{Link}
-use Rattle.queue_steps.specs.declared.steps.types.Link.TheVariants as link
-use Rattle.queue_steps.specs.declared.steps.types.Op.{Op}
-use Rattle.queue_steps.specs.declared.steps.types.Op.TheVariants as op
-use Rattle.queue_steps.specs.declared.steps.types.Touch.{Touch}
-use Rattle.queue_steps.specs.declared.steps.types.Touch.TheVariants as touch
-use Rattle.queue_steps.specs.declared.steps.types.Word.{Word}
-use Rattle.queue_steps.specs.declared.steps.types.Word.TheVariants as word
+use Rattle.queue_steps.specs.declared.steps.types.{Link.Link, Link.Link as link, Op.Op, Op.Op as op, Touch.Touch, Touch.Touch as touch, Word.Word, Word.Word as word}
 use Rattle.queue_laws.specs.Common.Operations.{op_word, op_makes}
-use Rattle.machine_memory.specs.declared.blocks.BlockPlace.{BlockPlace}
-use Rattle.machine_memory.specs.Blocks.{Block, fresh_block, block_of, with_place, with_next, without}
-use Rattle.machine_memory.specs.SharedMemory.{Shared, word_at, put_word, put_link, put_at, touched, operated}
-use Rattle.machine_memory.specs.Present.{present}
+use Rattle.machine_memory.specs.{declared.blocks.BlockPlace.BlockPlace, Blocks.Block, Blocks.fresh_block, Blocks.block_of, Blocks.with_place, Blocks.with_next, Blocks.without, SharedMemory.Shared, SharedMemory.word_at, SharedMemory.put_word, SharedMemory.put_link, SharedMemory.put_at, SharedMemory.touched, SharedMemory.operated, Present.present}
 use Rattle.machine_memory.proofs.Busy.{one_if}
 
 -- where one of these gives way to one that is not more, there are not more

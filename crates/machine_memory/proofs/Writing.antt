@@ -1,10 +1,8 @@
 -- A word that is written as it was leaves all as it was.
 use Rattle.std.proofs.Common.{◌≡◌, ◌∙◌, ℕ, Option, Some, None, refl, ap, get_or, set}
 use Rattle.std.proofs.lemmas.List.{set-get_or}
-use Rattle.queue_steps.specs.declared.steps.types.Word.{Word}
-use Rattle.queue_steps.specs.declared.steps.types.Word.TheVariants as word
-use Rattle.machine_memory.specs.Blocks.{Block, blank, block_of, places_in, with_place}
-use Rattle.machine_memory.specs.SharedMemory.{Shared, word_at, put_word}
+use Rattle.queue_steps.specs.declared.steps.types.Word.{Word, Word as word}
+use Rattle.machine_memory.specs.{Blocks.Block, Blocks.blank, Blocks.block_of, Blocks.places_in, Blocks.with_place, SharedMemory.Shared, SharedMemory.word_at, SharedMemory.put_word}
 
 place_same : {T : Type 0} (i : ℕ) (o : Option (Block T)) → with_place i (get_or (places_in o) i blank) o ≡ o
 place_same i None = refl

@@ -1,21 +1,7 @@
 -- What a step did to the queue, told from where its call stood and what its operation found.
 use Rattle.std.specs.Prelude.{ℕ, ◌+◌, ◌==◌, if◌then◌else◌, Option, Some, None}
-use Rattle.queue_steps.specs.SingleNext.{is_marked}
-use Rattle.queue_steps.specs.Words.{position_of, is_shut}
-use Rattle.queue_steps.specs.declared.steps.types.Answer.{Answer}
-use Rattle.queue_steps.specs.declared.steps.types.Answer.TheVariants as answer
-use Rattle.queue_steps.specs.declared.steps.types.Kind.{Kind}
-use Rattle.queue_steps.specs.declared.steps.types.Kind.TheVariants as kind
-use Rattle.queue_steps.specs.declared.steps.types.Local.{Local}
-use Rattle.queue_steps.specs.declared.steps.types.Local.TheVariants as local
-use Rattle.queue_steps.specs.declared.steps.single.SingleLocal.{SingleLocal}
-use Rattle.queue_steps.specs.declared.steps.single.SingleLocal.TheVariants as single
-use Rattle.queue_steps.specs.declared.steps.bounded.BoundedLocal.{BoundedLocal}
-use Rattle.queue_steps.specs.declared.steps.bounded.BoundedLocal.TheVariants as ring
-use Rattle.queue_steps.specs.declared.steps.unbounded.UnboundedLocal.{UnboundedLocal}
-use Rattle.queue_steps.specs.declared.steps.unbounded.UnboundedLocal.TheVariants as chain
-use Rattle.machine_memory.specs.declared.types.EffectKind.{EffectKind}
-use Rattle.machine_memory.specs.declared.types.EffectKind.TheVariants as effect
+use Rattle.queue_steps.specs.{SingleNext.is_marked, Words.position_of, Words.is_shut, declared.steps.types.Answer.Answer, declared.steps.types.Answer.Answer as answer, declared.steps.types.Kind.Kind, declared.steps.types.Kind.Kind as kind, declared.steps.types.Local.Local, declared.steps.types.Local.Local as local, declared.steps.single.SingleLocal.SingleLocal, declared.steps.single.SingleLocal.SingleLocal as single, declared.steps.bounded.BoundedLocal.BoundedLocal, declared.steps.bounded.BoundedLocal.BoundedLocal as ring, declared.steps.unbounded.UnboundedLocal.UnboundedLocal, declared.steps.unbounded.UnboundedLocal.UnboundedLocal as chain}
+use Rattle.machine_memory.specs.declared.types.EffectKind.{EffectKind, EffectKind as effect}
 
 -- the effect of a step on one slot: the exchange that wins, and the close of an open queue
 abbrev pub single_effect : SingleLocal → ℕ → Option EffectKind

@@ -1,7 +1,6 @@
 -- The words, slots and blocks of an empty open queue.
 use Rattle.std.specs.Prelude.{ℕ, None, List, [], replicate}
-use Rattle.queue_steps.specs.declared.steps.types.Kind.{Kind}
-use Rattle.queue_steps.specs.declared.steps.types.Kind.TheVariants as kind
+use Rattle.queue_steps.specs.declared.steps.types.Kind.{Kind, Kind as kind}
 use Rattle.queue_laws.specs.Ring.RingOpening.{numbers_below}
 use Rattle.machine_memory.specs.SharedMemory.{Shared}
 

@@ -1,19 +1,6 @@
 -- Where a call is: the label of its step, as docs/STEPS.md has it, and what it remembers.
 use Rattle.std.specs.Prelude.{ℕ, cond, List, [], ◌∷◌, codes, bytes_eq, ◌==◌, Option, Some, None}
-use Rattle.queue_steps.specs.declared.steps.bounded.PushKind.{PushKind}
-use Rattle.queue_steps.specs.declared.steps.bounded.PushKind.TheVariants as push
-use Rattle.queue_steps.specs.declared.steps.looks.CallView.{CallView}
-use Rattle.queue_steps.specs.declared.steps.looks.CallView.TheVariants as view
-use Rattle.queue_steps.specs.declared.steps.looks.Look.{Look}
-use Rattle.queue_steps.specs.declared.steps.looks.Look.TheVariants as look
-use Rattle.queue_steps.specs.declared.steps.types.Local.{Local}
-use Rattle.queue_steps.specs.declared.steps.types.Local.TheVariants as local
-use Rattle.queue_steps.specs.declared.steps.single.SingleLocal.{SingleLocal}
-use Rattle.queue_steps.specs.declared.steps.single.SingleLocal.TheVariants as slot
-use Rattle.queue_steps.specs.declared.steps.bounded.BoundedLocal.{BoundedLocal}
-use Rattle.queue_steps.specs.declared.steps.bounded.BoundedLocal.TheVariants as ring
-use Rattle.queue_steps.specs.declared.steps.unbounded.UnboundedLocal.{UnboundedLocal}
-use Rattle.queue_steps.specs.declared.steps.unbounded.UnboundedLocal.TheVariants as chain
+use Rattle.queue_steps.specs.declared.steps.{bounded.PushKind.PushKind, bounded.PushKind.PushKind as push, looks.CallView.CallView, looks.CallView.CallView as view, looks.Look.Look, looks.Look.Look as look, types.Local.Local, types.Local.Local as local, single.SingleLocal.SingleLocal, single.SingleLocal.SingleLocal as slot, bounded.BoundedLocal.BoundedLocal, bounded.BoundedLocal.BoundedLocal as ring, unbounded.UnboundedLocal.UnboundedLocal, unbounded.UnboundedLocal.UnboundedLocal as chain}
 
 -- one slot
 abbrev pub slot_label : SingleLocal → List ℕ

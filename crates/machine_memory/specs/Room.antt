@@ -1,7 +1,6 @@
 -- The room that there is for blocks, and how many of them are there.
 use Rattle.std.specs.Prelude.{◌≡◌, ℕ, ◌+◌, ◌≤◌, vec_len, vec_capacity}
-use Rattle.machine_memory.specs.declared.shared_memory.SharedMemory.{SharedMemory}
-use Rattle.machine_memory.specs.Present.{present}
+use Rattle.machine_memory.specs.{declared.shared_memory.SharedMemory.SharedMemory, Present.present}
 
 -- there is room for so many blocks more, and for one
 abbrev pub HasRoomFor : {T A : Type 0} → SharedMemory T A → ℕ → Type 0

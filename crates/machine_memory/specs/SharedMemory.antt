@@ -1,15 +1,6 @@
 -- The words, slots and blocks of the machine, and what one operation and one touch do to them.
 use Rattle.std.specs.Prelude.{ℕ, ◌+◌, ◌<◌, ◌^◌, Bool, true, false, Option, Some, None, IsSome, List, [], ◌∷◌, ◌++◌, length, slice_index_or, slice_set}
-use Rattle.queue_steps.specs.declared.steps.types.Answer.{Answer}
-use Rattle.queue_steps.specs.declared.steps.types.Answer.TheVariants as answer
-use Rattle.queue_steps.specs.declared.steps.types.Link.{Link}
-use Rattle.queue_steps.specs.declared.steps.types.Link.TheVariants as link
-use Rattle.queue_steps.specs.declared.steps.types.Op.{Op}
-use Rattle.queue_steps.specs.declared.steps.types.Op.TheVariants as op
-use Rattle.queue_steps.specs.declared.steps.types.Touch.{Touch}
-use Rattle.queue_steps.specs.declared.steps.types.Touch.TheVariants as touch
-use Rattle.queue_steps.specs.declared.steps.types.Word.{Word}
-use Rattle.queue_steps.specs.declared.steps.types.Word.TheVariants as word
+use Rattle.queue_steps.specs.declared.steps.types.{Answer.Answer, Answer.Answer as answer, Link.Link, Link.Link as link, Op.Op, Op.Op as op, Touch.Touch, Touch.Touch as touch, Word.Word, Word.Word as word}
 use Rattle.queue_laws.specs.Common.Operations.{op_word, op_makes, answer_for}
 use Rattle.machine_memory.specs.declared.shared_memory.SharedMemory.{SharedMemory}
 use Rattle.machine_memory.specs.Blocks.{Block, fresh_block, block_of, place_count, state_of, item_of, behind, put_state, put_item, put_next}

@@ -1,16 +1,9 @@
 -- What a conforming replay means for all calls but three: a history in which each displacement is one moment.
 use Rattle.std.specs.Prelude.{◌≡◌, ◌⊎◌, ℕ, ◌+◌, ◌<◌, ◌≤◌, ◌==◌, ◌&&◌, nat_lt, Bool, Option, Some, None, List, [], length, AllPairs}
 use Rattle.std.specs.List.{AllByRecursion}
-use Rattle.queue_steps.specs.State.{State}
-use Rattle.queue_steps.specs.Effect.{after}
-use Rattle.machine_replay.specs.Vocabulary.{Reply, Event, Replay}
-use Rattle.queue_laws.specs.Moment.Moments.{IsAtOnce, IsGlance, arrived, settled}
-use Rattle.queue_laws.specs.Moment.Entries.{settle}
-use Rattle.queue_laws.specs.Moment.Shared.{StandsTogether}
-use Rattle.machine_replay.specs.Book.{Allows, IsBegun}
-use Rattle.machine_replay.specs.Conforms.{Conforms}
-use Rattle.machine_replay.specs.InCall.{IsStepOf, IsInCall}
-use Rattle.machine_replay.specs.Meaning.{Entry, effects_in, state_after, own_effects, IsMoment, EndsCall, IsAnswer, HasHistory}
+use Rattle.queue_steps.specs.{State.State, Effect.after}
+use Rattle.machine_replay.specs.{Vocabulary.Reply, Vocabulary.Event, Vocabulary.Replay, Book.Allows, Book.IsBegun, Conforms.Conforms, InCall.IsStepOf, InCall.IsInCall, Meaning.Entry, Meaning.effects_in, Meaning.state_after, Meaning.own_effects, Meaning.IsMoment, Meaning.EndsCall, Meaning.IsAnswer, Meaning.HasHistory}
+use Rattle.queue_laws.specs.Moment.{Moments.IsAtOnce, Moments.IsGlance, Moments.arrived, Moments.settled, Entries.settle, Shared.StandsTogether}
 
 -- an effect stands between two steps of the call that its party is in
 pub record IsWithinCall {T : Type 0} (events : List (Event T)) (skipped : List ℕ) (replies : List (ℕ × ℕ × Reply T)) (x : Entry T) : Type 0 where

@@ -2,9 +2,7 @@
 use Rattle.std.specs.Prelude.{◌≡◌, ℕ, ◌+◌, ◌-◌, ◌<◌, ◌==◌, ◌&&◌, ◌||◌, nat_lt, Bool, true, false, not, if◌then◌else◌, Option, Some, None, is_some, is_none, List, [], ◌∷◌, ◌++◌}
 use Rattle.std.specs.List.{Any}
 use Rattle.machine_replay.specs.Vocabulary.{Call, Reply, Effect, SOLO_STEPS, WAIT_FREE_STEPS, Event, Told, EffectKind, Begin, Step, Skipped, Ran}
-use Rattle.queue_steps.specs.State.{State, start}
-use Rattle.queue_steps.specs.Effect.{Fits, made}
-use Rattle.queue_steps.specs.Replies.{IsRightAt, Tells}
+use Rattle.queue_steps.specs.{State.State, State.start, Effect.Fits, Effect.made, Replies.IsRightAt, Replies.Tells}
 pub use Rattle.queue_steps.specs.Replies.{Allows}
 pub use Rattle.queue_steps.specs.Looks.{is_wait_free, has_steps}
 

@@ -1,16 +1,8 @@
 -- What brought a machine where it is, as a reader's book has it: at each point of a run, and of the events that an explorer makes.
 use Rattle.std.specs.Prelude.{◌≡◌, ℕ, false, List}
-use Rattle.machine_replay.specs.Vocabulary.{Kind, Event, Told, Running}
-use Rattle.machine_replay.specs.declared.machine_run.MachineRun.{MachineRun}
-use Rattle.machine_steps.specs.Left.{left_of, opening_world}
-use Rattle.machine_steps.specs.Machine.{world_of}
+use Rattle.machine_replay.specs.{Vocabulary.Kind, Vocabulary.Event, Vocabulary.Told, Vocabulary.Running, declared.machine_run.MachineRun.MachineRun, Book.Book, Book.Run, Book.opening, Conforms.capacity_of, MachineRuns.IsMachineRun, Played.told_of, Played.world_after, Replays.CanReplay, Replays.is_too_large}
+use Rattle.machine_steps.specs.{Left.left_of, Left.opening_world, Machine.world_of, World.World}
 use Rattle.machine_memory.specs.SharedMemory.{Shared}
-use Rattle.machine_steps.specs.World.{World}
-use Rattle.machine_replay.specs.Book.{Book, Run, opening}
-use Rattle.machine_replay.specs.Conforms.{capacity_of}
-use Rattle.machine_replay.specs.MachineRuns.{IsMachineRun}
-use Rattle.machine_replay.specs.Played.{told_of, world_after}
-use Rattle.machine_replay.specs.Replays.{CanReplay, is_too_large}
 
 -- what is told of these events leads from the empty open queue to a last book, and the machine holds the items of its queue
 pub record HasBook {T : Type 0} (k : Kind) (parties : ℕ) (events : List (Event T)) (told : List (Told T)) (w : World (Shared T) (Running T)) : Type 0 where

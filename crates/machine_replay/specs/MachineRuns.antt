@@ -1,19 +1,8 @@
 -- A run of the machine, one event after another: what brought it where it is, and what it leaves.
 use Rattle.std.specs.Prelude.{◌≡◌, ◌↔◌, ℕ, ◌+◌, ◌<◌, ◌≤◌, ◌^◌, Bool, false, IsTrue, List, [], ◌∷◌, ◌++◌, length}
-use Rattle.machine_replay.specs.Vocabulary.{Kind, Event, Told, Peak, Running}
-use Rattle.machine_replay.specs.declared.machine_run.MachineRun.{MachineRun}
-use Rattle.machine_replay.specs.declared.machine_run.RunEnd.{RunEnd}
-use Rattle.machine_replay.specs.Book.{Book, Run, opening}
-use Rattle.machine_memory.specs.SharedMemory.{Shared}
-use Rattle.machine_replay.specs.Conforms.{HasNoBlocks, IsPeak, capacity_of, entries_from, reply_entry, skipped_entry}
-use Rattle.machine_replay.specs.InCall.{IsInCall}
-use Rattle.machine_steps.specs.Left.{left_of, opening_world}
-use Rattle.machine_memory.specs.Room.{HasCount, HasRoom}
-use Rattle.machine_steps.specs.Machine.{event_of, world_of}
-use Rattle.machine_replay.specs.Peaks.{opening_peak, peak_of, peaked}
-use Rattle.machine_replay.specs.Played.{IsMade, as_told}
-use Rattle.machine_replay.specs.Replays.{CanReplay, is_too_large}
-use Rattle.machine_steps.specs.World.{World}
+use Rattle.machine_replay.specs.{Vocabulary.Kind, Vocabulary.Event, Vocabulary.Told, Vocabulary.Peak, Vocabulary.Running, declared.machine_run.MachineRun.MachineRun, declared.machine_run.RunEnd.RunEnd, Book.Book, Book.Run, Book.opening, Conforms.HasNoBlocks, Conforms.IsPeak, Conforms.capacity_of, Conforms.entries_from, Conforms.reply_entry, Conforms.skipped_entry, InCall.IsInCall, Peaks.opening_peak, Peaks.peak_of, Peaks.peaked, Played.IsMade, Played.as_told, Replays.CanReplay, Replays.is_too_large}
+use Rattle.machine_memory.specs.{SharedMemory.Shared, Room.HasCount, Room.HasRoom}
+use Rattle.machine_steps.specs.{Left.left_of, Left.opening_world, Machine.event_of, Machine.world_of, World.World}
 
 -- the machine comes from w, with the peak p, to the last world and the last peak by these events, of which this is told
 abbrev pub Comes : {T : Type 0} → Kind → World (Shared T) (Running T) → Peak → List (Event T) → List (Told T) → World (Shared T) (Running T) → Peak → Type 0

@@ -1,14 +1,9 @@
 -- What a conforming replay means: one legal history, in which every finished call stands between its own first and last step.
 use Rattle.std.specs.Prelude.{◌≡◌, ◌⊎◌, ℕ, ◌+◌, ◌<◌, ◌≤◌, ◌==◌, ◌&&◌, nat_lt, false, Option, Some, None, List, [], ◌∷◌, length, AllPairs}
 use Rattle.std.specs.List.{AllByRecursion}
-use Rattle.queue_steps.specs.State.{State}
-use Rattle.queue_steps.specs.Effect.{IsHistory, after}
-use Rattle.queue_steps.specs.Replies.{IsRightAt, Tells}
-use Rattle.machine_replay.specs.Vocabulary.{Call, Reply, Effect, Event, EffectKind, Replay, Begin}
-use Rattle.machine_replay.specs.Book.{Allows, IsBegun, has_steps, kind_of}
-use Rattle.machine_replay.specs.Conforms.{Conforms}
+use Rattle.queue_steps.specs.{State.State, Effect.IsHistory, Effect.after, Replies.IsRightAt, Replies.Tells}
+use Rattle.machine_replay.specs.{Vocabulary.Call, Vocabulary.Reply, Vocabulary.Effect, Vocabulary.Event, Vocabulary.EffectKind, Vocabulary.Replay, Vocabulary.Begin, Book.Allows, Book.IsBegun, Book.has_steps, Book.kind_of, Conforms.Conforms, InCall.HasRun, InCall.IsStepOf, InCall.IsUnanswered, InCall.IsInCall}
 pub use Rattle.queue_laws.specs.Moment.Entries.{Entry, chosen, effects_in}
-use Rattle.machine_replay.specs.InCall.{HasRun, IsStepOf, IsUnanswered, IsInCall}
 
 -- the entries without the values of their effects
 abbrev pub kinds_in : {T : Type 0} → List (Entry T) → List (ℕ × ℕ × EffectKind)

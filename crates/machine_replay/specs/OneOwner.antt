@@ -1,11 +1,8 @@
 -- With one party the machine is a queue with one owner.
 use Rattle.std.specs.Prelude.{◌≡◌, ℕ, ◌+◌, ◌==◌, Bool, if◌then◌else◌, Option, None, List, [], ◌∷◌, ◌++◌, map}
-use Rattle.std.specs.List.{list_any}
-use Rattle.std.specs.Option.{option_to_list}
-use Rattle.queue_steps.specs.Legal.{IsShown}
-use Rattle.queue_steps.specs.Sequential.{Owned, fresh, SequentialRun}
-use Rattle.machine_replay.specs.Vocabulary.{Call, Reply, Event, Told, Replay, Begin, Step, Ran}
-use Rattle.machine_replay.specs.Conforms.{Conforms}
+use Rattle.std.specs.{List.list_any, Option.option_to_list}
+use Rattle.queue_steps.specs.{Legal.IsShown, Sequential.Owned, Sequential.fresh, Sequential.SequentialRun}
+use Rattle.machine_replay.specs.{Vocabulary.Call, Vocabulary.Reply, Vocabulary.Event, Vocabulary.Told, Vocabulary.Replay, Vocabulary.Begin, Vocabulary.Step, Vocabulary.Ran, Conforms.Conforms}
 
 -- the calls that were begun, in their order
 abbrev pub begun_calls : {T : Type 0} → List (Event T) → List (Told T) → List (Call T)

@@ -1,11 +1,8 @@
 -- The greatest number of blocks of a replay, told from its lists and its history.
 use Rattle.std.specs.Prelude.{◌≡◌, ℕ, ◌+◌, ◌-◌, ◌/◌, ◌<◌, ◌≤◌, nat_lt, Option, List, length, filter, take}
-use Rattle.machine_replay.specs.Vocabulary.{Reply, BLOCK_SLOTS, Event, Replay}
+use Rattle.machine_replay.specs.{Vocabulary.Reply, Vocabulary.BLOCK_SLOTS, Vocabulary.Event, Vocabulary.Replay, Conforms.Conforms, Meaning.Entry, Meaning.HasHistory, OneOwner.calls_from}
 use Rattle.queue_steps.specs.Sequential.{blocks_of}
 pub use Rattle.queue_laws.specs.Moment.Entries.{state_before}
-use Rattle.machine_replay.specs.Conforms.{Conforms}
-use Rattle.machine_replay.specs.Meaning.{Entry, HasHistory}
-use Rattle.machine_replay.specs.OneOwner.{calls_from}
 
 -- how many replies stand before the event n
 abbrev pub replies_before : {T : Type 0} → ℕ → List (ℕ × ℕ × Reply T) → ℕ

@@ -1,13 +1,9 @@
 -- How many blocks a machine has at most, told from the machine alone.
 use Rattle.std.specs.Prelude.{ℕ, ◌+◌, ◌-◌, ◌/◌, nat_lt, if◌then◌else◌, true, List, [], ◌∷◌}
 use Rattle.machine_replay.specs.Vocabulary.{BLOCK_SLOTS, Kind, Event, Peak, Running}
-use Rattle.queue_steps.specs.Words.{position_of}
-use Rattle.queue_steps.specs.ChainWords.{items_before}
-use Rattle.machine_memory.specs.SharedMemory.{Shared}
-use Rattle.machine_memory.specs.Present.{present}
-use Rattle.machine_steps.specs.Left.{opening_world}
-use Rattle.machine_steps.specs.Machine.{event_of}
-use Rattle.machine_steps.specs.World.{World}
+use Rattle.queue_steps.specs.{Words.position_of, ChainWords.items_before}
+use Rattle.machine_memory.specs.{SharedMemory.Shared, Present.present}
+use Rattle.machine_steps.specs.{Left.opening_world, Machine.event_of, World.World}
 
 -- how many items a chain holds, by its head and its tail
 abbrev pub held : {T : Type 0} → Shared T → ℕ

@@ -1,12 +1,9 @@
 -- What a list of events makes of a machine, where the allocator grants each request that no event refuses, and what a replay tells by that.
 use Rattle.std.specs.Prelude.{◌≡◌, ℕ, ◌&&◌, Bool, true, false, not, Option, Some, None, Err, List, [], ◌∷◌}
 use Rattle.machine_replay.specs.Vocabulary.{Call, Reply, PushError, ForcePushError, Kind, Op, Local, Event, Told, Replay, Begin, Step, Ran, Running}
-use Rattle.machine_replay.specs.Conforms.{entries_from, reply_entry, effect_entry, skipped_entry}
-use Rattle.machine_replay.specs.Peaks.{peak_of}
-use Rattle.machine_steps.specs.Left.{left_of, opening_world}
+use Rattle.machine_replay.specs.{Conforms.entries_from, Conforms.reply_entry, Conforms.effect_entry, Conforms.skipped_entry, Peaks.peak_of}
+use Rattle.machine_steps.specs.{Left.left_of, Left.opening_world, Steps.start_of, Steps.step_of, World.Begun, World.Made, World.World, World.world_event}
 use Rattle.machine_memory.specs.SharedMemory.{Shared}
-use Rattle.machine_steps.specs.Steps.{start_of, step_of}
-use Rattle.machine_steps.specs.World.{Begun, Made, World, world_event}
 
 -- a machine after these events, where each request that no event refuses is granted, and what is told of them, whatever is shared and whatever its steps are
 abbrev pub world_by : {S R T : Type 0} → (Bool → S → R → Made S R T) → (Call T → Begun R T) → World S R → List (Event T) → World S R

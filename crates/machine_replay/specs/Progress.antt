@@ -1,14 +1,10 @@
 -- Who can make a call wait: where a party stands in a run, and how soon a call replies that nobody hinders.
 use Rattle.std.specs.Prelude.{◌≡◌, ◌≢◌, ℕ, ◌+◌, ◌*◌, ◌<◌, ◌==◌, Bool, true, false, if◌then◌else◌, Option, Some, None, IsSome, List, [], ◌∷◌, count_by}
 use Rattle.machine_replay.specs.Vocabulary.{Reply, Kind, Local, BLOCK_SLOTS, Event, Told, EffectKind, Step, Skipped, Ran, Running}
-use Rattle.queue_steps.specs.declared.steps.unbounded.UnboundedLocal.TheVariants as chain
-use Rattle.machine_replay.specs.Conforms.{capacity_of, party_of}
-use Rattle.machine_steps.specs.Left.{opening_world}
-use Rattle.machine_replay.specs.Played.{told_of, world_after}
-use Rattle.machine_replay.specs.Replays.{CanReplay, is_too_large}
+use Rattle.queue_steps.specs.declared.steps.unbounded.UnboundedLocal.{UnboundedLocal as chain}
+use Rattle.machine_replay.specs.{Conforms.capacity_of, Conforms.party_of, Played.told_of, Played.world_after, Replays.CanReplay, Replays.is_too_large, Within.is_step_of}
+use Rattle.machine_steps.specs.{Left.opening_world, World.World, World.call_at}
 use Rattle.machine_memory.specs.SharedMemory.{Shared}
-use Rattle.machine_steps.specs.World.{World, call_at}
-use Rattle.machine_replay.specs.Within.{is_step_of}
 
 -- a party is between calls, in a call that has had no effect, or in one that has had an effect and has not replied
 pub data Standing : Type 0 where

@@ -1,7 +1,6 @@
 -- Which queues `replay` takes, and the room in its lists.
 use Rattle.std.specs.Prelude.{◌≡◌, ℕ, ◌<◌, ◌≤◌, nat_lt, Bool, false, vec_len, vec_capacity}
-use Rattle.machine_replay.specs.Vocabulary.{Kind, MAX_CAPACITY}
-use Rattle.machine_replay.specs.declared.run.Lists.{Lists}
+use Rattle.machine_replay.specs.{Vocabulary.Kind, Vocabulary.MAX_CAPACITY, declared.run.Lists.Lists}
 
 -- a ring has more than one slot
 abbrev pub CanReplay : Kind → Type 0

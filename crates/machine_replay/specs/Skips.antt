@@ -1,8 +1,6 @@
 -- Which events are skipped, told from the lists of a replay alone.
 use Rattle.std.specs.Prelude.{◌≡◌, ◌⊎◌, ℕ, ◌<◌, Option, Some, List, slice_get, Contains}
-use Rattle.machine_replay.specs.Vocabulary.{Reply, Event, Replay, Begin, Step}
-use Rattle.machine_replay.specs.Conforms.{Conforms}
-use Rattle.machine_replay.specs.InCall.{IsInCall}
+use Rattle.machine_replay.specs.{Vocabulary.Reply, Vocabulary.Event, Vocabulary.Replay, Vocabulary.Begin, Vocabulary.Step, Conforms.Conforms, InCall.IsInCall}
 
 -- the event n fits: its party is one of the machine's, and between calls where it begins one, in a call where it takes a step
 abbrev pub ShouldRun : {T : Type 0} → ℕ → List (Event T) → List ℕ → List (ℕ × ℕ × Reply T) → ℕ → Event T → Type 0

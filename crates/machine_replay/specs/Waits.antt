@@ -1,20 +1,9 @@
 -- Who waits for whom, step by step: a call that goes back at its next step, or by two in a row with no other's between, with the word as it read it, does so beside a call that is half done, or that is to show a chain's first block.
 use Rattle.std.specs.Prelude.{◌≡◌, ◌≢◌, ℕ, true, Option, Some, None, List, false, [], ◌∷◌, ◌<◌, count_by}
-use Rattle.queue_steps.specs.SingleNext.{unlocked}
-use Rattle.queue_steps.specs.Words.{IsRing}
-use Rattle.machine_replay.specs.Vocabulary.{Kind, Local, PushKind, Event, Running}
-use Rattle.queue_steps.specs.declared.steps.bounded.BoundedLocal.TheVariants as ring
-use Rattle.queue_steps.specs.declared.steps.single.SingleLocal.TheVariants.{Pushing, Pushed, Forcing, Forced, Popping, Popped, Looking}
-use Rattle.queue_steps.specs.declared.steps.unbounded.UnboundedLocal.TheVariants as chain
-use Rattle.machine_steps.specs.Left.{opening_world}
+use Rattle.queue_steps.specs.{SingleNext.unlocked, Words.IsRing, declared.steps.bounded.BoundedLocal.BoundedLocal as ring, declared.steps.single.SingleLocal.TheVariants.Pushing, declared.steps.single.SingleLocal.TheVariants.Pushed, declared.steps.single.SingleLocal.TheVariants.Forcing, declared.steps.single.SingleLocal.TheVariants.Forced, declared.steps.single.SingleLocal.TheVariants.Popping, declared.steps.single.SingleLocal.TheVariants.Popped, declared.steps.single.SingleLocal.TheVariants.Looking, declared.steps.unbounded.UnboundedLocal.UnboundedLocal as chain}
+use Rattle.machine_replay.specs.{Vocabulary.Kind, Vocabulary.Local, Vocabulary.PushKind, Vocabulary.Event, Vocabulary.Running, Played.told_of, Played.world_after, Progress.IsNotAnswered, Progress.IsToShow, Replays.CanReplay, Replays.is_too_large, Within.is_step_of}
+use Rattle.machine_steps.specs.{Left.opening_world, Steps.step_of, World.World, World.call_at, Machine.event_of}
 use Rattle.machine_memory.specs.SharedMemory.{Shared}
-use Rattle.machine_steps.specs.Steps.{step_of}
-use Rattle.machine_steps.specs.World.{World, call_at}
-use Rattle.machine_steps.specs.Machine.{event_of}
-use Rattle.machine_replay.specs.Played.{told_of, world_after}
-use Rattle.machine_replay.specs.Progress.{IsNotAnswered, IsToShow}
-use Rattle.machine_replay.specs.Replays.{CanReplay, is_too_large}
-use Rattle.machine_replay.specs.Within.{is_step_of}
 
 -- at this moment of a run another party's call is at such a step
 abbrev pub IsBeside : {T : Type 0} → World (Shared T) (Running T) → ℕ → (Local ℕ → Type 0) → Type 0

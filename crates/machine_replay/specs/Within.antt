@@ -1,12 +1,8 @@
 -- Laws of runs: what stands within a displacement, and how soon a call replies.
 use Rattle.std.specs.Prelude.{◌≡◌, ◌≢◌, ℕ, ◌<◌, ◌≤◌, ◌==◌, Bool, true, false, Option, List, ◌∷◌, length, drop, take, count_by}
 use Rattle.std.specs.List.{AllByRecursion}
-use Rattle.machine_replay.specs.Vocabulary.{Reply, Effect, SOLO_STEPS, WAIT_FREE_STEPS, Event, Replay, Begin, Step}
-use Rattle.queue_steps.specs.State.{State}
-use Rattle.queue_steps.specs.Effect.{Runs}
-use Rattle.machine_replay.specs.Book.{is_wait_free}
-use Rattle.machine_replay.specs.Conforms.{Conforms}
-use Rattle.machine_replay.specs.InCall.{IsInCall}
+use Rattle.machine_replay.specs.{Vocabulary.Reply, Vocabulary.Effect, Vocabulary.SOLO_STEPS, Vocabulary.WAIT_FREE_STEPS, Vocabulary.Event, Vocabulary.Replay, Vocabulary.Begin, Vocabulary.Step, Book.is_wait_free, Conforms.Conforms, InCall.IsInCall}
+use Rattle.queue_steps.specs.{State.State, Effect.Runs}
 
 abbrev pub IsNotArrive : {T : Type 0} → Effect T → Type 0
 IsNotArrive Effect.Arrive = ⊥

@@ -1,10 +1,7 @@
 -- The words of a machine, as a value.
 use Rattle.std.specs.Prelude.{◌≡◌, ℕ, List}
-use Rattle.machine_replay.specs.Vocabulary.{Kind, Event, Running}
-use Rattle.machine_steps.specs.Left.{opening_world}
-use Rattle.machine_steps.specs.Machine.{PassesAll}
-use Rattle.machine_steps.specs.World.{World}
-use Rattle.machine_replay.specs.declared.words.QueueWords.{QueueWords}
+use Rattle.machine_replay.specs.{Vocabulary.Kind, Vocabulary.Event, Vocabulary.Running, declared.words.QueueWords.QueueWords}
+use Rattle.machine_steps.specs.{Left.opening_world, Machine.PassesAll, World.World}
 use Rattle.machine_memory.specs.SharedMemory.{Shared}
 
 -- these are the words of what is shared

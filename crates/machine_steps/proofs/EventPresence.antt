@@ -1,17 +1,9 @@
 -- No event makes more blocks than there were, unless one was granted.
 use Rattle.std.proofs.Common.{◌&&◌, Bool, true, false, if◌then◌else◌, Option, Some, None, arith}
-use Rattle.queue_steps.specs.declared.model.Reply.{Reply}
-use Rattle.queue_steps.specs.declared.steps.types.Kind.{Kind}
-use Rattle.machine_memory.specs.declared.calls.Running.{Running}
-use Rattle.machine_memory.specs.declared.types.Event.{Event}
-use Rattle.machine_memory.specs.declared.types.Event.TheVariants.{Begin, Step}
-use Rattle.machine_memory.specs.declared.types.Told.{Told}
-use Rattle.machine_memory.specs.declared.types.Told.TheVariants.{Skipped}
-use Rattle.machine_memory.specs.SharedMemory.{Shared, block_touched}
+use Rattle.queue_steps.specs.declared.{model.Reply.Reply, steps.types.Kind.Kind}
+use Rattle.machine_memory.specs.{declared.calls.Running.Running, declared.types.Event.Event, declared.types.Event.TheVariants.Begin, declared.types.Event.TheVariants.Step, declared.types.Told.Told, declared.types.Told.TheVariants.Skipped, SharedMemory.Shared, SharedMemory.block_touched}
 use Rattle.machine_memory.proofs.Presence.{none_more, without-none, touched-none, Sparing, sparing, operated-sparing}
-use Rattle.machine_steps.specs.Steps.{after_touch, after_operation, next_after, spare_in, shared_then, step_of, start_of}
-use Rattle.machine_steps.specs.Machine.{event_of}
-use Rattle.machine_steps.specs.World.{World, Begun, call_at, can_begin, stepped_if, began_by}
+use Rattle.machine_steps.specs.{Steps.after_touch, Steps.after_operation, Steps.next_after, Steps.spare_in, Steps.shared_then, Steps.step_of, Steps.start_of, Machine.event_of, World.World, World.Begun, World.call_at, World.can_begin, World.stepped_if, World.began_by}
 
 -- one step gives a number out, or makes no more blocks
 step-sparing : {T : Type 0} (k : Kind) (ok : Bool) (s : Shared T) (x : Running T) → Sparing s.blocks (shared_then k ok s x).blocks

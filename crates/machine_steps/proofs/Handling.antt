@@ -2,13 +2,8 @@
 use Rattle.std.proofs.Common.{◌≡◌, ◌∙◌, ◌&&◌, ℕ, Bool, true, false, Option, Some, None, List, refl, sym, ap, slice_set}
 use Rattle.std.proofs.lemmas.List.{set-set}
 use Rattle.queue_steps.specs.declared.steps.types.Kind.{Kind}
-use Rattle.machine_memory.specs.declared.calls.Running.{Running}
-use Rattle.machine_memory.specs.declared.types.Event.TheVariants.{Step}
-use Rattle.machine_memory.specs.declared.types.Told.{Told}
-use Rattle.machine_memory.specs.SharedMemory.{Shared}
-use Rattle.machine_steps.specs.Steps.{step_of}
-use Rattle.machine_steps.specs.Machine.{Handles, event_of}
-use Rattle.machine_steps.specs.World.{World, call_at, stepped}
+use Rattle.machine_memory.specs.{declared.calls.Running.Running, declared.types.Event.TheVariants.Step, declared.types.Told.Told, SharedMemory.Shared}
+use Rattle.machine_steps.specs.{Steps.step_of, Machine.Handles, Machine.event_of, World.World, World.call_at, World.stepped}
 
 -- a request that the event refuses is not granted
 and_if : (granted ok : Bool) → (granted ≡ false → ok ≡ false) → (granted && ok) ≡ ok

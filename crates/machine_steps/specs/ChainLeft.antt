@@ -1,19 +1,8 @@
 -- The list that a chain of blocks holds: what its calls in progress have claimed is done first.
 use Rattle.std.specs.Prelude.{ℕ, zero, suc, ◌==◌, if◌then◌else◌, Option, Some, None, List, [], ◌∷◌, ◌++◌, length, bit_and}
 use Rattle.std.specs.Option.{option_to_list}
-use Rattle.queue_steps.specs.ChainWords.{offset_of}
-use Rattle.queue_steps.specs.declared.steps.types.Local.{Local}
-use Rattle.queue_steps.specs.declared.steps.types.Local.TheVariants as local
-use Rattle.queue_steps.specs.declared.steps.types.Op.{Op}
-use Rattle.queue_steps.specs.declared.steps.types.Touch.{Touch}
-use Rattle.queue_steps.specs.declared.steps.types.Touch.TheVariants as touch
-use Rattle.queue_steps.specs.declared.steps.unbounded.TheConstants.{READ}
-use Rattle.queue_steps.specs.declared.steps.unbounded.UnboundedLocal.{UnboundedLocal}
-use Rattle.queue_steps.specs.declared.steps.unbounded.UnboundedLocal.TheVariants as chain
-use Rattle.machine_memory.specs.declared.blocks.BlockPlace.{BlockPlace}
-use Rattle.machine_memory.specs.declared.calls.Running.{Running}
-use Rattle.machine_memory.specs.Blocks.{Block, block_of, places_in, behind, put_state, put_item, put_next, without}
-use Rattle.machine_memory.specs.SharedMemory.{block_touched}
+use Rattle.queue_steps.specs.{ChainWords.offset_of, declared.steps.types.Local.Local, declared.steps.types.Local.Local as local, declared.steps.types.Op.Op, declared.steps.types.Touch.Touch, declared.steps.types.Touch.Touch as touch, declared.steps.unbounded.TheConstants.READ, declared.steps.unbounded.UnboundedLocal.UnboundedLocal, declared.steps.unbounded.UnboundedLocal.UnboundedLocal as chain}
+use Rattle.machine_memory.specs.{declared.blocks.BlockPlace.BlockPlace, declared.calls.Running.Running, Blocks.Block, Blocks.block_of, Blocks.places_in, Blocks.behind, Blocks.put_state, Blocks.put_item, Blocks.put_next, Blocks.without, SharedMemory.block_touched}
 
 -- a push that claimed the last slot of a block writes it, and links the block that it lays
 abbrev pub laid : {T : Type 0} → ℕ → ℕ → ℕ → Option T → List (Option (Block T)) → List (Option (Block T))

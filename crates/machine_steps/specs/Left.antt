@@ -1,17 +1,9 @@
 -- How a machine begins, and the list that it holds.
 use Rattle.std.specs.Prelude.{ℕ, zero, suc, ◌+◌, ◌-◌, ◌<◌, if◌then◌else◌, Option, Some, None, List, [], ◌∷◌, ◌++◌, slice_index_or, slice_set, replicate}
 use Rattle.std.specs.Option.{option_to_list}
-use Rattle.queue_steps.specs.SingleNext.{is_pushed}
-use Rattle.queue_steps.specs.Words.{position_of, slot_at}
-use Rattle.queue_steps.specs.declared.steps.types.Kind.{Kind}
-use Rattle.queue_steps.specs.declared.steps.types.Kind.TheVariants as kind
-use Rattle.queue_steps.specs.declared.steps.types.Touch.{Touch}
-use Rattle.queue_steps.specs.declared.steps.types.Touch.TheVariants as touch
-use Rattle.machine_memory.specs.declared.calls.Running.{Running}
-use Rattle.machine_memory.specs.SharedMemory.{Shared}
-use Rattle.machine_memory.specs.Opening.{opening_shared}
-use Rattle.machine_steps.specs.World.{World}
-use Rattle.machine_steps.specs.ChainLeft.{chain_left}
+use Rattle.queue_steps.specs.{SingleNext.is_pushed, Words.position_of, Words.slot_at, declared.steps.types.Kind.Kind, declared.steps.types.Kind.Kind as kind, declared.steps.types.Touch.Touch, declared.steps.types.Touch.Touch as touch}
+use Rattle.machine_memory.specs.{declared.calls.Running.Running, SharedMemory.Shared, Opening.opening_shared}
+use Rattle.machine_steps.specs.{World.World, ChainLeft.chain_left}
 
 -- the parties are between calls, and the queue is empty and open
 abbrev pub opening_world : {T : Type 0} → Kind → ℕ → World (Shared T) (Running T)

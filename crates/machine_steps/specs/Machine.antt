@@ -1,14 +1,8 @@
 -- The machine as a value, and what one event of it owes.
 use Rattle.std.specs.Prelude.{◌≡◌, Bool, Some, List, [], ◌∷◌}
 use Rattle.queue_steps.specs.declared.steps.types.Kind.{Kind}
-use Rattle.machine_memory.specs.declared.calls.Running.{Running}
-use Rattle.machine_memory.specs.declared.types.Event.{Event}
-use Rattle.machine_memory.specs.declared.types.Event.TheVariants.{Begin, Step}
-use Rattle.machine_memory.specs.declared.types.Told.{Told}
-use Rattle.machine_memory.specs.SharedMemory.{Shared, shared_of}
-use Rattle.machine_steps.specs.declared.machine.Machine.{Machine}
-use Rattle.machine_steps.specs.World.{World, call_at, world_event}
-use Rattle.machine_steps.specs.Steps.{CanStart, CanStep, step_of, start_of}
+use Rattle.machine_memory.specs.{declared.calls.Running.Running, declared.types.Event.Event, declared.types.Event.TheVariants.Begin, declared.types.Event.TheVariants.Step, declared.types.Told.Told, SharedMemory.Shared, SharedMemory.shared_of}
+use Rattle.machine_steps.specs.{declared.machine.Machine.Machine, World.World, World.call_at, World.world_event, Steps.CanStart, Steps.CanStep, Steps.step_of, Steps.start_of}
 
 abbrev pub world_of : {T A : Type 0} → Machine T A → World (Shared T) (Running T)
 world_of m = record { shared = shared_of m.memory; calls = m.calls.items }

@@ -1,17 +1,7 @@
 -- What one step of a call makes of the machine, and how a call begins.
 use Rattle.std.specs.Prelude.{ℕ, Bool, Option, Some, None, IsSome}
-use Rattle.queue_steps.specs.declared.model.Call.{Call}
-use Rattle.queue_steps.specs.declared.model.Reply.{Reply}
-use Rattle.queue_steps.specs.Kinds.{call_kind, call_value, filled}
-use Rattle.queue_steps.specs.Next.{CanNext, next_of, first_local}
-use Rattle.queue_steps.specs.declared.steps.types.Answer.{Answer}
-use Rattle.queue_steps.specs.declared.steps.types.Answer.TheVariants as answer
-use Rattle.queue_steps.specs.declared.steps.types.Kind.{Kind}
-use Rattle.queue_steps.specs.declared.steps.types.Next.{Next}
-use Rattle.queue_steps.specs.declared.steps.types.Next.TheVariants as next
-use Rattle.machine_memory.specs.declared.calls.Running.{Running}
-use Rattle.machine_memory.specs.Blocks.{without}
-use Rattle.machine_memory.specs.EffectOf.{effect_of}
+use Rattle.queue_steps.specs.{declared.model.Call.Call, declared.model.Reply.Reply, Kinds.call_kind, Kinds.call_value, Kinds.filled, Next.CanNext, Next.next_of, Next.first_local, declared.steps.types.Answer.Answer, declared.steps.types.Answer.Answer as answer, declared.steps.types.Kind.Kind, declared.steps.types.Next.Next, declared.steps.types.Next.Next as next}
+use Rattle.machine_memory.specs.{declared.calls.Running.Running, Blocks.without, EffectOf.effect_of}
 use Rattle.machine_memory.specs.SharedMemory.{Shared, CanOperate, answered, operated, block_touched, slots_there, CanTouch, touched, handed}
 use Rattle.machine_steps.specs.World.{Made, Begun}
 

@@ -1,12 +1,7 @@
 -- A machine, whatever is shared and whatever its steps are: what is shared, the call that each party is in, and what an event makes of them.
 use Rattle.std.specs.Prelude.{ℕ, ◌&&◌, nat_lt, Bool, if◌then◌else◌, Option, Some, None, is_none, List, length, slice_index_or, slice_set}
-use Rattle.queue_steps.specs.declared.model.Call.{Call}
-use Rattle.queue_steps.specs.declared.model.Reply.{Reply}
-use Rattle.machine_memory.specs.declared.types.Told.{Told}
-use Rattle.machine_memory.specs.declared.types.Told.TheVariants.{Skipped, Ran}
-use Rattle.machine_memory.specs.declared.types.Event.{Event}
-use Rattle.machine_memory.specs.declared.types.Event.TheVariants.{Begin, Step}
-use Rattle.machine_memory.specs.declared.types.EffectKind.{EffectKind}
+use Rattle.queue_steps.specs.declared.model.{Call.Call, Reply.Reply}
+use Rattle.machine_memory.specs.declared.types.{Told.Told, Told.TheVariants.Skipped, Told.TheVariants.Ran, Event.Event, Event.TheVariants.Begin, Event.TheVariants.Step, EffectKind.EffectKind}
 
 -- what is shared, and the call that each party is in
 pub record World (S R : Type 0) : Type 0 where

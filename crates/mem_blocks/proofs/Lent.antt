@@ -1,6 +1,6 @@
 -- What a `&` to a chain shows: how it is made of a borrow, how it is read, and where it may go. Assumes `Logic`.
 use Rattle.std.proofs.Common.{◌≡◌, ℕ, zero, suc, ◌+◌, ◌*◌, ◌<◌, Bool, true, false, true≢false, List, [], ◌∷◌, sym, refl, subst, arith, suc-mul, zero-mul}
-use Rattle.std.specs.Prelude.{Some, None}
+use Rattle.std.specs.{Prelude.Some, Prelude.None, Sync.RawAtomic.Pointer.cell}
 use mathlib.Core.Option as maybe
 use lib.ListN.{get_elem?}
 use seplogic.Ra.Ura.{Ura}
@@ -22,12 +22,9 @@ use denote.Struct.Lending.{lent_at, lent_at_shr_laws, Lends, Lends-lies, Lends-s
 use denote.Param.Send.{IsSync, Common}
 use denote.Opens.{Cuts-Halves}
 use denote.Laid.Spread.{cell_Cuts}
-use Rattle.std.specs.Sync.RawAtomic.Pointer.{cell}
 use Rattle.atomic_table.specs.Seated.{fact, row}
-use Rattle.mem_blocks.specs.Web.{Content, Home, Block, block, Lives, Rests}
+use Rattle.mem_blocks.specs.{Web.Content, Web.Home, Web.Block, Web.block, Web.Lives, Web.Rests, Lent.link_part, Lent.content_lent, Lent.slot_lent, Lent.slots_lent, Lent.block_lent, Lent.lent_if_alive, Lent.chain_lent, declared.sizes.TheConstants.SLOTS}
 use Rattle.mem_blocks.specs.Laid.{Small, Sized, slots_at, content_owns, slot_owns, slots_own, edge, block_owns, if_alive, laid_owns, chain_owns}
-use Rattle.mem_blocks.specs.Lent.{link_part, content_lent, slot_lent, slots_lent, block_lent, lent_if_alive, chain_lent}
-use Rattle.mem_blocks.specs.declared.sizes.TheConstants.{SLOTS}
 use Rattle.mem_blocks.proofs.Blocks.{found_there}
 
 module _ (R : RattleType) (L : RowLaws R) where

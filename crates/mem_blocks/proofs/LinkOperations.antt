@@ -11,8 +11,7 @@ use types.Match.{live}
 use denote.Laws.{Is}
 use denote.Memory.{lone}
 use denote.RawPtr.{Ptr, null_ptr}
-use Rattle.mem_blocks.specs.declared.operation.LinkOperation.{LinkOperation}
-use Rattle.mem_blocks.specs.declared.operation.LinkOperation.TheVariants as does
+use Rattle.mem_blocks.specs.declared.operation.LinkOperation.{LinkOperation, LinkOperation as does}
 use Rattle.mem_blocks.specs.contracts.operation.LinkOperation as operation
 
 -- the number of its variant

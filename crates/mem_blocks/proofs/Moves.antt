@@ -11,14 +11,8 @@ use types.Keyed.{entries_new, entries_take}
 use types.Tokens.{lft_new, lft_end, bor_new, lent_back}
 use Rattle.atomic_table.specs.Seated.{fact, seen, roster, halved, unused}
 use Rattle.atomic_table.proofs.Roster.{Moved, moves, Joined, joins, apart, resets}
-use Rattle.mem_blocks.specs.Web.{State, viewed, KeepsRule}
-use Rattle.mem_blocks.specs.Laid.{state_owns, known_to_all}
-use Rattle.mem_blocks.specs.Links.{leads_to, told_place, IsToldPlace}
-use Rattle.mem_blocks.specs.declared.operation.LinkOperation.{LinkOperation}
-use Rattle.mem_blocks.specs.declared.operation.LinkOperation.TheVariants as does
-use Rattle.mem_blocks.proofs.LinkOperations.{link_tag, asks_link}
-use Rattle.mem_blocks.proofs.Borrowed.{word_step, Word-found, link_step, BlockPtr-found, null_step, null_tested}
-use Rattle.mem_blocks.proofs.Blocks.{acts, Reworded, word_at, Relinked, link_at, same_word}
+use Rattle.mem_blocks.specs.{Web.State, Web.viewed, Web.KeepsRule, Laid.state_owns, Laid.known_to_all, Links.leads_to, Links.told_place, Links.IsToldPlace, declared.operation.LinkOperation.LinkOperation, declared.operation.LinkOperation.LinkOperation as does}
+use Rattle.mem_blocks.proofs.{LinkOperations.link_tag, LinkOperations.asks_link, Borrowed.word_step, Borrowed.Word-found, Borrowed.link_step, Borrowed.BlockPtr-found, Borrowed.null_step, Borrowed.null_tested, Blocks.acts, Blocks.Reworded, Blocks.word_at, Blocks.Relinked, Blocks.link_at, Blocks.same_word}
 
 module _ {M : Type 1} {𝓤 : Ura M} (𝓛 : Logic 𝓤) (R : RattleType) (token : Ty → Ptr → Fml) {V : Type 0} (cv : Coded V) (holds : State R.Denot V → Type 0) where
   open 𝓛 use {H, A}

@@ -26,8 +26,7 @@ use Rattle.std.specs.declared.sync.atomic.raw.Outcome as Outcome
 use Rattle.std.specs.contracts.marker.Brand as Brand
 use Rattle.std.proofs.marker.Brand.TheLaws.{the_row_laws}
 use Rattle.atomic_table.proofs.Calls.{fm, picked, found}
-use Rattle.mem_blocks.specs.Words.{becomes, told}
-use Rattle.mem_blocks.specs.declared.operation.Operation.{Operation}
+use Rattle.mem_blocks.specs.{Words.becomes, Words.told, declared.operation.Operation.Operation}
 use Rattle.mem_blocks.specs.contracts.operation.Operation as operation
 use Rattle.mem_blocks.specs.contracts.word.operate as operate
 use Rattle.mem_blocks.proofs.word.operate.Symbol as symbol

@@ -9,9 +9,7 @@ use base.Logic.{ent, emp}
 use types.Logic.{Logic, sem}
 use types.Match.{live}
 use denote.Memory.{lone}
-use Rattle.mem_blocks.specs.Words.{told, IsTold}
-use Rattle.mem_blocks.specs.declared.operation.Operation.{Operation}
-use Rattle.mem_blocks.specs.declared.operation.Operation.TheVariants as does
+use Rattle.mem_blocks.specs.{Words.told, Words.IsTold, declared.operation.Operation.Operation, declared.operation.Operation.Operation as does}
 use Rattle.mem_blocks.specs.contracts.operation.Operation as operation
 
 -- the number of its variant

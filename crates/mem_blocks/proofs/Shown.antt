@@ -14,8 +14,7 @@ use denote.RawPtr.{Ptr}
 use denote.Sharing.{ShrLaws, one, said}
 use denote.SharingLaws.{beside_shr_laws, one_shr_laws}
 use denote.Struct.Lending.{Lends, Lends-both}
-use Rattle.mem_blocks.specs.Web.{State}
-use Rattle.mem_blocks.specs.Laid.{WebId, age, inside_owns, known_to_all, web_owns, web_shares}
+use Rattle.mem_blocks.specs.{Web.State, Laid.WebId, Laid.age, Laid.inside_owns, Laid.known_to_all, Laid.web_owns, Laid.web_shares}
 
 module _ (R : RattleType) (token : Ty → Ptr → Fml) {V : Type 0} (cv : Coded V) (z : WebId) (holds : State R.Denot V → Type 0) where
   abbrev Inside : Fml

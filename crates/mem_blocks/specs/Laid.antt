@@ -14,8 +14,7 @@ use denote.RattleType.{RattleType}
 use denote.Memory.{mem, lone, part_at}
 use denote.RawPtr.{Ptr, block_ptr, block_of, count_of, InBlock}
 use Rattle.atomic_table.specs.Seated.{fact, row, seen, roster}
-use Rattle.mem_blocks.specs.Web.{Content, Home, Hand, Block, State, Sitter}
-use Rattle.mem_blocks.specs.declared.sizes.TheConstants.{SLOTS}
+use Rattle.mem_blocks.specs.{Web.Content, Web.Home, Web.Hand, Web.Block, Web.State, Web.Sitter, declared.sizes.TheConstants.SLOTS}
 
 -- The name of the views, and the web's lifetime.
 abbrev pub WebId : Type 0

@@ -8,8 +8,7 @@ use denote.RawPtr.{Ptr, block_ptr, block_of, count_of, ptr_val}
 use denote.Sharing.{nothing, said, one, beside}
 use denote.Struct.Lending.{lent_at}
 use Rattle.atomic_table.specs.Seated.{fact}
-use Rattle.mem_blocks.specs.Web.{Content, Home, Block}
-use Rattle.mem_blocks.specs.Laid.{Sized, slots_at}
+use Rattle.mem_blocks.specs.{Web.Content, Web.Home, Web.Block, Laid.Sized, Laid.slots_at}
 
 -- Some share of a link.
 abbrev pub link_part : ℕ → ℕ → Ptr → Share → Fml

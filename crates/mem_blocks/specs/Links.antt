@@ -1,9 +1,7 @@
 -- What an operation makes of a link, and what it tells.
 use Rattle.std.specs.Prelude.{◌≡◌}
 use denote.RawPtr.{Ptr, Testable}
-use Rattle.mem_blocks.specs.Web.{if_unset}
-use Rattle.mem_blocks.specs.declared.operation.LinkOperation.{LinkOperation}
-use Rattle.mem_blocks.specs.declared.operation.LinkOperation.TheVariants as does
+use Rattle.mem_blocks.specs.{Web.if_unset, declared.operation.LinkOperation.LinkOperation, declared.operation.LinkOperation.LinkOperation as does}
 
 -- Where the link leads afterwards, with the operand p, where it led to q.
 abbrev pub leads_to : LinkOperation → Ptr → Ptr → Ptr

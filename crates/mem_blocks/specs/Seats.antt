@@ -1,7 +1,6 @@
 -- What contracts say of a seat.
 use Rattle.std.specs.Prelude.{◌≡◌}
-use Rattle.mem_blocks.specs.declared.web.Seat.{Seat}
-use Rattle.mem_blocks.specs.declared.web.Web.{Web}
+use Rattle.mem_blocks.specs.declared.web.{Seat.Seat, Web.Web}
 
 -- The seat is of the web.
 abbrev pub Sits : {S V K P A : Type 0} → Seat S V A → Web S V K P A → Type 0

@@ -1,8 +1,7 @@
 -- What an operation makes of a word, and what it tells.
 use Rattle.std.specs.Prelude.{◌≡◌, ℕ, ◌+◌, ◌-◌, ◌%◌, ◌^◌, ◌==◌, bit_or}
 use prog.Atomic.{either}
-use Rattle.mem_blocks.specs.declared.operation.Operation.{Operation}
-use Rattle.mem_blocks.specs.declared.operation.Operation.TheVariants as does
+use Rattle.mem_blocks.specs.declared.operation.Operation.{Operation, Operation as does}
 
 -- What the word n becomes, with the operands a and b.
 abbrev pub becomes : Operation → ℕ → ℕ → ℕ → ℕ

@@ -21,17 +21,14 @@ use denote.Param.{layout}
 use denote.Param.Laws.{Laws}
 use denote.Struct.Struct.{within}
 use denote.Struct.Owning.{shape}
-use Rattle.core.proofs.alloc.Calls.{Al, handle_tells}
-use Rattle.core.proofs.cell.Inside.{Good}
-use Rattle.std.specs.declared.option.Option.TheVariants.{None, Some}
+use Rattle.core.proofs.{alloc.Calls.Al, alloc.Calls.handle_tells, cell.Inside.Good}
+use Rattle.std.specs.{declared.option.Option.TheVariants.None, declared.option.Option.TheVariants.Some, contracts.impls.GlobalAllocator.TheImpl.ghosts, contracts.option.Option.the_row as option_row}
 use Rattle.std.specs.contracts.alloc.Global as heap
 use Rattle.std.proofs.alloc.Global.TheLaws as heap_laws
-use Rattle.std.specs.contracts.impls.GlobalAllocator.TheImpl.{ghosts}
 use Rattle.std.proofs.GlobalToken.{dealloc_token-Testable}
 use Rattle.std_alloc.proofs.ResultValues.{and_tt}
 use Rattle.queue_c.specs.contracts.handle.Handle as handle
 use Rattle.queue_c.specs.contracts.end.End as end
-use Rattle.std.specs.contracts.option.Option.{the_row as option_row}
 use Rattle.queue_c.specs.Held.{boxed, held}
 use Rattle.queue_c.proofs.Values.{both}
 

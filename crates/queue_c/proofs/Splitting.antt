@@ -1,12 +1,8 @@
 -- A split that is done, and one that is refused.
 use Rattle.std.proofs.Common.{◌≡◌, ℕ, true, sym, subst}
-use Rattle.std.specs.Prelude.{Option, Some, None, Ok, Err}
+use Rattle.std.specs.{Prelude.Option, Prelude.Some, Prelude.None, Prelude.Ok, Prelude.Err, Option.is_none}
 use Rattle.std.proofs.lemmas.Bool.{false≢true}
-use Rattle.std.specs.Option.{is_none}
-use Rattle.queue_c.specs.declared.end.End.{End}
-use Rattle.queue_c.specs.declared.end.Refusal.{Refusal}
-use Rattle.queue_c.specs.Ends.{SplitsEnd}
-use Rattle.queue_c.specs.Handles.{refusal_number, split_number, Splits}
+use Rattle.queue_c.specs.{declared.end.End.End, declared.end.Refusal.Refusal, Ends.SplitsEnd, Handles.refusal_number, Handles.split_number, Handles.Splits}
 
 pub refused : (party out out' after : Option End) (n : ℕ) (e f : End) (why : Refusal)
     → party ≡ Some e → is_none out ≡ true → out' ≡ out → after ≡ Some f → SplitsEnd e (Err why) f → n ≡ refusal_number why → Splits party out n after out'

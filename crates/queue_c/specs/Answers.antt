@@ -1,13 +1,8 @@
 -- The numbers and the values that C gets for the replies of calls.
 use Rattle.std.specs.Prelude.{ℕ, Bool, if◌then◌else◌, Option, Some, None, Ok, Err}
 use Rattle.std.specs.Option.{unwrap_or}
-use Rattle.queue_steps.specs.declared.errors.PushError.TheVariants as push
-use Rattle.queue_steps.specs.declared.errors.ForcePushError.TheVariants as force
-use Rattle.queue_steps.specs.declared.errors.PopError.TheVariants as pop
-use Rattle.queue_steps.specs.declared.model.Reply.{Reply}
-use Rattle.queue_steps.specs.declared.model.Reply.TheVariants as reply
-use Rattle.queue_c.specs.declared.answers.Answer.{Answer}
-use Rattle.queue_c.specs.declared.answers.Answer.TheVariants as answer
+use Rattle.queue_steps.specs.declared.{errors.PushError.PushError as push, errors.ForcePushError.ForcePushError as force, errors.PopError.PopError as pop, model.Reply.Reply, model.Reply.Reply as reply}
+use Rattle.queue_c.specs.declared.answers.Answer.{Answer, Answer as answer}
 use Rattle.queue_c.specs.Numbers.{DONE, YES, FULL, EMPTY, CLOSED, NO_MEMORY, NO_PARTY, PENDING, BUSY, IDLE}
 
 abbrev pub yes_or_no : Bool → ℕ

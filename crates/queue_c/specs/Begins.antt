@@ -1,10 +1,7 @@
 -- What a call that is begun has come to.
 use Rattle.std.specs.Prelude.{◌≡◌, ℕ, false}
-use Rattle.queue_steps.specs.declared.model.Call.{Call}
-use Rattle.queue_steps.specs.WaitFree.{is_wait_free}
-use Rattle.concurrent_queue.specs.declared.shared.pending.Outcome.{Outcome}
-use Rattle.concurrent_queue.specs.declared.shared.pending.Outcome.TheVariants as outcome
-use Rattle.concurrent_queue.specs.Shared.{PartyView, Calls}
+use Rattle.queue_steps.specs.{declared.model.Call.Call, WaitFree.is_wait_free}
+use Rattle.concurrent_queue.specs.{declared.shared.pending.Outcome.Outcome, declared.shared.pending.Outcome.Outcome as outcome, Shared.PartyView, Shared.Calls}
 
 -- the call c of the party v has ended, as each call does; or it is pending, which a wait-free one never is
 abbrev pub Begins : {A : Type 0} → PartyView ℕ → Call ℕ → Outcome ℕ A → Type 0

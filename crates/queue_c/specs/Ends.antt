@@ -1,20 +1,9 @@
 -- What the calls of a party do that has a share in keeping its queue.
 use Rattle.std.specs.Prelude.{◌≡◌, ◌<◌, ℕ, false, [], length, Option, Some, None, Result, Ok, Err}
 use Rattle.std.specs.Arc.{arc_value}
-use Rattle.queue_steps.specs.declared.model.Call.{Call}
-use Rattle.queue_steps.specs.WaitFree.{is_wait_free}
-use Rattle.queue_steps.specs.Shares.{entire, IsEntire}
-use Rattle.queue_steps.specs.Effect.{after}
+use Rattle.queue_steps.specs.{declared.model.Call.Call, WaitFree.is_wait_free, Shares.entire, Shares.IsEntire, Effect.after}
 use Rattle.concurrent_queue.specs.Shared.{Calls, Parts}
-use Rattle.queue_c.specs.declared.answers.Answer.{Answer}
-use Rattle.queue_c.specs.declared.answers.Answer.TheVariants as answer
-use Rattle.queue_c.specs.declared.end.Turn.{Turn}
-use Rattle.queue_c.specs.declared.end.Turn.TheVariants as turn
-use Rattle.queue_c.specs.declared.end.End.{End}
-use Rattle.queue_c.specs.declared.end.Refusal.{Refusal}
-use Rattle.queue_c.specs.declared.end.Refusal.TheVariants as refusal
-use Rattle.queue_c.specs.declared.end.Finished.{Finished}
-use Rattle.queue_c.specs.declared.end.Finished.TheVariants as finished
+use Rattle.queue_c.specs.declared.{answers.Answer.Answer, answers.Answer.Answer as answer, end.Turn.Turn, end.Turn.Turn as turn, end.End.End, end.Refusal.Refusal, end.Refusal.Refusal as refusal, end.Finished.Finished, end.Finished.Finished as finished}
 
 abbrev pub IsRoom : Option ℕ → Type 0
 IsRoom (Some cap) = 0 < cap

@@ -2,8 +2,7 @@
 use Rattle.std.specs.Prelude.{◌≡◌, Bool, true, false, Some, None}
 use Rattle.queue_steps.specs.WaitFree.{is_wait_free}
 use Rattle.concurrent_queue.specs.Shared.{QueueId, nowhere}
-use Rattle.queue_c.specs.declared.end.Turn.{Turn}
-use Rattle.queue_c.specs.declared.end.Turn.TheVariants as turn
+use Rattle.queue_c.specs.declared.end.Turn.{Turn, Turn as turn}
 
 abbrev pub queue_of : Turn → QueueId
 queue_of (turn.Resting (Some v)) = v.queue

@@ -1,18 +1,9 @@
 -- What C's calls do to its handles, each of which has a party or none.
 use Rattle.std.specs.Prelude.{◌≡◌, ℕ, Option, Some, None, Result, Ok, Err}
-use Rattle.std.specs.Result.{result_ok}
-use Rattle.std.specs.Arc.{arc_value}
+use Rattle.std.specs.{Result.result_ok, Arc.arc_value}
 use Rattle.queue_steps.specs.declared.model.Call.{Call}
-use Rattle.queue_c.specs.declared.answers.Answer.{Answer}
-use Rattle.queue_c.specs.declared.answers.Answer.TheVariants as answer
+use Rattle.queue_c.specs.{declared.answers.Answer.Answer, declared.answers.Answer.Answer as answer, declared.end.End.End, declared.end.Refusal.Refusal, declared.end.Refusal.Refusal as refusal, declared.end.Finished.Finished, declared.end.Finished.Finished as finished, Answers.number_of, Answers.written, Ends.IsNew, Ends.Takes, Ends.Resumes, Ends.SplitsEnd, Ends.FinishesEnd}
 use Rattle.queue_c.specs.Numbers.{DONE, YES, NO_MEMORY, NO_PARTY, TAKEN, TOO_MANY, SHARED, LOST, BUSY}
-use Rattle.queue_c.specs.declared.end.End.{End}
-use Rattle.queue_c.specs.declared.end.Refusal.{Refusal}
-use Rattle.queue_c.specs.declared.end.Refusal.TheVariants as refusal
-use Rattle.queue_c.specs.declared.end.Finished.{Finished}
-use Rattle.queue_c.specs.declared.end.Finished.TheVariants as finished
-use Rattle.queue_c.specs.Answers.{number_of, written}
-use Rattle.queue_c.specs.Ends.{IsNew, Takes, Resumes, SplitsEnd, FinishesEnd}
 
 -- a new queue of this capacity: its first party is in the handle, which had none; or nothing is changed
 abbrev pub Opens : Option ℕ → Option End → ℕ → Option End → Type 0

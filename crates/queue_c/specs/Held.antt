@@ -2,10 +2,7 @@
 use base.Fml.{Fml, ftrue, fsep, fex}
 use denote.RattleType.{RattleType}
 use denote.RawPtr.{Ptr, block_ptr, null_ptr, Testable}
-use Rattle.std.specs.Prelude.{Option, Some, None}
-use Rattle.std.specs.contracts.option.Option.{the_row as option_row}
-use Rattle.std.specs.declared.alloc.Global.{Global}
-use Rattle.std.specs.contracts.impls.GlobalAllocator.TheImpl.{ghosts}
+use Rattle.std.specs.{Prelude.Option, Prelude.Some, Prelude.None, contracts.option.Option.the_row as option_row, declared.alloc.Global.Global, contracts.impls.GlobalAllocator.TheImpl.ghosts}
 use Rattle.std_alloc.specs.Box.Ownership.{box_owns}
 
 abbrev pub boxed : (R : RattleType) → Global → Ptr → R.Denot → Fml

@@ -1,19 +1,13 @@
 -- What each thread of a crew adds to what its party has become.
 use Rattle.std.proofs.Common.{◌≡◌, ℕ, ◌+◌, Bool, true, false, List, [], ◌∷◌, ◌++◌, length, reverse, refl, ap, sym, subst, ◌∙◌, arith, add-zero, length-append}
-use Rattle.std.proofs.lemmas.List.{reverse-append}
-use Rattle.std.proofs.lemmas.List.Elements.{All-nil, All-cons, All-weaker}
-use Rattle.std.proofs.lemmas.List.Sums.{sum_by-cons}
-use Rattle.queue_steps.specs.Shares.{Share, SamePart}
-use Rattle.queue_steps.specs.Parties.{IsView}
+use Rattle.std.proofs.lemmas.List.{reverse-append, Elements.All-nil, Elements.All-cons, Elements.All-weaker, Sums.sum_by-cons}
+use Rattle.queue_steps.specs.{Shares.Share, Shares.SamePart, Parties.IsView}
 use Rattle.queue_steps.proofs.ShareLaws.{halves_joined}
 use Rattle.shared_parties.proofs.Histories.{prefix_trans}
 use Rattle.concurrent_queue.specs.Shared.{QueueId, PartyView, IsPartyOf, Parts, Joins}
 use Rattle.law_parties.specs.Doings.{done_by}
 use Rattle.law_parties.proofs.Doings.{unchanged, did_both}
-use Rattle.queue_crew.specs.Work.{Piece, IsPartOf, IsParted, IsKept, HasWorked}
-use Rattle.queue_crew.specs.Coming.{Came}
-use Rattle.queue_crew.specs.declared.refusal.OnRefusal.{OnRefusal}
-use Rattle.queue_crew.specs.declared.refusal.OnRefusal.TheVariants as refusal
+use Rattle.queue_crew.specs.{Work.Piece, Work.IsPartOf, Work.IsParted, Work.IsKept, Work.HasWorked, Coming.Came, declared.refusal.OnRefusal.OnRefusal, declared.refusal.OnRefusal.OnRefusal as refusal}
 
 module _ {T : Type 0} where
   -- of the two that a party is parted into the first goes on with what it had done

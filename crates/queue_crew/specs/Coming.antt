@@ -1,12 +1,10 @@
 -- What comes of the threads of a crew from one on, as the recursion joins it.
 use Rattle.std.specs.Prelude.{◌≡◌, ℕ, ◌+◌, Bool, List, length, map, reverse}
 use Rattle.std.specs.List.{All}
-use Rattle.queue_steps.specs.declared.model.Effect.{Effect}
-use Rattle.queue_steps.specs.Shares.{SamePart}
+use Rattle.queue_steps.specs.{declared.model.Effect.Effect, Shares.SamePart}
 use Rattle.concurrent_queue.specs.Shared.{QueueId, PartyView, IsPartyOf}
 use Rattle.law_parties.specs.Doings.{done_by}
-use Rattle.queue_crew.specs.Work.{Piece, EachReports, IsPartOf, done_by_all, AreJoined, IsKept}
-use Rattle.queue_crew.specs.declared.refusal.OnRefusal.{OnRefusal}
+use Rattle.queue_crew.specs.{Work.Piece, Work.EachReports, Work.IsPartOf, Work.done_by_all, Work.AreJoined, Work.IsKept, declared.refusal.OnRefusal.OnRefusal}
 
 -- as `HasWorked`, of the threads from this number on, and the posts the last one first
 pub record Came {T Post : Type 0} (reports : ℕ → PartyView T → Post → Type 0) (q : QueueId) (on_refusal : OnRefusal) (all_started : Bool) (n made : ℕ) (v all : PartyView T) (posts : List Post) : Type 0 where

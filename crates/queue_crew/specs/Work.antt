@@ -2,14 +2,10 @@
 use Rattle.std.specs.Prelude.{◌≡◌, ℕ, ◌+◌, Bool, true, false, List, [], ◌∷◌, map}
 use Rattle.std.specs.List.{All, sum_by}
 use mathlib.Core.List.{IsPrefix}
-use Rattle.queue_steps.specs.declared.model.Effect.{Effect}
-use Rattle.queue_steps.specs.declared.model.Call.TheVariants as call
-use Rattle.queue_steps.specs.declared.model.Reply.TheVariants as reply
-use Rattle.queue_steps.specs.Shares.{SamePart}
+use Rattle.queue_steps.specs.{declared.model.Effect.Effect, declared.model.Call.Call as call, declared.model.Reply.Reply as reply, Shares.SamePart}
 use Rattle.concurrent_queue.specs.Shared.{QueueId, PartyView, IsPartyOf, Calls, Joins}
 use Rattle.law_parties.specs.Doings.{done_by, Did}
-use Rattle.queue_crew.specs.declared.refusal.OnRefusal.{OnRefusal}
-use Rattle.queue_crew.specs.declared.refusal.OnRefusal.TheVariants as refusal
+use Rattle.queue_crew.specs.declared.refusal.OnRefusal.{OnRefusal, OnRefusal as refusal}
 
 -- one piece of work: its party, once the work was done, and what it brought
 pub record Piece (T Post : Type 0) : Type 0 where

@@ -1,15 +1,7 @@
 -- What the effects keep, and what the one-owner table keeps.
 use Rattle.std.specs.Prelude.{◌≡◌, ◌⊎◌, ℕ, ◌+◌, ◌-◌, ◌≤◌, Bool, true, false, not, ◌&&◌, ◌==◌, List, [], ◌∷◌, ◌++◌, length, Option, Some, None, if◌then◌else◌, nat_eq}
 use Rattle.std.proofs.Common.{refl, inl, inr, ap, ◌∙◌, arith, length-append}
-use Rattle.queue_steps.specs.declared.sizes.TheConstants.{LIMIT}
-use Rattle.queue_steps.specs.declared.model.Effect.{Effect}
-use Rattle.queue_steps.specs.declared.model.Effect.TheVariants as effect
-use Rattle.queue_steps.specs.declared.model.Call.{Call}
-use Rattle.queue_steps.specs.declared.model.Call.TheVariants as call
-use Rattle.queue_steps.specs.State.{State, start, is_single_cap, fills, is_full}
-use Rattle.queue_steps.specs.Effect.{Fits, made, rest, with_coming, Runs, after_from}
-use Rattle.queue_steps.specs.Laws.{StaysClosed, StaysWithin}
-use Rattle.queue_steps.specs.Legal.{IsSound, IsWithin, KeepsSound}
+use Rattle.queue_steps.specs.{declared.sizes.TheConstants.LIMIT, declared.model.Effect.Effect, declared.model.Effect.Effect as effect, declared.model.Call.Call, declared.model.Call.Call as call, State.State, State.start, State.is_single_cap, State.fills, State.is_full, Effect.Fits, Effect.made, Effect.rest, Effect.with_coming, Effect.Runs, Effect.after_from, Laws.StaysClosed, Laws.StaysWithin, Legal.IsSound, Legal.IsWithin, Legal.KeepsSound}
 use Rattle.queue_steps.proofs.TableCases.{table_cases}
 use Rattle.queue_steps.specs.Sequential.{Owned, HoldsBlocks, moved, spanned, blocks_of, sequential_state, is_spent, shut, appended, displaced}
 

@@ -1,29 +1,7 @@
 -- A call that changes nothing takes such steps alone.
 use Rattle.std.specs.Prelude.{ℕ, ◌-◌, ◌==◌, Bool, true, false, refl, Some, None, if◌then◌else◌}
-use Rattle.queue_steps.specs.declared.model.Call.{Call}
-use Rattle.queue_steps.specs.declared.model.Call.TheVariants as call
-use Rattle.queue_steps.specs.declared.steps.types.Answer.{Answer}
-use Rattle.queue_steps.specs.declared.steps.types.Answer.TheVariants as answer
-use Rattle.queue_steps.specs.declared.steps.types.Kind.{Kind}
-use Rattle.queue_steps.specs.declared.steps.types.Kind.TheVariants as kind
-use Rattle.queue_steps.specs.declared.steps.types.Local.{Local}
-use Rattle.queue_steps.specs.declared.steps.types.Local.TheVariants as local
-use Rattle.queue_steps.specs.declared.steps.single.SingleLocal.TheVariants as slot
-use Rattle.queue_steps.specs.declared.steps.bounded.BoundedLocal.TheVariants as ring
-use Rattle.queue_steps.specs.declared.steps.bounded.BoundedLocal.{BoundedLocal}
-use Rattle.queue_steps.specs.declared.steps.types.Word.TheVariants as word
-use Rattle.queue_steps.specs.declared.model.Reply.{Reply}
-use Rattle.queue_steps.specs.declared.steps.looks.Look.{Look}
-use Rattle.queue_steps.specs.declared.steps.unbounded.UnboundedLocal.{UnboundedLocal}
-use Rattle.queue_steps.specs.declared.steps.unbounded.UnboundedLocal.TheVariants as chain
-use Rattle.queue_steps.specs.Words.{position_of, is_shut}
-use Rattle.queue_steps.specs.ChainWords.{items_before}
-use Rattle.queue_steps.specs.UnboundedNext.{unbounded_next, FitsChain}
+use Rattle.queue_steps.specs.{declared.model.Call.Call, declared.model.Call.Call as call, declared.steps.types.Answer.Answer, declared.steps.types.Answer.Answer as answer, declared.steps.types.Kind.Kind, declared.steps.types.Kind.Kind as kind, declared.steps.types.Local.Local, declared.steps.types.Local.Local as local, declared.steps.single.SingleLocal.SingleLocal as slot, declared.steps.bounded.BoundedLocal.BoundedLocal as ring, declared.steps.bounded.BoundedLocal.BoundedLocal, declared.steps.types.Word.Word as word, declared.model.Reply.Reply, declared.steps.looks.Look.Look, declared.steps.unbounded.UnboundedLocal.UnboundedLocal, declared.steps.unbounded.UnboundedLocal.UnboundedLocal as chain, Words.position_of, Words.is_shut, ChainWords.items_before, UnboundedNext.unbounded_next, UnboundedNext.FitsChain, BoundedNext.ends, BoundedNext.loads, BoundedNext.bounded_next, BoundedNext.FitsRing, Looks.IsLook, Looks.reply_of_look, Next.CanNext, Next.next_of, Next.first_local, LookNext.IsLookLocal, LookNext.IsLookNext}
 use Rattle.queue_steps.specs.UnboundedNext as unbounded
-use Rattle.queue_steps.specs.BoundedNext.{ends, loads, bounded_next, FitsRing}
-use Rattle.queue_steps.specs.Looks.{IsLook, reply_of_look}
-use Rattle.queue_steps.specs.Next.{CanNext, next_of, first_local}
-use Rattle.queue_steps.specs.LookNext.{IsLookLocal, IsLookNext}
 
 pub look_next-first : (B : Type 0) (k : Kind) (c : Call Unit) → IsLook c → IsLookNext (next_of {B = B} k (first_local c) answer.Start)
 look_next-first B k (call.Push v) h = absurd h

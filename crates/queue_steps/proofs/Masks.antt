@@ -1,9 +1,6 @@
 -- A remainder by a power of two is a mask.
-use Rattle.std.specs.Prelude.{bit_and}
+use Rattle.std.specs.{Prelude.bit_and, Int.is_power_of_two, Int.RustNames.count_ones, Int.Count.ones_step}
 use Rattle.std.proofs.Common.{◌≡◌, ◌⊎◌, ℕ, zero, suc, ◌+◌, ◌-◌, ◌*◌, ◌/◌, ◌%◌, ◌^◌, ◌<◌, ◌≤◌, true, refl, arith, inl, inr, sym, ◌∙◌, ap}
-use Rattle.std.specs.Int.{is_power_of_two}
-use Rattle.std.specs.Int.RustNames.{count_ones}
-use Rattle.std.specs.Int.Count.{ones_step}
 use Rattle.std.proofs.lemmas.Nat.{and_mask, zero_from_ones}
 
 doubled : (k : ℕ) → 2 ^ suc k ≡ (2 ^ k) * 2

@@ -1,22 +1,7 @@
 -- A call whose effects stand one after another, with nothing of another call between them, is a call of the one-owner table.
 use Rattle.std.proofs.Common.{◌≡◌, ◌⊎◌, ℕ, ◌+◌, ◌==◌, ◌&&◌, true, false, not, if◌then◌else◌, Some, None, Ok, Err, List, [], ◌∷◌, refl, sym, ap, subst, ⊎_elim, arith, inl, inr}
-use Rattle.queue_steps.specs.declared.sizes.TheConstants.{LIMIT}
-use Rattle.queue_steps.specs.State.{State, is_full, is_single_cap, IsBelow}
-use Rattle.queue_steps.specs.Effect.{Runs, after_from}
-use Rattle.queue_steps.specs.Legal.{IsShown}
-use Rattle.queue_steps.specs.Replies.{IsRightAt, LacksMemory, Allows, Tells}
-use Rattle.queue_steps.specs.Sequential.{owner_table, is_spent, counted}
-use Rattle.queue_steps.specs.declared.model.Call.{Call}
-use Rattle.queue_steps.specs.declared.model.Call.TheVariants as call
-use Rattle.queue_steps.specs.declared.model.Reply.{Reply}
-use Rattle.queue_steps.specs.declared.model.Reply.TheVariants as reply
-use Rattle.queue_steps.specs.declared.model.Effect.{Effect}
-use Rattle.queue_steps.specs.declared.model.Effect.TheVariants as effect
-use Rattle.queue_steps.specs.declared.errors.PopError.TheVariants as pop
-use Rattle.queue_steps.specs.declared.errors.PushError.TheVariants as push
-use Rattle.queue_steps.specs.declared.errors.ForcePushError.TheVariants as force
-use Rattle.queue_steps.proofs.TableCases.{at_shut, at_spent, at_full, at_room}
-use Rattle.queue_steps.proofs.LookLaws.{look_tells, look_right}
+use Rattle.queue_steps.specs.{declared.sizes.TheConstants.LIMIT, State.State, State.is_full, State.is_single_cap, State.IsBelow, Effect.Runs, Effect.after_from, Legal.IsShown, Replies.IsRightAt, Replies.LacksMemory, Replies.Allows, Replies.Tells, Sequential.owner_table, Sequential.is_spent, Sequential.counted, declared.model.Call.Call, declared.model.Call.Call as call, declared.model.Reply.Reply, declared.model.Reply.Reply as reply, declared.model.Effect.Effect, declared.model.Effect.Effect as effect, declared.errors.PopError.PopError as pop, declared.errors.PushError.PushError as push, declared.errors.ForcePushError.ForcePushError as force}
+use Rattle.queue_steps.proofs.{TableCases.at_shut, TableCases.at_spent, TableCases.at_full, TableCases.at_room, LookLaws.look_tells, LookLaws.look_right}
 
 -- the count agrees, but for a queue of one slot
 abbrev pub Same : {T : Type 0} → State T → ℕ → Type 0

@@ -1,7 +1,6 @@
 -- How shares add up.
 use Rattle.std.proofs.Common.{◌≡◌, ℕ, ◌+◌, ◌-◌, ◌*◌, ◌^◌, ◌<◌, ◌≤◌, refl, ap, sym, ◌∙◌, subst, ⊎_elim, arith}
-use Rattle.std.proofs.lemmas.Nat.{pow_pos, pow-add}
-use Rattle.std.proofs.Math.Nat.{mul_assoc, mul_right_comm, add-mul, zero-mul, mul-pos, eq-zero-or-pos, eq_of_mul-eq-mul_right, le_of_mul-le-mul_right}
+use Rattle.std.proofs.{lemmas.Nat.pow_pos, lemmas.Nat.pow-add, Math.Nat.mul_assoc, Math.Nat.mul_right_comm, Math.Nat.add-mul, Math.Nat.zero-mul, Math.Nat.mul-pos, Math.Nat.eq-zero-or-pos, Math.Nat.eq_of_mul-eq-mul_right, Math.Nat.le_of_mul-le-mul_right}
 use Rattle.queue_steps.specs.Shares.{Share, nothing, half, plus, SamePart, IsEntire, IsSome, IsPart, weight, SharesAddUp}
 
 -- a power of two, taken apart

@@ -1,9 +1,7 @@
 -- What holds of each line of the table at which a push may end holds of what the push answers and leaves.
 use Rattle.std.specs.Prelude.{◌≡◌, Bool, true, false, if◌then◌else◌}
 use Rattle.std.proofs.Common.{refl}
-use Rattle.queue_steps.specs.declared.model.Reply.{Reply}
-use Rattle.queue_steps.specs.State.{State, is_full}
-use Rattle.queue_steps.specs.Sequential.{is_spent}
+use Rattle.queue_steps.specs.{declared.model.Reply.Reply, State.State, State.is_full, Sequential.is_spent}
 
 branch : {A : Type 0} (P : A → Type 0) (b : Bool) (x y : A) → (b ≡ true → P x) → (b ≡ false → P y) → P (if b then x else y)
 branch P true x y hit miss = hit refl

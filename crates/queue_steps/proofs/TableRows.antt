@@ -1,21 +1,8 @@
 -- Each line of the one-owner table stands in a history.
 use Rattle.std.specs.Prelude.{◌≡◌, ◌⊎◌, ℕ, ◌+◌, ◌<◌, ◌≤◌, Bool, true, false, not, ◌&&◌, ◌==◌, List, [], ◌∷◌, ◌++◌, length, Option, Some, None, Ok, Err, if◌then◌else◌}
 use Rattle.std.proofs.Common.{refl, sym, inl, inr, ap, ◌∙◌, arith}
-use Rattle.queue_steps.specs.declared.sizes.TheConstants.{LIMIT}
-use Rattle.queue_steps.specs.declared.model.Effect.TheVariants as effect
-use Rattle.queue_steps.specs.State.{State, is_single_cap, fills, is_full}
-use Rattle.queue_steps.specs.Effect.{rest}
-use Rattle.queue_steps.specs.Replies.{Allows, LacksMemory, Tells}
-use Rattle.queue_steps.specs.Looks.{look_reply}
-use Rattle.queue_steps.specs.Sequential.{owner_table, is_spent, shut, appended, displaced, front, pop_result}
-use Rattle.queue_steps.specs.declared.errors.PushError.TheVariants as push
-use Rattle.queue_steps.specs.declared.errors.ForcePushError.TheVariants as force
+use Rattle.queue_steps.specs.{declared.sizes.TheConstants.LIMIT, declared.model.Effect.Effect as effect, State.State, State.is_single_cap, State.fills, State.is_full, Effect.rest, Replies.Allows, Replies.LacksMemory, Replies.Tells, Looks.look_reply, Sequential.owner_table, Sequential.is_spent, Sequential.shut, Sequential.appended, Sequential.displaced, Sequential.front, Sequential.pop_result, declared.errors.PushError.PushError as push, declared.errors.ForcePushError.ForcePushError as force, Legal.IsSound, Legal.IsWithin, Legal.Stands, Legal.SequentialStands, declared.model.Call.Call, declared.model.Call.Call as call, declared.model.Reply.Reply, declared.model.Reply.Reply as reply}
 use Rattle.queue_steps.proofs.TableCases.{table_cases}
-use Rattle.queue_steps.specs.Legal.{IsSound, IsWithin, Stands, SequentialStands}
-use Rattle.queue_steps.specs.declared.model.Call.{Call}
-use Rattle.queue_steps.specs.declared.model.Call.TheVariants as call
-use Rattle.queue_steps.specs.declared.model.Reply.{Reply}
-use Rattle.queue_steps.specs.declared.model.Reply.TheVariants as reply
 
 abbrev RowStands : {T : Type 0} → State T → Call T → Reply T × State T → Type 0
 RowStands Q c l = Stands Q c l.0 l.1

@@ -2,27 +2,10 @@
 use Rattle.std.specs.Prelude.{◌≡◌, ℕ, ◌<◌, ◌≤◌, false, List, [], ◌∷◌, ◌++◌, length, Option, None, Err}
 use Rattle.std.proofs.Common.{refl, sym, inl, inr, ap, ◌∙◌, subst, ⊎_elim, length-append, arith}
 use Rattle.std.specs.List.{Contains}
-use Rattle.std.proofs.lemmas.List.{append-nil}
-use Rattle.std.proofs.lemmas.List.Elements.{All-contains, Contains-append_cases}
+use Rattle.std.proofs.lemmas.List.{append-nil, Elements.All-contains, Elements.Contains-append_cases}
 use mathlib.Core.List.{IsPrefix}
-use Rattle.queue_steps.specs.declared.model.Effect.{Effect}
-use Rattle.queue_steps.specs.declared.model.Effect.TheVariants as effect
-use Rattle.queue_steps.specs.declared.model.Call.{Call}
-use Rattle.queue_steps.specs.declared.model.Call.TheVariants as call
-use Rattle.queue_steps.specs.declared.model.Reply.{Reply}
-use Rattle.queue_steps.specs.declared.model.Reply.TheVariants as reply
-use Rattle.queue_steps.specs.declared.errors.PushError.TheVariants as push
-use Rattle.queue_steps.specs.declared.errors.ForcePushError.TheVariants as force
-use Rattle.queue_steps.specs.State.{State, start}
-use Rattle.queue_steps.specs.Effect.{made, Runs, after_from, after, IsHistory}
-use Rattle.queue_steps.specs.Replies.{LacksMemory, Allows}
-use Rattle.queue_steps.specs.Sequential.{sequential_state}
-use Rattle.queue_steps.specs.Legal.{IsShown}
-use Rattle.queue_steps.specs.Shares.{IsEntire}
-use Rattle.queue_steps.specs.Parties.{View, IsView, StandAt, Displaces, SharedCall}
-use Rattle.queue_steps.specs.SequentialCalls.{WholeCalls}
-use Rattle.queue_steps.proofs.Places.{Fills, first_place, only_these}
-use Rattle.queue_steps.proofs.Rows.{Does, does_row}
+use Rattle.queue_steps.specs.{declared.model.Effect.Effect, declared.model.Effect.Effect as effect, declared.model.Call.Call, declared.model.Call.Call as call, declared.model.Reply.Reply, declared.model.Reply.Reply as reply, declared.errors.PushError.PushError as push, declared.errors.ForcePushError.ForcePushError as force, State.State, State.start, Effect.made, Effect.Runs, Effect.after_from, Effect.after, Effect.IsHistory, Replies.LacksMemory, Replies.Allows, Sequential.sequential_state, Legal.IsShown, Shares.IsEntire, Parties.View, Parties.IsView, Parties.StandAt, Parties.Displaces, Parties.SharedCall, SequentialCalls.WholeCalls}
+use Rattle.queue_steps.proofs.{Places.Fills, Places.first_place, Places.only_these, Rows.Does, Rows.does_row}
 
 module _ {T : Type 0} where
   runs_rest : (q : State T) (s d : List (Effect T)) → Runs q (s ++ d) → Runs (after_from q s) d

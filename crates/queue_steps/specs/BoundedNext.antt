@@ -1,34 +1,6 @@
 -- The steps of a ring.
 use Rattle.std.specs.Prelude.{◌≡◌, ℕ, ◌+◌, ◌-◌, ◌%◌, ◌≤◌, ◌==◌, Some, None, Ok, Err, if◌then◌else◌}
-use Rattle.queue_steps.specs.declared.sizes.TheConstants.{LIMIT}
-use Rattle.queue_steps.specs.declared.model.Call.{Call}
-use Rattle.queue_steps.specs.declared.model.Reply.{Reply}
-use Rattle.queue_steps.specs.declared.model.Reply.TheVariants as reply
-use Rattle.queue_steps.specs.declared.errors.PopError.TheVariants as pop
-use Rattle.queue_steps.specs.declared.errors.PushError.TheVariants as push
-use Rattle.queue_steps.specs.declared.errors.ForcePushError.TheVariants as force
-use Rattle.queue_steps.specs.declared.steps.types.Answer.{Answer}
-use Rattle.queue_steps.specs.declared.steps.types.Answer.TheVariants.{Found, Done}
-use Rattle.queue_steps.specs.declared.steps.types.Local.TheVariants as local
-use Rattle.queue_steps.specs.declared.steps.types.Next.{Next}
-use Rattle.queue_steps.specs.declared.steps.types.Next.TheVariants as next
-use Rattle.queue_steps.specs.declared.steps.types.Op.{Op}
-use Rattle.queue_steps.specs.declared.steps.types.Op.TheVariants as op
-use Rattle.queue_steps.specs.declared.steps.types.Touch.{Touch}
-use Rattle.queue_steps.specs.declared.steps.types.Touch.TheVariants as touch
-use Rattle.queue_steps.specs.declared.steps.types.Word.{Word}
-use Rattle.queue_steps.specs.declared.steps.types.Word.TheVariants as word
-use Rattle.queue_steps.specs.declared.steps.bounded.TheConstants.{MARK, TAIL_STEP}
-use Rattle.queue_steps.specs.declared.steps.bounded.PushKind.{PushKind}
-use Rattle.queue_steps.specs.declared.steps.bounded.PushKind.TheVariants as kind
-use Rattle.queue_steps.specs.declared.steps.bounded.BoundedLocal.{BoundedLocal}
-use Rattle.queue_steps.specs.declared.steps.bounded.BoundedLocal.TheVariants as ring
-use Rattle.queue_steps.specs.declared.steps.looks.CallView.{CallView}
-use Rattle.queue_steps.specs.declared.steps.looks.CallView.TheVariants as view
-use Rattle.queue_steps.specs.declared.steps.looks.Look.{Look}
-use Rattle.queue_steps.specs.declared.steps.looks.Look.TheVariants as look
-use Rattle.queue_steps.specs.Looks.{call_view, reply_of_look}
-use Rattle.queue_steps.specs.Words.{IsWord, position_of, is_shut, slot_at, stamp_free, stamp_filled, stamp_emptied}
+use Rattle.queue_steps.specs.{declared.sizes.TheConstants.LIMIT, declared.model.Call.Call, declared.model.Reply.Reply, declared.model.Reply.Reply as reply, declared.errors.PopError.PopError as pop, declared.errors.PushError.PushError as push, declared.errors.ForcePushError.ForcePushError as force, declared.steps.types.Answer.Answer, declared.steps.types.Answer.TheVariants.Found, declared.steps.types.Answer.TheVariants.Done, declared.steps.types.Local.Local as local, declared.steps.types.Next.Next, declared.steps.types.Next.Next as next, declared.steps.types.Op.Op, declared.steps.types.Op.Op as op, declared.steps.types.Touch.Touch, declared.steps.types.Touch.Touch as touch, declared.steps.types.Word.Word, declared.steps.types.Word.Word as word, declared.steps.bounded.TheConstants.MARK, declared.steps.bounded.TheConstants.TAIL_STEP, declared.steps.bounded.PushKind.PushKind, declared.steps.bounded.PushKind.PushKind as kind, declared.steps.bounded.BoundedLocal.BoundedLocal, declared.steps.bounded.BoundedLocal.BoundedLocal as ring, declared.steps.looks.CallView.CallView, declared.steps.looks.CallView.CallView as view, declared.steps.looks.Look.Look, declared.steps.looks.Look.Look as look, Looks.call_view, Looks.reply_of_look, Words.IsWord, Words.position_of, Words.is_shut, Words.slot_at, Words.stamp_free, Words.stamp_filled, Words.stamp_emptied}
 
 -- one step, after which the call waits at l
 abbrev pub at : {B : Type 0} → BoundedLocal → Touch → Op B → Next B

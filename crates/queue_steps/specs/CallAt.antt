@@ -1,9 +1,6 @@
 -- Which call stands at a place of a ring or of a chain: a push, a pop, or one of the rest.
 use Rattle.std.specs.Prelude.{Bool, true, false, not, ◌&&◌}
-use Rattle.queue_steps.specs.declared.steps.bounded.BoundedLocal.{BoundedLocal}
-use Rattle.queue_steps.specs.declared.steps.bounded.BoundedLocal.TheVariants as ring
-use Rattle.queue_steps.specs.declared.steps.unbounded.UnboundedLocal.{UnboundedLocal}
-use Rattle.queue_steps.specs.declared.steps.unbounded.UnboundedLocal.TheVariants as chain
+use Rattle.queue_steps.specs.declared.steps.{bounded.BoundedLocal.BoundedLocal, bounded.BoundedLocal.BoundedLocal as ring, unbounded.UnboundedLocal.UnboundedLocal, unbounded.UnboundedLocal.UnboundedLocal as chain}
 
 abbrev pub is_ring_push : BoundedLocal → Bool
 is_ring_push (ring.PushTail p) = true

@@ -1,7 +1,6 @@
 -- The coding of a chain's words: nothing else says how a position stands in a word, a block and a slot.
 use Rattle.std.specs.Prelude.{ℕ, ◌+◌, ◌*◌, ◌/◌, ◌%◌, ◌==◌, if◌then◌else◌}
-use Rattle.queue_steps.specs.declared.sizes.TheConstants.{BLOCK_SLOTS, BLOCK_POSITIONS}
-use Rattle.queue_steps.specs.Words.{position_of}
+use Rattle.queue_steps.specs.{declared.sizes.TheConstants.BLOCK_SLOTS, declared.sizes.TheConstants.BLOCK_POSITIONS, Words.position_of}
 
 -- the block of a position, and the offset in it
 abbrev pub block_at : ℕ → ℕ

@@ -1,20 +1,6 @@
 -- The steps that a push and a pop take which find room, or an item, and meet no other call. The rest are steps like any other, and rare.
 use Rattle.std.specs.Prelude.{ℕ, ◌+◌, ◌==◌, Bool, true, false, not, ◌&&◌, ◌||◌, bit_and, Some, is_some, nat_lt}
-use Rattle.queue_steps.specs.declared.sizes.TheConstants.{LIMIT, BLOCK_SLOTS}
-use Rattle.queue_steps.specs.declared.steps.types.Kind.{Kind}
-use Rattle.queue_steps.specs.declared.steps.types.Kind.TheVariants as kind
-use Rattle.queue_steps.specs.declared.steps.types.Answer.{Answer}
-use Rattle.queue_steps.specs.declared.steps.types.Answer.TheVariants.{Found, Linked, Granted, Done}
-use Rattle.queue_steps.specs.declared.steps.types.Local.{Local}
-use Rattle.queue_steps.specs.declared.steps.types.Local.TheVariants as local
-use Rattle.queue_steps.specs.declared.steps.bounded.BoundedLocal.{BoundedLocal}
-use Rattle.queue_steps.specs.declared.steps.bounded.BoundedLocal.TheVariants as ring
-use Rattle.queue_steps.specs.declared.steps.unbounded.TheConstants.{WRITE, READ, DESTROY}
-use Rattle.queue_steps.specs.declared.steps.unbounded.UnboundedLocal.{UnboundedLocal}
-use Rattle.queue_steps.specs.declared.steps.unbounded.UnboundedLocal.TheVariants as chain
-use Rattle.queue_steps.specs.Words.{position_of, is_shut, stamp_free, stamp_filled}
-use Rattle.queue_steps.specs.ChainWords.{offset_of, items_before}
-use Rattle.queue_steps.specs.UnboundedNext.{is_last_slot}
+use Rattle.queue_steps.specs.{declared.sizes.TheConstants.LIMIT, declared.sizes.TheConstants.BLOCK_SLOTS, declared.steps.types.Kind.Kind, declared.steps.types.Kind.Kind as kind, declared.steps.types.Answer.Answer, declared.steps.types.Answer.TheVariants.Found, declared.steps.types.Answer.TheVariants.Linked, declared.steps.types.Answer.TheVariants.Granted, declared.steps.types.Answer.TheVariants.Done, declared.steps.types.Local.Local, declared.steps.types.Local.Local as local, declared.steps.bounded.BoundedLocal.BoundedLocal, declared.steps.bounded.BoundedLocal.BoundedLocal as ring, declared.steps.unbounded.TheConstants.WRITE, declared.steps.unbounded.TheConstants.READ, declared.steps.unbounded.TheConstants.DESTROY, declared.steps.unbounded.UnboundedLocal.UnboundedLocal, declared.steps.unbounded.UnboundedLocal.UnboundedLocal as chain, Words.position_of, Words.is_shut, Words.stamp_free, Words.stamp_filled, ChainWords.offset_of, ChainWords.items_before, UnboundedNext.is_last_slot}
 
 -- whether a push that found this tail of a ring goes on to its slot
 abbrev pub is_open_tail : ℕ → Bool

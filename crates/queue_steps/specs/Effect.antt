@@ -1,9 +1,6 @@
 -- What a queue goes through: where each effect may stand, and the state that it leaves.
 use Rattle.std.specs.Prelude.{◌≡◌, ℕ, ◌+◌, true, false, List, [], ◌∷◌, ◌++◌, Option, Some, None}
-use Rattle.queue_steps.specs.declared.sizes.TheConstants.{LIMIT}
-use Rattle.queue_steps.specs.declared.model.Effect.{Effect}
-use Rattle.queue_steps.specs.declared.model.Effect.TheVariants as effect
-use Rattle.queue_steps.specs.State.{State, start, is_full, is_single_cap, IsBelow}
+use Rattle.queue_steps.specs.{declared.sizes.TheConstants.LIMIT, declared.model.Effect.Effect, declared.model.Effect.Effect as effect, State.State, State.start, State.is_full, State.is_single_cap, State.IsBelow}
 
 -- the list without its front
 abbrev pub rest : {T : Type 0} → List T → List T

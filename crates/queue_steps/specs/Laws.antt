@@ -1,8 +1,6 @@
 -- Laws that follow from the effects alone, whoever makes them.
 use Rattle.std.specs.Prelude.{◌≡◌, ℕ, ◌≤◌, true, List, length, Some}
-use Rattle.queue_steps.specs.State.{State}
-use Rattle.queue_steps.specs.declared.model.Effect.{Effect}
-use Rattle.queue_steps.specs.Effect.{Runs, IsHistory, after_from, after}
+use Rattle.queue_steps.specs.{State.State, declared.model.Effect.Effect, Effect.Runs, Effect.IsHistory, Effect.after_from, Effect.after}
 
 -- once closed, always closed
 abbrev pub StaysClosed : Type 0 → Type 0

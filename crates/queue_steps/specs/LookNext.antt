@@ -1,17 +1,6 @@
 -- The steps of the calls that change nothing: they load words and touch no slot.
 use Rattle.std.specs.Prelude.{◌≡◌, true, None}
-use Rattle.queue_steps.specs.declared.steps.types.Local.{Local}
-use Rattle.queue_steps.specs.declared.steps.types.Local.TheVariants as local
-use Rattle.queue_steps.specs.declared.steps.types.Next.{Next}
-use Rattle.queue_steps.specs.declared.steps.types.Next.TheVariants as next
-use Rattle.queue_steps.specs.declared.steps.types.Op.{Op}
-use Rattle.queue_steps.specs.declared.steps.types.Op.TheVariants as op
-use Rattle.queue_steps.specs.declared.steps.types.Touch.TheVariants as touch
-use Rattle.queue_steps.specs.declared.steps.single.SingleLocal.TheVariants as slot
-use Rattle.queue_steps.specs.declared.steps.bounded.BoundedLocal.TheVariants as ring
-use Rattle.queue_steps.specs.declared.steps.types.Word.TheVariants as word
-use Rattle.queue_steps.specs.declared.steps.unbounded.UnboundedLocal.TheVariants as chain
-use Rattle.queue_steps.specs.CallAt.{is_ring_rest, is_chain_rest}
+use Rattle.queue_steps.specs.{declared.steps.types.Local.Local, declared.steps.types.Local.Local as local, declared.steps.types.Next.Next, declared.steps.types.Next.Next as next, declared.steps.types.Op.Op, declared.steps.types.Op.Op as op, declared.steps.types.Touch.Touch as touch, declared.steps.single.SingleLocal.SingleLocal as slot, declared.steps.bounded.BoundedLocal.BoundedLocal as ring, declared.steps.types.Word.Word as word, declared.steps.unbounded.UnboundedLocal.UnboundedLocal as chain, CallAt.is_ring_rest, CallAt.is_chain_rest}
 
 -- a load of a word that is in no block
 abbrev pub IsLoad : {B : Type 0} → Op B → Type 0

@@ -1,19 +1,6 @@
 -- What a call does next, from where it stands and the answer to its last step.
 use Rattle.std.specs.Prelude.{ℕ, Option, Some, None}
-use Rattle.queue_steps.specs.declared.model.Call.{Call}
-use Rattle.queue_steps.specs.declared.model.Reply.TheVariants as reply
-use Rattle.queue_steps.specs.declared.steps.types.Kind.{Kind}
-use Rattle.queue_steps.specs.declared.steps.types.Kind.TheVariants as kind
-use Rattle.queue_steps.specs.declared.steps.types.Answer.{Answer}
-use Rattle.queue_steps.specs.declared.steps.types.Answer.TheVariants as answer
-use Rattle.queue_steps.specs.declared.steps.types.Local.{Local}
-use Rattle.queue_steps.specs.declared.steps.types.Local.TheVariants as local
-use Rattle.queue_steps.specs.declared.steps.types.Next.{Next}
-use Rattle.queue_steps.specs.declared.steps.types.Next.TheVariants as next
-use Rattle.queue_steps.specs.Words.{IsRing}
-use Rattle.queue_steps.specs.SingleNext.{single_begin, single_next}
-use Rattle.queue_steps.specs.BoundedNext.{bounded_begin, bounded_next, FitsRing}
-use Rattle.queue_steps.specs.UnboundedNext.{unbounded_begin, unbounded_next, FitsChain}
+use Rattle.queue_steps.specs.{declared.model.Call.Call, declared.model.Reply.Reply as reply, declared.steps.types.Kind.Kind, declared.steps.types.Kind.Kind as kind, declared.steps.types.Answer.Answer, declared.steps.types.Answer.Answer as answer, declared.steps.types.Local.Local, declared.steps.types.Local.Local as local, declared.steps.types.Next.Next, declared.steps.types.Next.Next as next, Words.IsRing, SingleNext.single_begin, SingleNext.single_next, BoundedNext.bounded_begin, BoundedNext.bounded_next, BoundedNext.FitsRing, UnboundedNext.unbounded_begin, UnboundedNext.unbounded_next, UnboundedNext.FitsChain}
 
 -- the capacity of a queue of this kind
 abbrev pub capacity_of : Kind → Option ℕ

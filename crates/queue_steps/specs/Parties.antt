@@ -4,14 +4,7 @@ use Rattle.std.specs.List.{All, AllPairs, Contains}
 use mathlib.Core.Option.{some}
 use mathlib.Core.List.{IsPrefix}
 use lib.ListN.{get_elem?}
-use Rattle.queue_steps.specs.State.{State}
-use Rattle.queue_steps.specs.declared.model.Call.{Call}
-use Rattle.queue_steps.specs.declared.model.Reply.{Reply}
-use Rattle.queue_steps.specs.declared.model.Effect.{Effect}
-use Rattle.queue_steps.specs.declared.model.Effect.TheVariants as effect
-use Rattle.queue_steps.specs.Effect.{IsHistory, after}
-use Rattle.queue_steps.specs.Replies.{Allows, Tells}
-use Rattle.queue_steps.specs.Shares.{Share, half, plus, IsEntire, IsSome, IsPart}
+use Rattle.queue_steps.specs.{State.State, declared.model.Call.Call, declared.model.Reply.Reply, declared.model.Effect.Effect, declared.model.Effect.Effect as effect, Effect.IsHistory, Effect.after, Replies.Allows, Replies.Tells, Shares.Share, Shares.half, Shares.plus, Shares.IsEntire, Shares.IsSome, Shares.IsPart}
 
 -- a party's view: the beginning of the history that it has seen, its own places in that, and which part it is of all parties
 pub record View (T : Type 0) : Type 0 where

@@ -1,16 +1,6 @@
 -- Where a reply is right, where a push may lack memory, and which effects a reply stands for. A reply of another call is none of these.
 use Rattle.std.specs.Prelude.{◌≡◌, ◌⊎◌, ◌-◌, ◌%◌, Bool, true, false, List, [], ◌∷◌, length, Some, None, Ok, Err}
-use Rattle.queue_steps.specs.declared.sizes.TheConstants.{BLOCK_SLOTS}
-use Rattle.queue_steps.specs.State.{State, is_full, IsBelow}
-use Rattle.queue_steps.specs.declared.model.Call.{Call}
-use Rattle.queue_steps.specs.declared.model.Call.TheVariants as call
-use Rattle.queue_steps.specs.declared.model.Effect.{Effect}
-use Rattle.queue_steps.specs.declared.model.Effect.TheVariants as effect
-use Rattle.queue_steps.specs.declared.model.Reply.{Reply}
-use Rattle.queue_steps.specs.declared.model.Reply.TheVariants as reply
-use Rattle.queue_steps.specs.declared.errors.PopError.TheVariants as pop
-use Rattle.queue_steps.specs.declared.errors.PushError.TheVariants as push
-use Rattle.queue_steps.specs.declared.errors.ForcePushError.TheVariants as force
+use Rattle.queue_steps.specs.{declared.sizes.TheConstants.BLOCK_SLOTS, State.State, State.is_full, State.IsBelow, declared.model.Call.Call, declared.model.Call.Call as call, declared.model.Effect.Effect, declared.model.Effect.Effect as effect, declared.model.Reply.Reply, declared.model.Reply.Reply as reply, declared.errors.PopError.PopError as pop, declared.errors.PushError.PushError as push, declared.errors.ForcePushError.ForcePushError as force}
 
 abbrev pub is_empty : {T : Type 0} → List T → Bool
 is_empty [] = true

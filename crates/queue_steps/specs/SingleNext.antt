@@ -1,27 +1,6 @@
 -- The steps of a queue of one slot.
 use Rattle.std.specs.Prelude.{ℕ, Bool, not, bit_and, bit_or, ◌==◌, Some, None, Ok, Err, if◌then◌else◌}
-use Rattle.queue_steps.specs.declared.model.Call.{Call}
-use Rattle.queue_steps.specs.declared.model.Reply.{Reply}
-use Rattle.queue_steps.specs.declared.model.Reply.TheVariants as reply
-use Rattle.queue_steps.specs.declared.errors.PopError.TheVariants as pop
-use Rattle.queue_steps.specs.declared.errors.PushError.TheVariants as push
-use Rattle.queue_steps.specs.declared.errors.ForcePushError.TheVariants as force
-use Rattle.queue_steps.specs.declared.steps.types.Local.TheVariants as local
-use Rattle.queue_steps.specs.declared.steps.bounded.PushKind.TheVariants as kind
-use Rattle.queue_steps.specs.declared.steps.looks.CallView.{CallView}
-use Rattle.queue_steps.specs.declared.steps.looks.CallView.TheVariants as view
-use Rattle.queue_steps.specs.declared.steps.looks.Look.{Look}
-use Rattle.queue_steps.specs.declared.steps.types.Next.{Next}
-use Rattle.queue_steps.specs.declared.steps.types.Next.TheVariants as next
-use Rattle.queue_steps.specs.declared.steps.types.Op.{Op}
-use Rattle.queue_steps.specs.declared.steps.types.Op.TheVariants as op
-use Rattle.queue_steps.specs.declared.steps.types.Touch.{Touch}
-use Rattle.queue_steps.specs.declared.steps.types.Touch.TheVariants as touch
-use Rattle.queue_steps.specs.declared.steps.types.Word.TheVariants.{Lock}
-use Rattle.queue_steps.specs.Looks.{call_view, reply_of_look}
-use Rattle.queue_steps.specs.declared.steps.single.TheConstants.{LOCKED, PUSHED, CLOSED, UNLOCKED, UNPUSHED}
-use Rattle.queue_steps.specs.declared.steps.single.SingleLocal.{SingleLocal}
-use Rattle.queue_steps.specs.declared.steps.single.SingleLocal.TheVariants.{Pushing, Pushed, Forcing, Forced, Popping, Popped, Closing, Looking}
+use Rattle.queue_steps.specs.{declared.model.Call.Call, declared.model.Reply.Reply, declared.model.Reply.Reply as reply, declared.errors.PopError.PopError as pop, declared.errors.PushError.PushError as push, declared.errors.ForcePushError.ForcePushError as force, declared.steps.types.Local.Local as local, declared.steps.bounded.PushKind.PushKind as kind, declared.steps.looks.CallView.CallView, declared.steps.looks.CallView.CallView as view, declared.steps.looks.Look.Look, declared.steps.types.Next.Next, declared.steps.types.Next.Next as next, declared.steps.types.Op.Op, declared.steps.types.Op.Op as op, declared.steps.types.Touch.Touch, declared.steps.types.Touch.Touch as touch, declared.steps.types.Word.TheVariants.Lock, Looks.call_view, Looks.reply_of_look, declared.steps.single.TheConstants.LOCKED, declared.steps.single.TheConstants.PUSHED, declared.steps.single.TheConstants.CLOSED, declared.steps.single.TheConstants.UNLOCKED, declared.steps.single.TheConstants.UNPUSHED, declared.steps.single.SingleLocal.SingleLocal, declared.steps.single.SingleLocal.TheVariants.Pushing, declared.steps.single.SingleLocal.TheVariants.Pushed, declared.steps.single.SingleLocal.TheVariants.Forcing, declared.steps.single.SingleLocal.TheVariants.Forced, declared.steps.single.SingleLocal.TheVariants.Popping, declared.steps.single.SingleLocal.TheVariants.Popped, declared.steps.single.SingleLocal.TheVariants.Closing, declared.steps.single.SingleLocal.TheVariants.Looking}
 
 -- one step, after which the call waits at l
 abbrev pub at : {B : Type 0} → SingleLocal → Touch → Op B → Next B

@@ -1,38 +1,6 @@
 -- The steps of a chain of blocks.
 use Rattle.std.specs.Prelude.{◌≡◌, ℕ, ◌+◌, ◌-◌, ◌*◌, ◌%◌, ◌<◌, ◌≤◌, Bool, false, not, bit_and, ◌==◌, Option, Some, None, Ok, Err, IsSome, is_some, nat_lt, if◌then◌else◌}
-use Rattle.queue_steps.specs.declared.sizes.TheConstants.{LIMIT, BLOCK_SLOTS}
-use Rattle.queue_steps.specs.declared.model.Call.{Call}
-use Rattle.queue_steps.specs.declared.model.Reply.{Reply}
-use Rattle.queue_steps.specs.declared.model.Reply.TheVariants as reply
-use Rattle.queue_steps.specs.declared.errors.PopError.TheVariants as pop
-use Rattle.queue_steps.specs.declared.errors.PushError.TheVariants as push
-use Rattle.queue_steps.specs.declared.errors.ForcePushError.TheVariants as force
-use Rattle.queue_steps.specs.declared.steps.types.Answer.{Answer}
-use Rattle.queue_steps.specs.declared.steps.types.Answer.TheVariants.{Found, Linked, Granted, Refused, Done}
-use Rattle.queue_steps.specs.declared.steps.types.Link.TheVariants as link
-use Rattle.queue_steps.specs.declared.steps.types.Local.TheVariants as local
-use Rattle.queue_steps.specs.declared.steps.types.Next.{Next}
-use Rattle.queue_steps.specs.declared.steps.types.Next.TheVariants as next
-use Rattle.queue_steps.specs.declared.steps.types.Op.{Op}
-use Rattle.queue_steps.specs.declared.steps.types.Op.TheVariants as op
-use Rattle.queue_steps.specs.declared.steps.types.Touch.{Touch}
-use Rattle.queue_steps.specs.declared.steps.types.Touch.TheVariants as touch
-use Rattle.queue_steps.specs.declared.steps.types.Word.{Word}
-use Rattle.queue_steps.specs.declared.steps.types.Word.TheVariants as word
-use Rattle.queue_steps.specs.declared.steps.bounded.TheConstants.{MARK, TAIL_STEP}
-use Rattle.queue_steps.specs.declared.steps.bounded.PushKind.{PushKind}
-use Rattle.queue_steps.specs.declared.steps.bounded.PushKind.TheVariants as kind
-use Rattle.queue_steps.specs.declared.steps.unbounded.TheConstants.{WRITE, READ, DESTROY}
-use Rattle.queue_steps.specs.declared.steps.unbounded.UnboundedLocal.{UnboundedLocal}
-use Rattle.queue_steps.specs.declared.steps.unbounded.UnboundedLocal.TheVariants as chain
-use Rattle.queue_steps.specs.declared.steps.looks.CallView.{CallView}
-use Rattle.queue_steps.specs.declared.steps.looks.CallView.TheVariants as view
-use Rattle.queue_steps.specs.declared.steps.looks.Look.{Look}
-use Rattle.queue_steps.specs.declared.steps.looks.Look.TheVariants as look
-use Rattle.queue_steps.specs.Looks.{call_view, reply_of_look}
-use Rattle.queue_steps.specs.Words.{IsWord, position_of, is_shut}
-use Rattle.queue_steps.specs.ChainWords.{block_at, offset_of, items_before, over_end}
-use Rattle.queue_steps.specs.BoundedNext.{closed_reply, pushed_reply}
+use Rattle.queue_steps.specs.{declared.sizes.TheConstants.LIMIT, declared.sizes.TheConstants.BLOCK_SLOTS, declared.model.Call.Call, declared.model.Reply.Reply, declared.model.Reply.Reply as reply, declared.errors.PopError.PopError as pop, declared.errors.PushError.PushError as push, declared.errors.ForcePushError.ForcePushError as force, declared.steps.types.Answer.Answer, declared.steps.types.Answer.TheVariants.Found, declared.steps.types.Answer.TheVariants.Linked, declared.steps.types.Answer.TheVariants.Granted, declared.steps.types.Answer.TheVariants.Refused, declared.steps.types.Answer.TheVariants.Done, declared.steps.types.Link.Link as link, declared.steps.types.Local.Local as local, declared.steps.types.Next.Next, declared.steps.types.Next.Next as next, declared.steps.types.Op.Op, declared.steps.types.Op.Op as op, declared.steps.types.Touch.Touch, declared.steps.types.Touch.Touch as touch, declared.steps.types.Word.Word, declared.steps.types.Word.Word as word, declared.steps.bounded.TheConstants.MARK, declared.steps.bounded.TheConstants.TAIL_STEP, declared.steps.bounded.PushKind.PushKind, declared.steps.bounded.PushKind.PushKind as kind, declared.steps.unbounded.TheConstants.WRITE, declared.steps.unbounded.TheConstants.READ, declared.steps.unbounded.TheConstants.DESTROY, declared.steps.unbounded.UnboundedLocal.UnboundedLocal, declared.steps.unbounded.UnboundedLocal.UnboundedLocal as chain, declared.steps.looks.CallView.CallView, declared.steps.looks.CallView.CallView as view, declared.steps.looks.Look.Look, declared.steps.looks.Look.Look as look, Looks.call_view, Looks.reply_of_look, Words.IsWord, Words.position_of, Words.is_shut, ChainWords.block_at, ChainWords.offset_of, ChainWords.items_before, ChainWords.over_end, BoundedNext.closed_reply, BoundedNext.pushed_reply}
 
 -- one step, after which the call waits at l
 abbrev pub at : {B : Type 0} → UnboundedLocal B → Touch → Op B → Next B

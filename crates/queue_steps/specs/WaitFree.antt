@@ -1,13 +1,6 @@
 -- What it is that a call ends by its second step, whatever other parties do in between.
 use Rattle.std.specs.Prelude.{ℕ, zero, suc, ◌+◌}
-use Rattle.queue_steps.specs.declared.sizes.TheConstants.{WAIT_FREE_STEPS}
-use Rattle.queue_steps.specs.declared.model.Call.{Call}
-use Rattle.queue_steps.specs.declared.steps.types.Kind.{Kind}
-use Rattle.queue_steps.specs.declared.steps.types.Answer.{Answer}
-use Rattle.queue_steps.specs.declared.steps.types.Answer.TheVariants as answer
-use Rattle.queue_steps.specs.declared.steps.types.Next.{Next}
-use Rattle.queue_steps.specs.declared.steps.types.Next.TheVariants as next
-use Rattle.queue_steps.specs.Next.{CanNext, next_of, first_local}
+use Rattle.queue_steps.specs.{declared.sizes.TheConstants.WAIT_FREE_STEPS, declared.model.Call.Call, declared.steps.types.Kind.Kind, declared.steps.types.Answer.Answer, declared.steps.types.Answer.Answer as answer, declared.steps.types.Next.Next, declared.steps.types.Next.Next as next, Next.CanNext, Next.next_of, Next.first_local}
 pub use Rattle.queue_steps.specs.Looks.{is_wait_free}
 
 -- the reply comes before n more steps, whatever they answer

@@ -1,44 +1,18 @@
 -- A call that gives up where it stands in the place of waiting: to its party it is as if it had asked for the capacity.
 use Rattle.std.proofs.Common.{◌≡◌, ℕ, true, false, Option, None, Continue, Break, sym, ap, subst, ◌∙◌}
-use Rattle.std.specs.ControlFlow.{MatchControlFlow}
-use Rattle.std.specs.declared.ops.ControlFlow.{ControlFlow}
-use Rattle.atomic_table.specs.Seated.{TableId}
-use Rattle.atomic_table.specs.declared.shared.Seat.{Seat}
-use Rattle.mem_blocks.specs.Seats.{Same}
-use Rattle.mem_blocks.specs.Web.{Sitter}
-use Rattle.mem_blocks.specs.declared.block.BlockPtr.{BlockPtr as Link}
-use Rattle.mem_blocks.specs.declared.web.Seat.{Seat as WebSeat}
-use Rattle.queue_laws.specs.Common.Vocabulary.{Call, Reply, Kind, Answer, Local, Next}
-use Rattle.queue_steps.specs.Kinds.{call_value}
-use Rattle.queue_steps.specs.Next.{CanNext, next_of}
-use Rattle.queue_laws.specs.Chain.ChainEarly.{IsPush, IsBound}
-use Rattle.shared_parties.specs.declared.known.CallState.{CallState}
-use Rattle.shared_parties.specs.declared.known.InCall.{InCall}
-use Rattle.shared_parties.specs.declared.known.Work.TheVariants as work
-use Rattle.shared_parties.specs.Calling.{cap_of}
-use Rattle.shared_parties.specs.CallsAt.{begun_at}
-use Rattle.shared_parties.specs.Known.{view_of}
-use Rattle.shared_parties.specs.Quitting.{its_call}
+use Rattle.std.specs.{ControlFlow.MatchControlFlow, declared.ops.ControlFlow.ControlFlow}
+use Rattle.atomic_table.specs.{Seated.TableId, declared.shared.Seat.Seat}
+use Rattle.mem_blocks.specs.{Seats.Same, Web.Sitter, declared.block.BlockPtr.BlockPtr as Link, declared.web.Seat.Seat as WebSeat}
+use Rattle.queue_laws.specs.{Common.Vocabulary.Call, Common.Vocabulary.Reply, Common.Vocabulary.Kind, Common.Vocabulary.Answer, Common.Vocabulary.Local, Common.Vocabulary.Next, Chain.ChainEarly.IsPush, Chain.ChainEarly.IsBound}
+use Rattle.queue_steps.specs.{Kinds.call_value, Next.CanNext, Next.next_of}
+use Rattle.shared_parties.specs.{declared.known.CallState.CallState, declared.known.InCall.InCall, declared.known.Work.Work as work, Calling.cap_of, CallsAt.begun_at, Known.view_of, Quitting.its_call}
 use Rattle.shared_parties.proofs.Quits.{quit_looks}
-use Rattle.shared_tables.specs.AtTable.{TableSeat, Ended}
-use Rattle.shared_tables.specs.Quitting.{HasQuit}
-use Rattle.shared_tables.specs.Seats.{view_at}
-use Rattle.shared_tables.specs.TableRule.{TableOf}
-use Rattle.shared_tables.specs.TableTurns.{TableStands}
-use Rattle.shared_chain.specs.declared.web.ChainWeb.{ChainWeb}
-use Rattle.shared_chain.specs.ChainCalls.{chain_calls}
-use Rattle.shared_chain.specs.Names.{link_of, local_map, answer_map, next_map}
-use Rattle.shared_chain.specs.Quitting.{HasQuit as HasQuitIn, ShowsPlace}
+use Rattle.shared_tables.specs.{AtTable.TableSeat, AtTable.Ended, Quitting.HasQuit, Seats.view_at, TableRule.TableOf, TableTurns.TableStands}
+use Rattle.shared_chain.specs.{declared.web.ChainWeb.ChainWeb, ChainCalls.chain_calls, Names.link_of, Names.local_map, Names.answer_map, Names.next_map, Quitting.HasQuit as HasQuitIn, Quitting.ShowsPlace, Turning.IsFree, Turning.ChainStands, Turning.ChainEnded}
 use Rattle.shared_chain.specs.Steps as chain
-use Rattle.shared_chain.specs.Turning.{IsFree, ChainStands, ChainEnded}
 use Rattle.shared_chain.proofs.Frames.Renamed.{next_of_map}
-use Rattle.shared_calls.specs.declared.chain.Asking.{Asking}
-use Rattle.shared_calls.specs.declared.left.Left.{Left}
-use Rattle.shared_calls.specs.Halts.{Halts, HaltsIn, next_at, is_early_step}
-use Rattle.shared_calls.specs.Pausing.{IsStep}
-use Rattle.shared_calls.specs.Settling.{MayWait}
-use Rattle.shared_calls.proofs.Quits.{bound_named}
-use Rattle.shared_calls.proofs.Steps.{at_step, at_its, in_step, step_named}
+use Rattle.shared_calls.specs.{declared.chain.Asking.Asking, declared.left.Left.Left, Halts.Halts, Halts.HaltsIn, Halts.next_at, Halts.is_early_step, Pausing.IsStep, Settling.MayWait}
+use Rattle.shared_calls.proofs.{Quits.bound_named, Steps.at_step, Steps.at_its, Steps.in_step, Steps.step_named}
 
 is_step : {B : Type 0} (n : Next B) → is_early_step n ≡ true → IsStep n
 is_step (Next.Step l t o) early = tt

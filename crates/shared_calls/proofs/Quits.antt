@@ -2,27 +2,14 @@
 use Rattle.std.proofs.Common.{◌≡◌, ℕ, true, List, Option, refl, sym, ap, subst, ◌∙◌}
 use Rattle.atomic_table.specs.declared.shared.Seat.{Seat}
 use Rattle.mem_blocks.specs.declared.block.BlockPtr.{BlockPtr as Link}
-use Rattle.queue_laws.specs.Common.Vocabulary.{Kind, Op, Touch, Local, Next, UnboundedLocal}
+use Rattle.queue_laws.specs.{Common.Vocabulary.Kind, Common.Vocabulary.Op, Common.Vocabulary.Touch, Common.Vocabulary.Local, Common.Vocabulary.Next, Common.Vocabulary.UnboundedLocal, Chain.ChainPasses.spare_in, Chain.ChainPasses.spare_of as named_spare}
 use Rattle.queue_steps.specs.Next.{next_of}
 use Rattle.queue_laws.specs.Chain.ChainEarly as chain
-use Rattle.queue_laws.specs.Chain.ChainPasses.{spare_in, spare_of as named_spare}
-use Rattle.shared_parties.specs.declared.known.CallState.{CallState}
-use Rattle.shared_parties.specs.declared.known.InCall.{InCall}
-use Rattle.shared_parties.specs.declared.known.Work.TheVariants as work
-use Rattle.shared_parties.specs.Called.{call_of_work, nothing_called}
-use Rattle.shared_parties.specs.Quitting.{its_call}
-use Rattle.shared_tables.specs.Early.{IsEarly}
-use Rattle.shared_tables.specs.Quitting.{MayQuit}
-use Rattle.shared_tables.specs.TableRule.{TableOf}
-use Rattle.shared_tables.specs.TableTurns.{After}
-use Rattle.shared_chain.specs.Names.{link_of, name_map, chain_map, local_map, op_map, next_map}
-use Rattle.shared_chain.specs.Quitting.{MayQuit as MayQuitIn}
-use Rattle.shared_chain.specs.Steps.{HoldsBy, After as AfterIn}
+use Rattle.shared_parties.specs.{declared.known.CallState.CallState, declared.known.InCall.InCall, declared.known.Work.Work as work, Called.call_of_work, Called.nothing_called, Quitting.its_call}
+use Rattle.shared_tables.specs.{Early.IsEarly, Quitting.MayQuit, TableRule.TableOf, TableTurns.After}
+use Rattle.shared_chain.specs.{Names.link_of, Names.name_map, Names.chain_map, Names.local_map, Names.op_map, Names.next_map, Quitting.MayQuit as MayQuitIn, Steps.HoldsBy, Steps.After as AfterIn}
 use Rattle.shared_chain.proofs.Frames.Renamed.{next_of_map}
-use Rattle.shared_calls.specs.declared.chain.Asking.{Asking}
-use Rattle.shared_calls.specs.declared.left.Left.{Left}
-use Rattle.shared_calls.specs.Early.{is_early, spare_of, spare_at}
-use Rattle.shared_calls.specs.Halts.{Halts, HaltsIn, next_at}
+use Rattle.shared_calls.specs.{declared.chain.Asking.Asking, declared.left.Left.Left, Early.is_early, Early.spare_of, Early.spare_at, Halts.Halts, Halts.HaltsIn, Halts.next_at}
 
 -- what is early on any queue is so on the one that the place is on
 early_at : (l : Local ℕ) → is_early l ≡ true → IsEarly l

@@ -1,18 +1,11 @@
 -- A call that has had an effect comes nearer to its reply by each step, but for a pop on a chain.
 use Rattle.std.proofs.Common.{◌≡◌, ◌≤◌, ℕ, suc, Bool, true, false, if◌then◌else◌, refl, arith}
 use Rattle.queue_laws.specs.Common.Vocabulary.{Kind, Op, Touch, Answer, Local, Next, SingleLocal, BoundedLocal, UnboundedLocal}
-use Rattle.queue_steps.specs.declared.steps.bounded.BoundedLocal.TheVariants as ring
-use Rattle.queue_steps.specs.declared.steps.unbounded.UnboundedLocal.TheVariants as chain
-use Rattle.queue_steps.specs.Next.{CanNext, next_of}
-use Rattle.queue_steps.specs.SingleNext.{single_next}
-use Rattle.queue_steps.specs.BoundedNext.{bounded_next, FitsRing}
-use Rattle.queue_steps.specs.UnboundedNext.{unbounded_next, FitsChain}
+use Rattle.queue_steps.specs.{declared.steps.bounded.BoundedLocal.BoundedLocal as ring, declared.steps.unbounded.UnboundedLocal.UnboundedLocal as chain, Next.CanNext, Next.next_of, SingleNext.single_next, BoundedNext.bounded_next, BoundedNext.FitsRing, UnboundedNext.unbounded_next, UnboundedNext.FitsChain}
 use Rattle.queue_laws.specs.Slot.SlotEarly as slots
 use Rattle.queue_laws.specs.Ring.RingEarly as rings
 use Rattle.queue_laws.specs.Chain.ChainEarly as chains
-use Rattle.shared_calls.specs.Early.{is_early}
-use Rattle.shared_calls.specs.Settling.{ring_left, chain_left, steps_left, left_at, MayWait}
-use Rattle.shared_calls.specs.Halts.{is_early_step}
+use Rattle.shared_calls.specs.{Early.is_early, Settling.ring_left, Settling.chain_left, Settling.steps_left, Settling.left_at, Settling.MayWait, Halts.is_early_step}
 
 module _ {B : Type 0} where
   -- no more than m steps are left, and no more than 4

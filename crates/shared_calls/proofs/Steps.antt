@@ -4,15 +4,8 @@ use Rattle.mem_blocks.specs.Web.{Sitter}
 use Rattle.queue_laws.specs.Common.Vocabulary.{Next}
 use Rattle.shared_chain.specs.Names.{link_of, next_map}
 use Rattle.shared_chain.specs.Steps as chain
-use Rattle.shared_parties.specs.Called.{call_of_work, nothing_called}
-use Rattle.shared_parties.specs.CallsAt.{begun_at}
-use Rattle.shared_parties.specs.Quitting.{its_call}
-use Rattle.shared_parties.specs.declared.known.CallState.{CallState}
-use Rattle.shared_parties.specs.declared.known.InCall.{InCall}
-use Rattle.shared_parties.specs.declared.known.Work.TheVariants as work
-use Rattle.shared_tables.specs.Seats.{Seated}
-use Rattle.shared_tables.specs.TableRule.{TableOf}
-use Rattle.shared_tables.specs.TableTurns.{After}
+use Rattle.shared_parties.specs.{Called.call_of_work, Called.nothing_called, CallsAt.begun_at, Quitting.its_call, declared.known.CallState.CallState, declared.known.InCall.InCall, declared.known.Work.Work as work}
+use Rattle.shared_tables.specs.{Seats.Seated, TableRule.TableOf, TableTurns.After}
 use Rattle.std.proofs.Common.{◌≡◌, ℕ, Option, refl, ap}
 
 -- a step is one whatever the blocks are named by

@@ -1,14 +1,9 @@
 -- A party of a shared chain that wakes for a call, and rests after it.
 use Rattle.std.proofs.Common.{◌≡◌, true, None, Option, refl, sym, ap, subst, ◌∙◌}
-use Rattle.mem_blocks.specs.Laid.{WebId}
-use Rattle.mem_blocks.specs.Web.{Sitter, sitter}
-use Rattle.mem_blocks.specs.declared.web.Rested.{Rested}
+use Rattle.mem_blocks.specs.{Laid.WebId, Web.Sitter, Web.sitter, declared.web.Rested.Rested}
 use Rattle.queue_laws.specs.Common.Vocabulary.{Call, Reply}
-use Rattle.queue_steps.specs.Effect.{IsHistory}
-use Rattle.queue_steps.specs.Parties.{SharedCall}
-use Rattle.shared_parties.specs.declared.known.CallState.{CallState}
-use Rattle.shared_parties.specs.Known.{view_of}
-use Rattle.shared_parties.specs.CallStates.{IsResting, HasAll}
+use Rattle.queue_steps.specs.{Effect.IsHistory, Parties.SharedCall}
+use Rattle.shared_parties.specs.{declared.known.CallState.CallState, Known.view_of, CallStates.IsResting, CallStates.HasAll}
 use Rattle.shared_chain.specs.Turning.{IsFree}
 use Rattle.shared_calls.specs.InWeb.{RestsAt, EndedAt}
 

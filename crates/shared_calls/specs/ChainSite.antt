@@ -1,11 +1,9 @@
 -- A shared chain as a site: the block that a reply hands out, and where a call stands.
 use Rattle.std.specs.Prelude.{ℕ, Option, Some}
 use Rattle.queue_laws.specs.Common.Vocabulary.{Call, Answer, Local}
-use Rattle.mem_blocks.specs.declared.block.BlockPtr.{BlockPtr as Place}
-use Rattle.mem_blocks.specs.declared.web.Seat.{Seat}
+use Rattle.mem_blocks.specs.declared.{block.BlockPtr.BlockPtr as Place, web.Seat.Seat}
 use Rattle.shared_parties.specs.declared.known.CallState.{CallState}
-use Rattle.shared_chain.specs.declared.web.ChainWeb.{ChainWeb}
-use Rattle.shared_chain.specs.Turning.{Carries, SitsAt, ChainStands, GaveUp}
+use Rattle.shared_chain.specs.{declared.web.ChainWeb.ChainWeb, Turning.Carries, Turning.SitsAt, Turning.ChainStands, Turning.GaveUp}
 
 module _ {T A : Type 0} where
   -- the seat carries the block that a reply hands out

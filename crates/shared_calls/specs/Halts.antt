@@ -4,15 +4,11 @@ use Rattle.atomic_table.specs.declared.shared.Seat.{Seat}
 use Rattle.mem_blocks.specs.declared.block.BlockPtr.{BlockPtr as Link}
 use Rattle.queue_laws.specs.Common.Vocabulary.{Kind, Answer, Local, Next}
 use Rattle.queue_steps.specs.Next.{CanNext, next_of}
-use Rattle.shared_parties.specs.declared.known.CallState.{CallState}
-use Rattle.shared_parties.specs.declared.known.InCall.{InCall}
-use Rattle.shared_tables.specs.TableRule.{TableOf}
-use Rattle.shared_tables.specs.TableTurns.{After}
+use Rattle.shared_parties.specs.declared.known.{CallState.CallState, InCall.InCall}
+use Rattle.shared_tables.specs.{TableRule.TableOf, TableTurns.After}
 use Rattle.shared_chain.specs.Names.{link_of, local_map, answer_map}
 use Rattle.shared_chain.specs.Steps as chain
-use Rattle.shared_calls.specs.declared.chain.Asking.{Asking}
-use Rattle.shared_calls.specs.declared.left.Left.{Left}
-use Rattle.shared_calls.specs.Early.{is_early}
+use Rattle.shared_calls.specs.{declared.chain.Asking.Asking, declared.left.Left.Left, Early.is_early}
 
 -- what a call is to do next
 abbrev pub next_at : {T B : Type 0} → Left T B → Next B

@@ -1,13 +1,9 @@
 -- A party of a shared chain between its calls, and when a call of it ended.
 use Rattle.std.specs.Prelude.{◌≡◌, true, None}
-use Rattle.mem_blocks.specs.Laid.{WebId}
-use Rattle.mem_blocks.specs.declared.web.Rested.{Rested}
+use Rattle.mem_blocks.specs.{Laid.WebId, declared.web.Rested.Rested}
 use Rattle.queue_laws.specs.Common.Vocabulary.{Call, Reply}
 use Rattle.queue_steps.specs.Parties.{SharedCall}
-use Rattle.shared_parties.specs.declared.known.CallState.{CallState}
-use Rattle.shared_parties.specs.Known.{view_of}
-use Rattle.shared_parties.specs.CallStates.{IsResting, HasAll}
-use Rattle.shared_parties.specs.Parting.{IsParty}
+use Rattle.shared_parties.specs.{declared.known.CallState.CallState, Known.view_of, CallStates.IsResting, CallStates.HasAll, Parting.IsParty}
 
 -- the party rests in this web
 abbrev pub RestsAt : {T : Type 0} → WebId → Rested (CallState T) → Type 0

@@ -1,8 +1,7 @@
 -- A call that has left its fast steps.
 use Rattle.std.specs.Prelude.{◌-◌}
 use Rattle.queue_laws.specs.Common.Vocabulary.{Call, SOLO_STEPS}
-use Rattle.call_driver.specs.OnWay.{OnWay}
-use Rattle.call_driver.specs.declared.site.Site.{Ghosts}
+use Rattle.call_driver.specs.{OnWay.OnWay, declared.site.Site.Ghosts}
 use Rattle.shared_calls.specs.declared.left.Left.{Left}
 
 -- the call c, begun by the seat `first`, stands there, and ends within the steps that a call takes at most which runs alone

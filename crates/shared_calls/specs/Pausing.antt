@@ -2,8 +2,7 @@
 use Rattle.std.specs.Prelude.{◌-◌}
 use Rattle.queue_laws.specs.Common.Vocabulary.{Call, Next, SOLO_STEPS}
 use Rattle.queue_steps.specs.Next.{next_of}
-use Rattle.call_driver.specs.OnWay.{Stood}
-use Rattle.call_driver.specs.declared.site.Site.{Ghosts}
+use Rattle.call_driver.specs.{OnWay.Stood, declared.site.Site.Ghosts}
 use Rattle.shared_calls.specs.declared.left.Left.{Left}
 
 -- a step is to be done, and no reply is due

@@ -1,9 +1,7 @@
 -- A call that goes on until it has had no effect yet where it stands, or ends: how far it is from that.
 use Rattle.std.specs.Prelude.{ℕ, suc, if◌then◌else◌}
-use Rattle.queue_laws.specs.Common.Vocabulary.{Kind, Local, Next, BoundedLocal, UnboundedLocal}
-use Rattle.queue_steps.specs.declared.steps.bounded.BoundedLocal.TheVariants as ring
-use Rattle.queue_steps.specs.declared.steps.unbounded.UnboundedLocal.TheVariants as chain
-use Rattle.queue_laws.specs.Chain.ChainEarly.{IsBound}
+use Rattle.queue_laws.specs.{Common.Vocabulary.Kind, Common.Vocabulary.Local, Common.Vocabulary.Next, Common.Vocabulary.BoundedLocal, Common.Vocabulary.UnboundedLocal, Chain.ChainEarly.IsBound}
+use Rattle.queue_steps.specs.declared.steps.{bounded.BoundedLocal.BoundedLocal as ring, unbounded.UnboundedLocal.UnboundedLocal as chain}
 use Rattle.shared_calls.specs.Early.{is_early}
 
 -- of a call on a ring that has had its effect: how many steps it takes at most until it replies

@@ -1,12 +1,10 @@
 -- A call that has left its fast steps and is not to wait: it ends, or it is given up.
 use Rattle.std.specs.Prelude.{◌≡◌, ℕ, Option}
-use Rattle.std.specs.ControlFlow.{MatchControlFlow}
-use Rattle.std.specs.declared.ops.ControlFlow.{ControlFlow}
+use Rattle.std.specs.{ControlFlow.MatchControlFlow, declared.ops.ControlFlow.ControlFlow}
 use Rattle.queue_laws.specs.Common.Vocabulary.{Call, Reply}
 use Rattle.queue_steps.specs.Kinds.{call_value}
 use Rattle.call_driver.specs.declared.site.Site.{Ghosts}
-use Rattle.shared_calls.specs.Leaving.{IsLeft}
-use Rattle.shared_calls.specs.declared.left.Left.{Left}
+use Rattle.shared_calls.specs.{Leaving.IsLeft, declared.left.Left.Left}
 
 module _ {O M T B S K : Type 0} (m : Ghosts O M T B S K) where
   -- some call that is one of these stands there

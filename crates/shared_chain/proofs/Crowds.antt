@@ -5,16 +5,9 @@ use lib.ListN.{get_elem?}
 use denote.RawPtr.{Ptr}
 use Rattle.mem_blocks.specs.Web.{Block, State, Sitter, block, word_of, with_word, Allows, CanFork, CanMerge}
 use Rattle.mem_blocks.specs.declared.hub.TheConstants.{TAIL, PARTIES, HEAD}
-use Rattle.shared_parties.specs.declared.count.Change.{Change}
-use Rattle.shared_parties.specs.declared.known.CallState.{CallState}
-use Rattle.shared_parties.specs.CallStates.{Sharing}
-use Rattle.shared_parties.specs.Parting.{Regroups}
-use Rattle.shared_parties.specs.PartyCount.{changed, MayAct}
-use Rattle.shared_parties.specs.CallsAt.{CallsAt}
+use Rattle.shared_parties.specs.{declared.count.Change.Change, declared.known.CallState.CallState, CallStates.Sharing, Parting.Regroups, PartyCount.changed, PartyCount.MayAct, CallsAt.CallsAt}
 use Rattle.shared_parties.proofs.Sharings.{sharing, regrouped}
-use Rattle.shared_chain.specs.ChainCalls.{OutChain, chain_calls}
-use Rattle.shared_chain.specs.Rule.{IsThere, Codes, Rule}
-use Rattle.shared_chain.specs.Parties.{OfView}
+use Rattle.shared_chain.specs.{ChainCalls.OutChain, ChainCalls.chain_calls, Rule.IsThere, Rule.Codes, Rule.Rule, Parties.OfView}
 use Rattle.shared_chain.proofs.Frames.Blocks.{word_here, word_else, word_same}
 
 module _ {T : Type 0} (te he : Ptr) where

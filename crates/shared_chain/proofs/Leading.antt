@@ -1,36 +1,15 @@
 -- The laws of a party's driver on a shared chain: what a step told leads on, and so does what a call does first.
 use Rattle.std.proofs.Common.{ℕ, ◌≡◌, ◌∙◌, Option, Some, None, List, [], refl, sym, ap, subst, inl, inr}
 use Rattle.queue_laws.specs.Common.Vocabulary.{Call, Reply, Kind, Op, Touch, Word, Answer, Local, Next}
-use Rattle.queue_steps.specs.Effect.{after}
-use Rattle.queue_steps.specs.Kinds.{call_kind, call_value, filled}
-use Rattle.queue_steps.specs.Next.{CanNext, next_of, first_local}
-use Rattle.queue_steps.specs.Parties.{View, SharedCall}
-use Rattle.queue_steps.specs.UnboundedNext.{unbounded_begin}
-use Rattle.queue_steps.specs.Replies.{Tells, IsRightAt}
-use Rattle.queue_steps.specs.State.{State}
-use Rattle.queue_laws.proofs.Common.Runs.{cap_after}
+use Rattle.queue_steps.specs.{Effect.after, Kinds.call_kind, Kinds.call_value, Kinds.filled, Next.CanNext, Next.next_of, Next.first_local, Parties.View, Parties.SharedCall, UnboundedNext.unbounded_begin, Replies.Tells, Replies.IsRightAt, State.State}
+use Rattle.queue_laws.proofs.{Common.Runs.cap_after, Chain.ChainStart.Begins, Chain.ChainStart.OnPosition, Chain.ChainStart.at_begun}
 use Rattle.queue_laws.specs.Chain.ChainPasses.{spare_in}
-use Rattle.queue_laws.proofs.Chain.ChainStart.{Begins, OnPosition, at_begun}
-use Rattle.mem_blocks.specs.Web.{Sitter, sitter}
-use Rattle.mem_blocks.specs.Seats.{Sits}
-use Rattle.mem_blocks.specs.declared.block.BlockPtr.{BlockPtr as Place}
-use Rattle.mem_blocks.specs.declared.web.Seat.{Seat}
-use Rattle.shared_parties.specs.declared.known.CallState.{CallState}
-use Rattle.shared_parties.specs.declared.known.InCall.{InCall}
-use Rattle.shared_parties.specs.Known.{party, view_of}
-use Rattle.shared_parties.specs.CallStates.{idle}
-use Rattle.shared_parties.specs.Calling.{handed_by, first_of}
-use Rattle.shared_parties.specs.CallsAt.{begun_at}
-use Rattle.shared_parties.proofs.Called.{whole}
-use Rattle.shared_parties.specs.Called.{call_of_work, begun_by}
-use Rattle.shared_parties.proofs.Histories.{prefix_self}
-use Rattle.shared_parties.proofs.SharedCalls.{quiet}
-use Rattle.shared_chain.specs.declared.web.ChainWeb.{ChainWeb}
-use Rattle.shared_chain.specs.Names.{link_of, name_map, local_map, op_map, next_map}
-use Rattle.shared_chain.specs.Steps.{HoldsBy, HoldsFor, MayDo, MayStep, After, carried_by}
+use Rattle.mem_blocks.specs.{Web.Sitter, Web.sitter, Seats.Sits, declared.block.BlockPtr.BlockPtr as Place, declared.web.Seat.Seat}
+use Rattle.shared_parties.specs.{declared.known.CallState.CallState, declared.known.InCall.InCall, Known.party, Known.view_of, CallStates.idle, Calling.handed_by, Calling.first_of, CallsAt.begun_at, Called.call_of_work, Called.begun_by}
+use Rattle.shared_parties.proofs.{Called.whole, Histories.prefix_self, SharedCalls.quiet}
+use Rattle.shared_chain.specs.{declared.web.ChainWeb.ChainWeb, Names.link_of, Names.name_map, Names.local_map, Names.op_map, Names.next_map, Steps.HoldsBy, Steps.HoldsFor, Steps.MayDo, Steps.MayStep, Steps.After, Steps.carried_by}
 use Rattle.shared_chain.specs.Turning.{unnamed, call_at, CanDo, Operated, Carries, IsFree, ChainStands, ChainRests, ChainEnded, GaveUp, ChainLeads}
-use Rattle.shared_chain.proofs.Steps.Turns.{sits_still}
-use Rattle.shared_chain.proofs.Frames.Renamed.{can_next_map, next_of_map, unbounded_begin_map}
+use Rattle.shared_chain.proofs.{Steps.Turns.sits_still, Frames.Renamed.can_next_map, Frames.Renamed.next_of_map, Frames.Renamed.unbounded_begin_map}
 
 module _ {T A : Type 0} (w : ChainWeb T A) where
   -- a block that a reply gives up is carried by its place too

@@ -1,15 +1,11 @@
 -- The rule holds at the beginning: two ends, no block, and one party.
 use Rattle.std.proofs.Common.{◌≡◌, ◌∙◌, false, None, List, [], ◌∷◌, ◌++◌, replicate, refl, sym, ap, subst, arith}
 use denote.RawPtr.{Ptr, null_ptr}
-use Rattle.mem_blocks.specs.Web.{Block, alive_at, with_word}
-use Rattle.mem_blocks.specs.declared.sizes.TheConstants.{SLOTS}
-use Rattle.mem_blocks.specs.declared.hub.TheConstants.{PARTIES}
+use Rattle.mem_blocks.specs.{Web.Block, Web.alive_at, Web.with_word, declared.sizes.TheConstants.SLOTS, declared.hub.TheConstants.PARTIES}
 use Rattle.queue_laws.proofs.Chain.ChainFirst.{first, first_ok, first_idle, first_spares}
-use Rattle.shared_parties.specs.CallStates.{is_busy}
-use Rattle.shared_parties.specs.CallsAt.{CallsAt}
+use Rattle.shared_parties.specs.{CallStates.is_busy, CallsAt.CallsAt}
 use Rattle.shared_parties.proofs.FirstParty.{first_rests, first_kept}
-use Rattle.shared_chain.specs.ChainCalls.{OutChain, chain_calls}
-use Rattle.shared_chain.specs.Rule.{Codes, Rule, first_seat}
+use Rattle.shared_chain.specs.{ChainCalls.OutChain, ChainCalls.chain_calls, Rule.Codes, Rule.Rule, Rule.first_seat}
 
 -- an end whose link is unset and whose words are 0
 abbrev end_at : {T : Type 0} → Ptr → Block T

@@ -1,10 +1,7 @@
 -- The wait-free calls on a chain end by their second step.
 use Rattle.std.proofs.Common.{ℕ, ◌≡◌, true}
 use Rattle.queue_laws.specs.Common.Vocabulary.{Call, Kind, Answer, Local}
-use Rattle.queue_steps.specs.declared.steps.unbounded.UnboundedLocal.TheVariants as chain
-use Rattle.queue_steps.specs.Kinds.{call_kind}
-use Rattle.queue_steps.specs.Next.{CanNext, next_of}
-use Rattle.queue_steps.specs.WaitFree.{is_wait_free, EndsBefore, EndsWaitFree}
+use Rattle.queue_steps.specs.{declared.steps.unbounded.UnboundedLocal.UnboundedLocal as chain, Kinds.call_kind, Next.CanNext, Next.next_of, WaitFree.is_wait_free, WaitFree.EndsBefore, WaitFree.EndsWaitFree}
 
 module _ (B : Type 0) where
   closing_ends : (a : Answer B) → CanNext Kind.Unbounded (Local.Unbounded chain.Closing) a → EndsBefore 2 Kind.Unbounded (next_of Kind.Unbounded (Local.Unbounded chain.Closing) a)

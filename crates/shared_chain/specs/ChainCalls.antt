@@ -1,12 +1,7 @@
 -- A chain that parties share, as a kind of queue.
 use Rattle.std.specs.Prelude.{◌≡◌, ◌≢◌, ◌⊎◌, ℕ, ◌%◌, Bool, true, false, List, [], ◌∷◌, Option, Some, None}
-use Rattle.queue_laws.specs.Common.Vocabulary.{Kind, Local, BLOCK_SLOTS}
-use Rattle.queue_steps.specs.declared.steps.unbounded.UnboundedLocal.TheVariants as chain
-use Rattle.queue_steps.specs.State.{State}
-use Rattle.queue_laws.specs.Common.Stand.{Stand}
-use Rattle.queue_laws.specs.Chain.ChainCells.{Wrote, Reading, Chain, queue_of, ChainOk, HoldsOnly, Nothing, writer_of}
-use Rattle.queue_laws.specs.Chain.ChainPasses.{Passes, Spares, spare_in}
-use Rattle.queue_laws.specs.Chain.ChainAt.{At}
+use Rattle.queue_laws.specs.{Common.Vocabulary.Kind, Common.Vocabulary.Local, Common.Vocabulary.BLOCK_SLOTS, Common.Stand.Stand, Chain.ChainCells.Wrote, Chain.ChainCells.Reading, Chain.ChainCells.Chain, Chain.ChainCells.queue_of, Chain.ChainCells.ChainOk, Chain.ChainCells.HoldsOnly, Chain.ChainCells.Nothing, Chain.ChainCells.writer_of, Chain.ChainPasses.Passes, Chain.ChainPasses.Spares, Chain.ChainPasses.spare_in, Chain.ChainAt.At}
+use Rattle.queue_steps.specs.{declared.steps.unbounded.UnboundedLocal.UnboundedLocal as chain, State.State}
 use Rattle.shared_parties.specs.Calling.{CallsOf}
 
 -- a chain, and of which items the reader has the slot

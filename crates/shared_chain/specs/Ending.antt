@@ -1,8 +1,7 @@
 -- What is left of a shared chain when it ends.
 use Rattle.std.specs.Prelude.{◌≡◌, ℕ, ◌+◌, List, [], ◌∷◌, Option, Some, None, if◌then◌else◌}
 use denote.RawPtr.{Ptr, null_ptr, InBlock}
-use Rattle.mem_blocks.specs.Web.{Block}
-use Rattle.mem_blocks.specs.declared.block.BlockPtr.{BlockPtr}
+use Rattle.mem_blocks.specs.{Web.Block, declared.block.BlockPtr.BlockPtr}
 
 -- the link leads to this place, or there is none and the place is null
 abbrev pub LeadsTo : {T : Type 0} → Option (BlockPtr T) → Ptr → Type 0

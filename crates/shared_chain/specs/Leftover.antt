@@ -4,9 +4,7 @@ use mathlib.Core.Option.{some}
 use lib.ListN.{get_elem?}
 use denote.RawPtr.{null_ptr, InBlock, Testable}
 use Rattle.queue_laws.specs.Common.Vocabulary.{LIMIT, BLOCK_SLOTS, WRITE, READ}
-use Rattle.mem_blocks.specs.Web.{Block, block, Lives, vacant, full}
-use Rattle.mem_blocks.specs.declared.block.BlockPtr.{BlockPtr}
-use Rattle.mem_blocks.specs.declared.sizes.TheConstants.{SLOTS}
+use Rattle.mem_blocks.specs.{Web.Block, Web.block, Web.Lives, Web.vacant, Web.full, declared.block.BlockPtr.BlockPtr, declared.sizes.TheConstants.SLOTS}
 
 -- The slot i of a block, for the item n, where so many items were taken and accepted: one that was taken is out of its slot once it is read, one that was not lies in
 -- its slot once it is written, and nothing lies where none was accepted

@@ -1,7 +1,7 @@
 -- At run time a name is the place of its block. What the steps of calls say is the same with other names.
 use Rattle.std.specs.Prelude.{ℕ, ◌==◌, ◌||◌, Bool, false, Option, Some, None}
 use Rattle.queue_laws.specs.Common.Vocabulary.{Word, Link, Op, Answer, Local, Next, UnboundedLocal, WRITE, READ}
-use Rattle.queue_steps.specs.declared.steps.unbounded.UnboundedLocal.TheVariants as chain
+use Rattle.queue_steps.specs.declared.steps.unbounded.UnboundedLocal.{UnboundedLocal as chain}
 use Rattle.mem_blocks.specs.declared.block.BlockPtr.{BlockPtr as Place}
 use Rattle.shared_chain.specs.Spots.{spot}
 

@@ -3,11 +3,8 @@ use Rattle.std.specs.Prelude.{◌≡◌, None}
 use Rattle.queue_steps.specs.Kinds.{call_value}
 use Rattle.queue_laws.specs.Chain.ChainEarly.{IsEarly, IsBound, IsPush}
 use Rattle.mem_blocks.specs.Web.{Sitter}
-use Rattle.shared_parties.specs.declared.known.CallState.{CallState}
-use Rattle.shared_parties.specs.declared.known.Work.TheVariants as work
-use Rattle.shared_parties.specs.Quitting.{its_call, Quit}
-use Rattle.shared_chain.specs.ChainCalls.{chain_calls}
-use Rattle.shared_chain.specs.Steps.{HoldsBy}
+use Rattle.shared_parties.specs.{declared.known.CallState.CallState, declared.known.Work.Work as work, Quitting.its_call, Quitting.Quit}
+use Rattle.shared_chain.specs.{ChainCalls.chain_calls, Steps.HoldsBy}
 
 module _ {T : Type 0} where
   -- the seat is at a call that has had no effect

@@ -3,19 +3,13 @@ use Rattle.std.specs.Prelude.{◌≡◌, ◌≢◌, ◌⊎◌, ℕ, ◌+◌, ◌
 use mathlib.Core.Option.{some}
 use lib.ListN.{get_elem?}
 use denote.RawPtr.{Ptr, null_ptr, Testable}
-use Rattle.queue_laws.specs.Common.Vocabulary.{Effect, BLOCK_SLOTS, WRITE, READ}
+use Rattle.queue_laws.specs.{Common.Vocabulary.Effect, Common.Vocabulary.BLOCK_SLOTS, Common.Vocabulary.WRITE, Common.Vocabulary.READ, Chain.ChainAnswers.tail_word, Chain.ChainAnswers.head_word, Chain.ChainAnswers.last_of, Chain.ChainAnswers.shown_of, Chain.ChainAnswers.linked_of, Chain.ChainAnswers.IsState}
 use Rattle.queue_steps.specs.Shares.{entire}
 use Rattle.queue_laws.specs.Chain.ChainCells.{Writer, Free, Writing, Wrote, Reader, Unread, Reading, Done, Before, GivenUp, Use, Unused, Spare, Chained, item_at, LAST}
-use Rattle.queue_laws.specs.Chain.ChainAnswers.{tail_word, head_word, last_of, shown_of, linked_of, IsState}
 use Rattle.mem_blocks.specs.Web.{Block, State, Home, block, Lives, word_of, away, vacant, full}
 use Rattle.mem_blocks.specs.declared.hub.TheConstants.{TAIL, PARTIES, HEAD}
-use Rattle.shared_parties.specs.declared.known.CallState.{CallState}
-use Rattle.shared_parties.specs.Known.{party}
-use Rattle.shared_parties.specs.CallStates.{idle}
-use Rattle.shared_parties.specs.CallsAt.{CallsAt}
-use Rattle.shared_chain.specs.declared.ends.ChainEnds.{ChainEnds}
-use Rattle.shared_chain.specs.Spots.{spot}
-use Rattle.shared_chain.specs.ChainCalls.{OutChain, chain_calls}
+use Rattle.shared_parties.specs.{declared.known.CallState.CallState, Known.party, CallStates.idle, CallsAt.CallsAt}
+use Rattle.shared_chain.specs.{declared.ends.ChainEnds.ChainEnds, Spots.spot, ChainCalls.OutChain, ChainCalls.chain_calls}
 
 -- the slot of an item: with its writer, with its reader once that has it, or at home
 abbrev pub home_of : {T : Type 0} → Writer T → Reader → Bool → Home T

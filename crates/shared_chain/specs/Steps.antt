@@ -2,26 +2,11 @@
 use Rattle.std.specs.Prelude.{◌≡◌, ◌≢◌, ℕ, ◌+◌, ◌-◌, ◌<◌, Bool, true, false, List, [], ◌∷◌, replicate, length, Option, Some, None}
 use denote.RawPtr.{Ptr, null_ptr}
 use Rattle.queue_laws.specs.Common.Vocabulary.{Kind, Word, Link, Op, Touch, Answer, Local, Next, BLOCK_SLOTS}
-use Rattle.queue_steps.specs.declared.steps.unbounded.UnboundedLocal.TheVariants as chain
-use Rattle.queue_steps.specs.Next.{CanNext, next_of}
-use Rattle.queue_steps.specs.State.{State}
-use Rattle.queue_steps.specs.UnboundedNext.{unbounded_next}
-use Rattle.queue_laws.specs.Common.Stand.{Stand}
-use Rattle.queue_laws.specs.Chain.ChainCells.{Reading, Chain}
-use Rattle.queue_laws.specs.Chain.ChainAt.{At}
-use Rattle.queue_laws.specs.Chain.ChainAnswers.{Answers, last_of, shown_of, linked_of}
-use Rattle.queue_laws.specs.Chain.ChainPasses.{spare_in}
-use Rattle.queue_laws.specs.Chain.ChainAfter.{left_by, chain_of, after_of}
+use Rattle.queue_steps.specs.{declared.steps.unbounded.UnboundedLocal.UnboundedLocal as chain, Next.CanNext, Next.next_of, State.State, UnboundedNext.unbounded_next}
+use Rattle.queue_laws.specs.{Common.Stand.Stand, Chain.ChainCells.Reading, Chain.ChainCells.Chain, Chain.ChainAt.At, Chain.ChainAnswers.Answers, Chain.ChainAnswers.last_of, Chain.ChainAnswers.shown_of, Chain.ChainAnswers.linked_of, Chain.ChainPasses.spare_in, Chain.ChainAfter.left_by, Chain.ChainAfter.chain_of, Chain.ChainAfter.after_of, Common.Operations.op_word, Common.Operations.op_makes, Common.Operations.answer_for}
 use Rattle.mem_blocks.specs.Web.{Block, Hand, Sitter, Act, block, Lives, word_of, with_word, with_next, if_unset, alive_at, vacant, AllVacant, Mays, blocks_after, sitter_after}
-use Rattle.shared_parties.specs.declared.known.CallState.{CallState}
-use Rattle.shared_parties.specs.declared.known.InCall.{InCall}
-use Rattle.shared_parties.specs.Calling.{handed_by}
-use Rattle.shared_parties.specs.CallsAt.{Told}
-use Rattle.queue_laws.specs.Common.Operations.{op_word, op_makes, answer_for}
-use Rattle.shared_chain.specs.Spots.{spot}
-use Rattle.shared_chain.specs.Names.{state_block}
-use Rattle.shared_chain.specs.ChainCalls.{OutChain, SlotsAs, ChainLent, chain_calls}
-use Rattle.shared_chain.specs.Rule.{lead_of, Codes}
+use Rattle.shared_parties.specs.{declared.known.CallState.CallState, declared.known.InCall.InCall, Calling.handed_by, CallsAt.Told}
+use Rattle.shared_chain.specs.{Spots.spot, Names.state_block, ChainCalls.OutChain, ChainCalls.SlotsAs, ChainCalls.ChainLent, ChainCalls.chain_calls, Rule.lead_of, Rule.Codes}
 
 -- what a block is that was granted
 abbrev pub fresh_at : {T : Type 0} → Ptr → Block T

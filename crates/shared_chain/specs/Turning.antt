@@ -2,26 +2,10 @@
 use Rattle.std.specs.Prelude.{◌≡◌, ℕ, length, Option, Some, None, true}
 use denote.RawPtr.{Ptr, InBlock, null_ptr}
 use Rattle.queue_laws.specs.Common.Vocabulary.{Call, Reply, Kind, Op, Touch, Answer, Local, Next, BLOCK_SLOTS}
-use Rattle.queue_steps.specs.Effect.{IsHistory}
-use Rattle.queue_steps.specs.Kinds.{call_kind, filled}
-use Rattle.queue_steps.specs.Next.{CanNext, next_of}
-use Rattle.queue_steps.specs.Parties.{SharedCall}
-use Rattle.mem_blocks.specs.Web.{Block, Sitter, sitter, AllVacant}
-use Rattle.mem_blocks.specs.Laid.{WebId}
-use Rattle.mem_blocks.specs.Seats.{Sits, Same}
-use Rattle.mem_blocks.specs.declared.block.BlockPtr.{BlockPtr as Place}
-use Rattle.mem_blocks.specs.declared.web.Seat.{Seat}
-use Rattle.shared_parties.specs.declared.known.CallState.{CallState}
-use Rattle.shared_parties.specs.declared.known.InCall.{InCall}
-use Rattle.shared_parties.specs.Known.{view_of}
-use Rattle.shared_parties.specs.CallStates.{IsResting, HasAll}
-use Rattle.shared_parties.specs.Calling.{touched_list, handed_by}
-use Rattle.shared_parties.specs.CallsAt.{Ready, begun_at}
-use Rattle.shared_parties.specs.Called.{called_at}
-use Rattle.shared_chain.specs.declared.web.ChainWeb.{ChainWeb}
-use Rattle.shared_chain.specs.ChainCalls.{chain_calls}
-use Rattle.shared_chain.specs.Names.{link_of, local_map, op_map, answer_map, state_block}
-use Rattle.shared_chain.specs.Steps.{HoldsBy, MayStep, After, Follows}
+use Rattle.queue_steps.specs.{Effect.IsHistory, Kinds.call_kind, Kinds.filled, Next.CanNext, Next.next_of, Parties.SharedCall}
+use Rattle.mem_blocks.specs.{Web.Block, Web.Sitter, Web.sitter, Web.AllVacant, Laid.WebId, Seats.Sits, Seats.Same, declared.block.BlockPtr.BlockPtr as Place, declared.web.Seat.Seat}
+use Rattle.shared_parties.specs.{declared.known.CallState.CallState, declared.known.InCall.InCall, Known.view_of, CallStates.IsResting, CallStates.HasAll, Calling.touched_list, Calling.handed_by, CallsAt.Ready, CallsAt.begun_at, Called.called_at}
+use Rattle.shared_chain.specs.{declared.web.ChainWeb.ChainWeb, ChainCalls.chain_calls, Names.link_of, Names.local_map, Names.op_map, Names.answer_map, Names.state_block, Steps.HoldsBy, Steps.MayStep, Steps.After, Steps.Follows}
 
 -- the place of the block that a seat carries
 abbrev place_in : {T : Type 0} → Option (Block T) → Ptr

@@ -3,13 +3,9 @@ use Rattle.std.proofs.Common.{◌≡◌, ◌≢◌, ℕ, List, [], length, Optio
 use mathlib.Core.Option.{some}
 use lib.ListN.{get_elem?}
 use Rattle.queue_laws.specs.Common.Vocabulary.{Effect}
-use Rattle.queue_steps.specs.Shares.{Share, IsEntire}
-use Rattle.queue_steps.specs.Parties.{IsWhole}
-use Rattle.shared_parties.specs.Counting.{times, once_below}
-use Rattle.shared_parties.proofs.Counting.{all_places}
-use Rattle.shared_parties.specs.declared.known.Known.{Known}
-use Rattle.shared_parties.specs.Known.{party, view_of, Kept}
-use Rattle.shared_parties.proofs.Keeping.{is_whole}
+use Rattle.queue_steps.specs.{Shares.Share, Shares.IsEntire, Parties.IsWhole}
+use Rattle.shared_parties.specs.{Counting.times, Counting.once_below, declared.known.Known.Known, Known.party, Known.view_of, Known.Kept}
+use Rattle.shared_parties.proofs.{Counting.all_places, Keeping.is_whole}
 
 pub record Alone {T : Type 0} (h : List (Effect T)) (views : List (Known T)) (id : ℕ) (v : Known T) : Type 0 where
   pub whole : IsWhole (view_of v)

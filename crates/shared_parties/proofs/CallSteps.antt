@@ -8,28 +8,11 @@ use lib.Seq.{map-set}
 use mathlib.Core.Logic.{dite}
 use native.Mathlib.Decide.{ℕ_discrete}
 use Rattle.atomic_table.proofs.Lists.{at_set, at_map, set_else}
-use Rattle.queue_laws.specs.Common.Vocabulary.{Call, Effect, Op, Touch, Local, Next}
-use Rattle.queue_steps.specs.State.{State, start}
-use Rattle.queue_steps.specs.Effect.{Fits, IsHistory, made, after}
-use Rattle.queue_steps.specs.Kinds.{call_value}
-use Rattle.queue_steps.specs.Shares.{Share, IsEntire}
-use Rattle.queue_steps.specs.Parties.{IsWhole}
+use Rattle.queue_laws.specs.Common.{Vocabulary.Call, Vocabulary.Effect, Vocabulary.Op, Vocabulary.Touch, Vocabulary.Local, Vocabulary.Next, Effects.Leads, Effects.with_effect, Effects.MayFront, Stand.stand}
+use Rattle.queue_steps.specs.{State.State, State.start, Effect.Fits, Effect.IsHistory, Effect.made, Effect.after, Kinds.call_value, Shares.Share, Shares.IsEntire, Parties.IsWhole}
 use Rattle.queue_laws.proofs.Common.Runs.{after_snoc, runs_snoc}
-use Rattle.queue_laws.specs.Common.Effects.{Leads, with_effect, MayFront}
-use Rattle.queue_laws.specs.Common.Stand.{stand}
-use Rattle.shared_parties.specs.declared.known.Known.{Known}
-use Rattle.shared_parties.specs.declared.known.InCall.{InCall}
-use Rattle.shared_parties.specs.declared.known.Work.{Work}
-use Rattle.shared_parties.specs.declared.known.CallState.{CallState}
-use Rattle.shared_parties.specs.Known.{party, view_of, Kept}
-use Rattle.shared_parties.specs.CallStates.{is_busy, idle, known_by, IsResting}
-use Rattle.shared_parties.proofs.Histories.{prefix_self}
-use Rattle.shared_parties.specs.Calling.{CallsOf, CallLaws, cap_of, Standing, NextOk, first_of, Opens}
-use Rattle.shared_parties.specs.CallsAt.{CallsAt, IsFirst, Ready, Told}
-use Rattle.shared_parties.proofs.Keeping.{looks, gains}
-use Rattle.shared_parties.proofs.Alone.{alone}
-use Rattle.shared_parties.proofs.Callings.{grown, others_stay}
-use Rattle.shared_parties.proofs.Owns.{known_after, call_after, with_place, knows_after, own_stands, own_ends}
+use Rattle.shared_parties.specs.{declared.known.Known.Known, declared.known.InCall.InCall, declared.known.Work.Work, declared.known.CallState.CallState, Known.party, Known.view_of, Known.Kept, CallStates.is_busy, CallStates.idle, CallStates.known_by, CallStates.IsResting, Calling.CallsOf, Calling.CallLaws, Calling.cap_of, Calling.Standing, Calling.NextOk, Calling.first_of, Calling.Opens, CallsAt.CallsAt, CallsAt.IsFirst, CallsAt.Ready, CallsAt.Told}
+use Rattle.shared_parties.proofs.{Histories.prefix_self, Keeping.looks, Keeping.gains, Alone.alone, Callings.grown, Callings.others_stay, Owns.known_after, Owns.call_after, Owns.with_place, Owns.knows_after, Owns.own_stands, Owns.own_ends}
 
 pub set_at : {A : Type 0} (l : List A) (i : ℕ) (a b : A) → get_elem? l i ≡ some a → get_elem? (set l i b) i ≡ some b
 set_at [] i a b e = absurd (some-ne-none a (sym e))

@@ -4,15 +4,10 @@ use mathlib.Core.Option.{some}
 use mathlib.Core.List.{IsPrefix}
 use lib.ListN.{get_elem?}
 use Rattle.atomic_table.proofs.Lists.{at_longer, at_snoc}
-use Rattle.queue_laws.specs.Common.Vocabulary.{Effect}
-use Rattle.queue_steps.specs.State.{State}
-use Rattle.queue_steps.specs.Effect.{after}
-use Rattle.queue_steps.specs.Parties.{StandAt}
+use Rattle.queue_laws.specs.Common.{Vocabulary.Effect, Moments.seen_by, Effects.IsBetween}
+use Rattle.queue_steps.specs.{State.State, Effect.after, Parties.StandAt}
 use Rattle.queue_steps.proofs.Places.{below_at}
-use Rattle.queue_laws.specs.Common.Moments.{seen_by}
-use Rattle.queue_laws.specs.Common.Effects.{IsBetween}
-use Rattle.shared_parties.specs.declared.known.Known.{Known}
-use Rattle.shared_parties.specs.declared.known.InCall.{InCall}
+use Rattle.shared_parties.specs.declared.known.{Known.Known, InCall.InCall}
 use Rattle.shared_parties.proofs.Histories.{prefix_self, prefix_trans, prefix_more}
 use Rattle.shared_parties.specs.Calling.{CallsOf, CallLaws, cap_of, IsMoment, AreMoments, WasOpen, Opened, Waits, stand_of, Standing}
 

@@ -9,10 +9,8 @@ use native.Mathlib.Decide.{dec_le}
 use native.Mathlib.Nat.{add-mod_right}
 use Rattle.atomic_table.proofs.Lists.{at_set, at_snoc, at_map, set_again, set_else, at_longer}
 use Rattle.queue_laws.specs.Common.Vocabulary.{MAX_PARTIES}
-use Rattle.shared_parties.specs.declared.known.Known.{Known}
-use Rattle.shared_parties.specs.declared.known.CallState.{CallState}
+use Rattle.shared_parties.specs.{declared.known.Known.Known, declared.known.CallState.CallState, CallStates.is_busy, CallStates.known_by, CallStates.idle, CallStates.empty_seat, CallStates.IsResting, CallStates.SameCalls, CallStates.Sharing}
 use Rattle.shared_parties.specs.Known.{nobody, looked, granted, refused, withdrawn, united, one_of, other_of, pair_of, Kept}
-use Rattle.shared_parties.specs.CallStates.{is_busy, known_by, idle, empty_seat, IsResting, SameCalls, Sharing}
 use Rattle.shared_parties.specs.Parting.{Regroups, Recounts, Entered, Withdrew, BecameOne, SawAll, Counted, first_part, second_part, both_parts}
 use Rattle.shared_parties.proofs.Keeping.{few, grants, refuses, withdraws, unites, one_entire, entire_one, looks, parts_apart, spawns, pairs_up}
 

@@ -8,12 +8,7 @@ use lib.ListN.{get_elem?}
 use Rattle.atomic_table.proofs.Lists.{at_map}
 use Rattle.queue_laws.specs.Common.Vocabulary.{Effect}
 use Rattle.queue_steps.specs.Parties.{IsWhole}
-use Rattle.shared_parties.specs.declared.known.CallState.{CallState}
-use Rattle.shared_parties.specs.declared.known.Work.{Work}
-use Rattle.shared_parties.specs.Known.{view_of}
-use Rattle.shared_parties.specs.CallStates.{is_busy, known_by, IsLoneSeat}
-use Rattle.shared_parties.specs.Calling.{CallsOf, cap_of, Standing}
-use Rattle.shared_parties.specs.CallsAt.{CallsAt}
+use Rattle.shared_parties.specs.{declared.known.CallState.CallState, declared.known.Work.Work, Known.view_of, CallStates.is_busy, CallStates.known_by, CallStates.IsLoneSeat, Calling.CallsOf, Calling.cap_of, Calling.Standing, CallsAt.CallsAt}
 use Rattle.shared_parties.proofs.Alone.{Alone, alone}
 
 pub not_busy : (b : Bool) → (b ≡ true → ⊥) → b ≡ false

@@ -3,10 +3,7 @@ use Rattle.std.proofs.Common.{◌≡◌, ℕ, zero, suc, ◌≤◌, true, [], �
 use mathlib.Core.Option.{some, some-injective, some-ne-none}
 use lib.ListN.{get_elem?}
 use Rattle.queue_steps.specs.Shares.{entire}
-use Rattle.shared_parties.specs.declared.known.Known.{Known}
-use Rattle.shared_parties.specs.declared.known.CallState.{CallState}
-use Rattle.shared_parties.specs.Known.{party, IsTrueOf, Kept}
-use Rattle.shared_parties.specs.CallStates.{idle, is_busy}
+use Rattle.shared_parties.specs.{declared.known.Known.Known, declared.known.CallState.CallState, Known.party, Known.IsTrueOf, Known.Kept, CallStates.idle, CallStates.is_busy}
 use Rattle.shared_parties.proofs.Totals.{once_none}
 
 module _ {T : Type 0} (cap : Option ℕ) where

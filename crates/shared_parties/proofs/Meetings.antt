@@ -2,19 +2,12 @@
 use Rattle.std.proofs.Common.{◌≡◌, ℕ, ◌+◌, ◌<◌, ◌≤◌, List, ◌++◌, length, Option, refl, ap, sym, ◌∙◌, subst, arith}
 use Rattle.std.proofs.lemmas.Nat.{pow-add}
 use Rattle.queue_laws.specs.Common.Vocabulary.{Effect}
-use Rattle.queue_steps.specs.Effect.{IsHistory}
-use Rattle.queue_steps.specs.Shares.{Share, half, plus, IsEntire, IsSome, IsPart}
-use Rattle.queue_steps.specs.Parties.{IsView, Apart}
+use Rattle.queue_steps.specs.{Effect.IsHistory, Shares.Share, Shares.half, Shares.plus, Shares.IsEntire, Shares.IsSome, Shares.IsPart, Parties.IsView, Parties.Apart}
 use Rattle.queue_steps.proofs.ShareLaws.{plus_comm, plus_some, entire_rest}
-use Rattle.shared_parties.specs.declared.known.Known.{Known}
-use Rattle.shared_parties.specs.declared.known.CallState.{CallState}
-use Rattle.shared_parties.specs.Counting.{times, once_below}
-use Rattle.shared_parties.proofs.Counting.{all_inside, none_twice, none_in_both, all_places}
+use Rattle.shared_parties.specs.{declared.known.Known.Known, declared.known.CallState.CallState, Counting.times, Counting.once_below, CallStates.idle}
+use Rattle.shared_parties.proofs.{Counting.all_inside, Counting.none_twice, Counting.none_in_both, Counting.all_places, Histories.prefix_self, Histories.prefix_either, Totals.times_append}
 use Rattle.shared_parties.specs.Known.{party, looked, granted, refused, withdrawn, united, one_of, other_of, pair_of, view_of, Sees}
-use Rattle.shared_parties.specs.CallStates.{idle}
-use Rattle.shared_parties.proofs.Histories.{prefix_self, prefix_either}
 use Rattle.shared_parties.specs.Parting.{Withdrew, BecameOne, SawAll, both_parts, first_part, second_part, IsParty, Parts, Joins, Meets}
-use Rattle.shared_parties.proofs.Totals.{times_append}
 
 half_part : (s : Share) → IsPart s → IsPart (half s)
 half_part s part = let more = pow-add 2 s.1 1 in omega arith

@@ -2,24 +2,12 @@
 use Rattle.std.proofs.Common.{◌≡◌, ℕ, ◌+◌, ◌≤◌, ◌||◌, not, inl, inr, Bool, true, List, [], ◌∷◌, ◌++◌, length, Option, Some, None, refl, ap, sym, ◌∙◌, subst, ⊎_elim, arith, length-append, append_assoc}
 use mathlib.Core.List.{IsPrefix}
 use Rattle.atomic_table.proofs.Lists.{at_longer, at_last}
-use Rattle.queue_laws.specs.Common.Vocabulary.{Call, Reply, Effect, Op, Touch, Local}
-use Rattle.queue_steps.specs.State.{State}
-use Rattle.queue_steps.specs.Effect.{IsHistory, after}
-use Rattle.queue_steps.specs.Replies.{Allows, Tells}
-use Rattle.queue_steps.specs.Shares.{Share}
-use Rattle.queue_steps.specs.Parties.{View, StandAt, Between, Displaces, SharedCall}
-use Rattle.queue_laws.specs.Common.Moments.{SeenIn}
-use Rattle.queue_laws.specs.Common.Effects.{with_effect, MayFront}
-use Rattle.queue_laws.specs.Common.Stand.{stand}
-use Rattle.queue_laws.proofs.Common.Tests.{or_true, not_true}
-use Rattle.shared_parties.specs.declared.known.Known.{Known}
-use Rattle.shared_parties.specs.declared.known.InCall.{InCall}
-use Rattle.shared_parties.specs.Known.{party, looked, gained, view_of}
-use Rattle.queue_laws.proofs.Common.TellsAs.{TellsAs, displace, tells_as}
+use Rattle.queue_laws.specs.Common.{Vocabulary.Call, Vocabulary.Reply, Vocabulary.Effect, Vocabulary.Op, Vocabulary.Touch, Vocabulary.Local, Moments.SeenIn, Effects.with_effect, Effects.MayFront, Stand.stand}
+use Rattle.queue_steps.specs.{State.State, Effect.IsHistory, Effect.after, Replies.Allows, Replies.Tells, Shares.Share, Parties.View, Parties.StandAt, Parties.Between, Parties.Displaces, Parties.SharedCall}
+use Rattle.queue_laws.proofs.Common.{Tests.or_true, Tests.not_true, TellsAs.TellsAs, TellsAs.displace, TellsAs.tells_as}
+use Rattle.shared_parties.specs.{declared.known.Known.Known, declared.known.InCall.InCall, Known.party, Known.looked, Known.gained, Known.view_of, Calling.CallsOf, Calling.cap_of, Calling.AreMoments, Calling.Opened, Calling.Waits, Calling.Standing}
 use Rattle.queue_steps.proofs.Places.{below_at}
-use Rattle.shared_parties.proofs.Histories.{prefix_self, prefix_trans, prefix_length}
-use Rattle.shared_parties.specs.Calling.{CallsOf, cap_of, AreMoments, Opened, Waits, Standing}
-use Rattle.shared_parties.proofs.Callings.{grown, grown_more, moments_later, moment_now, open_later, shorter}
+use Rattle.shared_parties.proofs.{Histories.prefix_self, Histories.prefix_trans, Histories.prefix_length, Callings.grown, Callings.grown_more, Callings.moments_later, Callings.moment_now, Callings.open_later, Callings.shorter}
 
 -- what a party knows after a step of its own at the history h
 abbrev pub known_after : {T : Type 0} → List (Effect T) → Option (Effect T) → Known T → Known T

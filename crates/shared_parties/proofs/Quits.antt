@@ -11,18 +11,8 @@ use Rattle.atomic_table.proofs.Lists.{at_set, at_map, set_else, set_again}
 use Rattle.queue_laws.specs.Common.Vocabulary.{Call, Reply, Effect}
 use Rattle.queue_steps.specs.Parties.{View, StandAt, SharedCall}
 use Rattle.queue_laws.proofs.Common.Runs.{cap_after, history_before}
-use Rattle.shared_parties.specs.declared.known.Known.{Known}
-use Rattle.shared_parties.specs.declared.known.InCall.{InCall}
-use Rattle.shared_parties.specs.declared.known.Work.TheVariants as work
-use Rattle.shared_parties.specs.declared.known.CallState.{CallState}
-use Rattle.shared_parties.specs.Known.{party, view_of, Kept}
-use Rattle.shared_parties.specs.CallStates.{idle, known_by}
-use Rattle.shared_parties.specs.Calling.{CallsOf, cap_of, Standing}
-use Rattle.shared_parties.specs.CallsAt.{CallsAt, begun_at}
-use Rattle.shared_parties.specs.Quitting.{Quit}
-use Rattle.shared_parties.proofs.Alone.{alone}
-use Rattle.shared_parties.proofs.Histories.{prefix_self}
-use Rattle.shared_parties.proofs.SharedCalls.{quiet}
+use Rattle.shared_parties.specs.{declared.known.Known.Known, declared.known.InCall.InCall, declared.known.Work.Work as work, declared.known.CallState.CallState, Known.party, Known.view_of, Known.Kept, CallStates.idle, CallStates.known_by, Calling.CallsOf, Calling.cap_of, Calling.Standing, CallsAt.CallsAt, CallsAt.begun_at, Quitting.Quit}
+use Rattle.shared_parties.proofs.{Alone.alone, Histories.prefix_self, SharedCalls.quiet}
 
 -- no effects stand at no places
 pub places_none : {T : Type 0} (t : List (Effect T)) (n : ℕ) (ps : List ℕ) (es : List (Effect T)) → es ≡ [] → StandAt t n ps es → ps ≡ []

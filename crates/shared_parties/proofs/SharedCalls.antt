@@ -5,17 +5,10 @@ use Rattle.std.specs.List.{Contains}
 use mathlib.Core.List.{IsPrefix}
 use Rattle.atomic_table.proofs.Lists.{at_last}
 use Rattle.queue_laws.specs.Common.Vocabulary.{Call, Reply, Effect}
-use Rattle.queue_steps.specs.State.{State}
-use Rattle.queue_steps.specs.Effect.{IsHistory, after}
-use Rattle.queue_steps.specs.Replies.{IsRightAt, Tells}
-use Rattle.queue_steps.specs.Shares.{Share, IsEntire}
-use Rattle.queue_steps.specs.Parties.{View, Between, SharedCall}
-use Rattle.shared_parties.specs.Counting.{times, once_below}
-use Rattle.shared_parties.proofs.Counting.{all_places}
+use Rattle.queue_steps.specs.{State.State, Effect.IsHistory, Effect.after, Replies.IsRightAt, Replies.Tells, Shares.Share, Shares.IsEntire, Parties.View, Parties.Between, Parties.SharedCall}
+use Rattle.shared_parties.specs.{Counting.times, Counting.once_below, declared.known.Known.Known, Known.party, Known.has, Known.share_of}
+use Rattle.shared_parties.proofs.{Counting.all_places, Histories.prefix_trans, Histories.prefix_more, Histories.prefix_length}
 use Rattle.queue_steps.proofs.ShareLaws.{plus_nothing}
-use Rattle.shared_parties.specs.declared.known.Known.{Known}
-use Rattle.shared_parties.specs.Known.{party, has, share_of}
-use Rattle.shared_parties.proofs.Histories.{prefix_trans, prefix_more, prefix_length}
 
 module _ {T : Type 0} where
   -- a moment between two histories is one between the first and any later one

@@ -3,13 +3,7 @@ use Rattle.std.proofs.Common.{◌≡◌, ◌<◌, ℕ, true, false, Bool, List, 
 use mathlib.Core.Option.{some}
 use lib.ListN.{get_elem?}
 use Rattle.queue_laws.specs.Common.Vocabulary.{Effect}
-use Rattle.shared_parties.specs.declared.known.CallState.{CallState}
-use Rattle.shared_parties.specs.declared.known.Known.{Known}
-use Rattle.shared_parties.specs.declared.known.Work.{Work}
-use Rattle.shared_parties.specs.CallStates.{is_busy, Sharing}
-use Rattle.shared_parties.specs.Parting.{Regroups}
-use Rattle.shared_parties.specs.Calling.{CallsOf, cap_of}
-use Rattle.shared_parties.specs.CallsAt.{CallsAt}
+use Rattle.shared_parties.specs.{declared.known.CallState.CallState, declared.known.Known.Known, declared.known.Work.Work, CallStates.is_busy, CallStates.Sharing, Parting.Regroups, Calling.CallsOf, Calling.cap_of, CallsAt.CallsAt}
 
 pub false_if : (b : Bool) → (b ≡ true → ⊥) → b ≡ false
 false_if false never = refl

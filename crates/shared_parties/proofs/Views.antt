@@ -1,16 +1,11 @@
 -- A shared call leaves its party a view: its places lie in what it has seen, none twice. So a party whose call ended is one that is between its calls.
 use Rattle.std.proofs.Common.{◌≡◌, ◌≢◌, ℕ, suc, ◌<◌, ◌≤◌, List, [], ◌∷◌, ◌++◌, length, Option, sym, subst, arith}
 use Rattle.std.specs.List.{All, AllPairs}
-use Rattle.std.proofs.lemmas.List.Elements.{All-append, All-weaker, All-head, All-tail}
-use Rattle.std.proofs.lemmas.List.Kept.{AllPairs-cons}
+use Rattle.std.proofs.lemmas.List.{Elements.All-append, Elements.All-weaker, Elements.All-head, Elements.All-tail, Kept.AllPairs-cons}
 use Rattle.queue_laws.specs.Common.Vocabulary.{Call, Reply}
-use Rattle.queue_steps.specs.Shares.{IsEntire, IsSome, IsPart}
-use Rattle.queue_steps.specs.Parties.{View, IsView, IsWhole, SharedCall}
+use Rattle.queue_steps.specs.{Shares.IsEntire, Shares.IsSome, Shares.IsPart, Parties.View, Parties.IsView, Parties.IsWhole, Parties.SharedCall}
 use Rattle.queue_steps.proofs.Places.{stand_from, stand_once, stand_inside}
-use Rattle.shared_parties.specs.declared.known.CallState.{CallState}
-use Rattle.shared_parties.specs.Known.{view_of}
-use Rattle.shared_parties.specs.CallStates.{IsResting, HasAll}
-use Rattle.shared_parties.specs.Parting.{IsParty}
+use Rattle.shared_parties.specs.{declared.known.CallState.CallState, Known.view_of, CallStates.IsResting, CallStates.HasAll, Parting.IsParty}
 use Rattle.shared_parties.proofs.Histories.{prefix_length}
 
 -- places below n and others from n on, none twice

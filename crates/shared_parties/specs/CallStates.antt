@@ -3,12 +3,8 @@ use Rattle.std.specs.Prelude.{◌≡◌, ◌<◌, ℕ, Bool, true, false, List, 
 use mathlib.Core.Option.{some}
 use lib.ListN.{get_elem?}
 use Rattle.queue_laws.specs.Common.Vocabulary.{Effect}
-use Rattle.queue_steps.specs.Shares.{IsEntire}
-use Rattle.queue_steps.specs.Parties.{IsWhole}
-use Rattle.shared_parties.specs.declared.known.Known.{Known}
-use Rattle.shared_parties.specs.declared.known.Work.{Work}
-use Rattle.shared_parties.specs.declared.known.CallState.{CallState}
-use Rattle.shared_parties.specs.Known.{party, nobody, view_of, Kept}
+use Rattle.queue_steps.specs.{Shares.IsEntire, Parties.IsWhole}
+use Rattle.shared_parties.specs.{declared.known.Known.Known, declared.known.Work.Work, declared.known.CallState.CallState, Known.party, Known.nobody, Known.view_of, Known.Kept}
 
 -- a call is on its way, between two of its steps
 abbrev pub is_busy : {T : Type 0} → Work T → Bool

@@ -1,11 +1,8 @@
 -- Which call a seat is at, told by its view and by the step that it is to do.
 use Rattle.std.specs.Prelude.{ℕ, [], Option, None}
 use Rattle.queue_laws.specs.Common.Vocabulary.{Call, Op, Touch, Local}
-use Rattle.queue_steps.specs.Shares.{nothing}
-use Rattle.queue_steps.specs.Kinds.{with_value}
-use Rattle.shared_parties.specs.declared.known.InCall.{InCall}
-use Rattle.shared_parties.specs.declared.known.Work.{Work}
-use Rattle.shared_parties.specs.declared.known.CallState.{CallState}
+use Rattle.queue_steps.specs.{Shares.nothing, Kinds.with_value}
+use Rattle.shared_parties.specs.declared.known.{InCall.InCall, Work.Work, CallState.CallState}
 
 -- a call that is none
 abbrev pub nothing_called : {T : Type 0} → InCall T

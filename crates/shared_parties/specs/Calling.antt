@@ -4,19 +4,9 @@ use mathlib.Core.Option.{some}
 use mathlib.Core.List.{IsPrefix}
 use lib.ListN.{get_elem?}
 use Rattle.atomic_table.specs.Table.{rest}
-use Rattle.queue_laws.specs.Common.Vocabulary.{Call, Reply, Effect, Kind, Op, Touch, Answer, Next}
-use Rattle.queue_steps.specs.State.{State}
-use Rattle.queue_steps.specs.Effect.{after}
-use Rattle.queue_steps.specs.Kinds.{call_kind, call_value, filled}
-use Rattle.queue_steps.specs.Next.{capacity_of, first_local, next_of}
-use Rattle.queue_steps.specs.Parties.{StandAt}
-use Rattle.queue_steps.specs.Replies.{IsRightAt, Allows, Tells}
-use Rattle.queue_laws.specs.Common.Effects.{IsBetween, Touches}
-use Rattle.queue_laws.specs.Common.Moments.{SeenIn, seen_by}
-use Rattle.queue_laws.specs.Common.Stand.{Stand, stand}
-use Rattle.shared_parties.specs.declared.known.Known.{Known}
-use Rattle.shared_parties.specs.declared.known.InCall.{InCall}
-use Rattle.shared_parties.specs.Known.{party}
+use Rattle.queue_laws.specs.Common.{Vocabulary.Call, Vocabulary.Reply, Vocabulary.Effect, Vocabulary.Kind, Vocabulary.Op, Vocabulary.Touch, Vocabulary.Answer, Vocabulary.Next, Effects.IsBetween, Effects.Touches, Moments.SeenIn, Moments.seen_by, Stand.Stand, Stand.stand}
+use Rattle.queue_steps.specs.{State.State, Effect.after, Kinds.call_kind, Kinds.call_value, Kinds.filled, Next.capacity_of, Next.first_local, Next.next_of, Parties.StandAt, Replies.IsRightAt, Replies.Allows, Replies.Tells}
+use Rattle.shared_parties.specs.{declared.known.Known.Known, declared.known.InCall.InCall, Known.party}
 
 -- What a kind of queue is to the calls on it: which steps they take, its cells with the state of the queue that they stand for, where a call stands at them,
 -- what a step of one party leaves of them for the others, which slots a party has, that a party has no part in the cells, and which block a reply may give up

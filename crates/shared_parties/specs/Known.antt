@@ -4,11 +4,8 @@ use mathlib.Core.Option.{some}
 use mathlib.Core.List.{IsPrefix}
 use lib.ListN.{get_elem?}
 use Rattle.queue_laws.specs.Common.Vocabulary.{Effect, MAX_PARTIES}
-use Rattle.queue_steps.specs.Effect.{IsHistory}
-use Rattle.queue_steps.specs.Shares.{Share, nothing, half, plus, IsEntire, IsSome, IsPart, weight}
-use Rattle.queue_steps.specs.Parties.{View}
-use Rattle.shared_parties.specs.Counting.{times, once_below}
-use Rattle.shared_parties.specs.declared.known.Known.{Known}
+use Rattle.queue_steps.specs.{Effect.IsHistory, Shares.Share, Shares.nothing, Shares.half, Shares.plus, Shares.IsEntire, Shares.IsSome, Shares.IsPart, Shares.weight, Parties.View}
+use Rattle.shared_parties.specs.{Counting.times, Counting.once_below, declared.known.Known.Known}
 
 -- a sum over a list
 abbrev pub total : {A : Type 0} → (A → ℕ) → List A → ℕ

@@ -1,11 +1,9 @@
 -- How the parties of a queue are counted, parted, joined and brought together, whatever the queue is made of: what their seats know then.
 use Rattle.std.specs.Prelude.{◌≡◌, ◌≢◌, ℕ, ◌<◌, ◌≤◌, false, List, map, slice_set}
 use Rattle.queue_laws.specs.Common.Vocabulary.{Effect, MAX_PARTIES}
-use Rattle.queue_steps.specs.Shares.{IsEntire}
-use Rattle.queue_steps.specs.Parties.{IsView, Split, Join, Meet}
-use Rattle.shared_parties.specs.declared.known.CallState.{CallState}
+use Rattle.queue_steps.specs.{Shares.IsEntire, Parties.IsView, Parties.Split, Parties.Join, Parties.Meet}
+use Rattle.shared_parties.specs.{declared.known.CallState.CallState, CallStates.idle, CallStates.is_busy, CallStates.known_by, CallStates.IsResting, CallStates.SameCalls, CallStates.Sharing}
 use Rattle.shared_parties.specs.Known.{view_of, looked, granted, refused, withdrawn, united, one_of, other_of, pair_of, Kept, Sees}
-use Rattle.shared_parties.specs.CallStates.{idle, is_busy, known_by, IsResting, SameCalls, Sharing}
 
 -- Where the seats are ws, those in calls are as they were, and what all know is true of the same history, of which n counts the parties
 abbrev pub Regroups : {T : Type 0} {m : ℕ} {vs : List (CallState T)} → Sharing m vs → ℕ → List (CallState T) → Type 0

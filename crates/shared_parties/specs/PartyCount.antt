@@ -2,10 +2,7 @@
 use Rattle.std.specs.Prelude.{◌≡◌, ℕ, ◌+◌, ◌-◌, ◌%◌, ◌^◌, List}
 use mathlib.Core.Option.{some}
 use lib.ListN.{get_elem?}
-use Rattle.shared_parties.specs.declared.count.Change.{Change}
-use Rattle.shared_parties.specs.declared.known.CallState.{CallState}
-use Rattle.shared_parties.specs.CallStates.{Sharing}
-use Rattle.shared_parties.specs.Parting.{Recounts}
+use Rattle.shared_parties.specs.{declared.count.Change.Change, declared.known.CallState.CallState, CallStates.Sharing, Parting.Recounts}
 
 -- the count n becomes this, as a word of 64 bits
 abbrev pub changed : Change → ℕ → ℕ

@@ -2,11 +2,7 @@
 use Rattle.std.specs.Prelude.{◌≡◌}
 use mathlib.Core.List.{IsPrefix}
 use Rattle.queue_steps.specs.Effect.{IsHistory}
-use Rattle.shared_parties.specs.declared.known.InCall.{InCall}
-use Rattle.shared_parties.specs.declared.known.CallState.{CallState}
-use Rattle.shared_parties.specs.Called.{call_of_work, nothing_called}
-use Rattle.shared_parties.specs.CallStates.{IsResting, HasAll}
-use Rattle.shared_parties.specs.Calling.{CallsOf, cap_of}
+use Rattle.shared_parties.specs.{declared.known.InCall.InCall, declared.known.CallState.CallState, Called.call_of_work, Called.nothing_called, CallStates.IsResting, CallStates.HasAll, Calling.CallsOf, Calling.cap_of}
 
 -- the call that a seat is at
 abbrev pub its_call : {T : Type 0} → CallState T → InCall T

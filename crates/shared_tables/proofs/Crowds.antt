@@ -4,13 +4,8 @@ use Rattle.std.proofs.lemmas.List.{set-get_or}
 use mathlib.Core.Option.{some}
 use lib.ListN.{get_elem?}
 use Rattle.atomic_table.specs.Table.{keeps, Allows, Splits, Joins}
-use Rattle.shared_parties.specs.declared.known.CallState.{CallState}
-use Rattle.shared_parties.specs.CallStates.{Sharing}
-use Rattle.shared_parties.specs.declared.count.Change.{Change}
-use Rattle.shared_parties.specs.Parting.{Regroups}
-use Rattle.shared_parties.specs.PartyCount.{changed, MayAct}
-use Rattle.shared_tables.specs.Seats.{Table, Seated, count_of, OfView}
-use Rattle.shared_tables.specs.TableRule.{TableOf, Rule}
+use Rattle.shared_parties.specs.{declared.known.CallState.CallState, CallStates.Sharing, declared.count.Change.Change, Parting.Regroups, PartyCount.changed, PartyCount.MayAct}
+use Rattle.shared_tables.specs.{Seats.Table, Seats.Seated, Seats.count_of, Seats.OfView, TableRule.TableOf, TableRule.Rule}
 use Rattle.shared_tables.proofs.TableParties.{table_keeps_parties}
 
 module _ {T : Type 0} (K : TableOf T) where

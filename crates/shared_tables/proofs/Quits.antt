@@ -2,13 +2,9 @@
 use Rattle.std.proofs.Common.{ℕ, List, set, refl, sym, ◌∙◌, subst}
 use Rattle.std.proofs.lemmas.List.{set-get_or}
 use Rattle.atomic_table.specs.Table.{keeps, Allows}
-use Rattle.shared_parties.specs.CallStates.{idle}
-use Rattle.shared_parties.specs.Calling.{stand_of}
-use Rattle.shared_parties.specs.Quitting.{its_call}
+use Rattle.shared_parties.specs.{CallStates.idle, Calling.stand_of, Quitting.its_call}
 use Rattle.shared_parties.proofs.Quits.{quit, quits}
-use Rattle.shared_tables.specs.Seats.{Seated, count_of}
-use Rattle.shared_tables.specs.TableRule.{TableOf, TableLaws, Rule}
-use Rattle.shared_tables.specs.Quitting.{MayQuit, HasQuit}
+use Rattle.shared_tables.specs.{Seats.Seated, Seats.count_of, TableRule.TableOf, TableRule.TableLaws, TableRule.Rule, Quitting.MayQuit, Quitting.HasQuit}
 
 module _ {T : Type 0} (K : TableOf T) (words : ℕ) (laws : TableLaws K words) where
   -- the party has then only seen more, has no slot, and the call still carried its own value

@@ -2,18 +2,13 @@
 use Rattle.std.proofs.Common.{ℕ, zero, suc, ◌<◌, ◌≡◌, Some, None, [], map, length, refl, ap, sym, subst, replicate}
 use mathlib.Core.Option.{some}
 use Rattle.atomic_table.specs.Table.{opening}
-use Rattle.queue_steps.specs.Words.{IsRing}
-use Rattle.queue_steps.specs.Shares.{entire}
+use Rattle.queue_steps.specs.{Words.IsRing, Shares.entire}
 use Rattle.queue_laws.specs.Ring.RingOpening.{numbers_below, opening_ring, opening_shared}
 use Rattle.queue_laws.proofs.Ring.RingOpening.{opening_ok, opening_codes}
 use Rattle.own_cells.specs.OneRing.RingWords.{words_behind}
 use Rattle.own_cells.proofs.OneRing.Openings.{homes_at}
-use Rattle.shared_parties.specs.declared.known.CallState.{CallState}
-use Rattle.shared_parties.specs.Known.{party}
-use Rattle.shared_parties.specs.CallStates.{idle, is_busy}
-use Rattle.shared_tables.specs.TableRule.{Rule}
-use Rattle.shared_tables.specs.RingTable.{ring_table}
-use Rattle.shared_tables.specs.RingOpening.{first_words}
+use Rattle.shared_parties.specs.{declared.known.CallState.CallState, Known.party, CallStates.idle, CallStates.is_busy}
+use Rattle.shared_tables.specs.{TableRule.Rule, RingTable.ring_table, RingOpening.first_words}
 use Rattle.shared_parties.proofs.FirstParty.{first_rests, first_kept}
 
 homes_long : {A : Type 0} (n : ℕ) (a : A) → length (map some (replicate n a)) ≡ n

@@ -4,24 +4,12 @@ use mathlib.Core.Option.{some}
 use mathlib.Core.Option as maybe
 use lib.ListN.{get_elem?}
 use Rattle.atomic_table.specs.Table.{Final, Seen}
-use Rattle.queue_steps.specs.State.{State}
-use Rattle.queue_steps.specs.Effect.{after}
-use Rattle.queue_steps.specs.Legal.{IsShown}
-use Rattle.queue_steps.specs.Parties.{IsWhole}
-use Rattle.queue_laws.proofs.Common.Tests.{none_if}
-use Rattle.queue_laws.specs.Ring.RingCells.{Ring, queue_of, RingOk, owner}
-use Rattle.queue_laws.specs.Ring.RingShared.{Shared}
-use Rattle.queue_laws.specs.Ring.RingWords.{Codes, item_in}
-use Rattle.queue_laws.proofs.Ring.RingIdle.{NobodyHolds, AtRest, at_rest}
-use Rattle.shared_parties.specs.declared.known.CallState.{CallState}
-use Rattle.shared_parties.specs.Known.{view_of}
-use Rattle.shared_tables.specs.Seats.{count_of}
-use Rattle.shared_parties.specs.CallStates.{IsLoneSeat}
-use Rattle.shared_tables.specs.TableRule.{Rule}
-use Rattle.shared_tables.specs.RingTable.{home_when, Homes, ring_words, ring_table}
-use Rattle.own_cells.specs.OneRing.RingOwned.{IsIdle, ring_queue}
-use Rattle.own_cells.specs.OneRing.Laws.RingRests.{rested_idle, rested_queue}
-use Rattle.own_cells.specs.OneRing.RingMemory.{ring_in}
+use Rattle.queue_steps.specs.{State.State, Effect.after, Legal.IsShown, Parties.IsWhole}
+use Rattle.queue_laws.proofs.{Common.Tests.none_if, Ring.RingIdle.NobodyHolds, Ring.RingIdle.AtRest, Ring.RingIdle.at_rest}
+use Rattle.queue_laws.specs.Ring.{RingCells.Ring, RingCells.queue_of, RingCells.RingOk, RingCells.owner, RingShared.Shared, RingWords.Codes, RingWords.item_in}
+use Rattle.shared_parties.specs.{declared.known.CallState.CallState, Known.view_of, CallStates.IsLoneSeat}
+use Rattle.shared_tables.specs.{Seats.count_of, TableRule.Rule, RingTable.home_when, RingTable.Homes, RingTable.ring_words, RingTable.ring_table}
+use Rattle.own_cells.specs.OneRing.{RingOwned.IsIdle, RingOwned.ring_queue, Laws.RingRests.rested_idle, Laws.RingRests.rested_queue, RingMemory.ring_in}
 use Rattle.own_cells.proofs.OneRing.RingWrites.{elem_or}
 use Rattle.shared_tables.proofs.TableRests.{table_ends}
 

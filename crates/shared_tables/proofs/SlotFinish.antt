@@ -3,23 +3,12 @@ use Rattle.std.proofs.Common.{◌≡◌, ℕ, ◌==◌, Bool, true, false, List,
 use mathlib.Core.Option.{some, some-injective, some-ne-none}
 use lib.ListN.{get_elem?}
 use Rattle.atomic_table.specs.Table.{Final, Seen, opening}
-use Rattle.queue_steps.specs.Effect.{after}
-use Rattle.queue_steps.specs.Legal.{IsShown}
-use Rattle.queue_steps.specs.Parties.{IsWhole}
-use Rattle.queue_steps.specs.Shares.{entire}
-use Rattle.queue_steps.specs.SingleNext.{is_marked}
-use Rattle.queue_steps.specs.State.{State}
-use Rattle.queue_laws.specs.Slot.SlotHolder.{SlotHolder, Nobody}
-use Rattle.queue_laws.specs.Slot.SlotRows.{Codes, free_empty, free_full, single}
-use Rattle.queue_laws.specs.Slot.SlotCells.{Slot, queue_of, lent_by}
+use Rattle.queue_steps.specs.{Effect.after, Legal.IsShown, Parties.IsWhole, Shares.entire, SingleNext.is_marked, State.State}
+use Rattle.queue_laws.specs.Slot.{SlotHolder.SlotHolder, SlotHolder.Nobody, SlotRows.Codes, SlotRows.free_empty, SlotRows.free_full, SlotRows.single, SlotCells.Slot, SlotCells.queue_of, SlotCells.lent_by}
 use Rattle.queue_laws.proofs.Slot.SlotCells.{all_nobody}
-use Rattle.shared_parties.specs.declared.known.CallState.{CallState}
-use Rattle.shared_parties.specs.Known.{party, view_of}
-use Rattle.shared_tables.specs.Seats.{count_of}
-use Rattle.shared_parties.specs.CallStates.{idle, is_busy, IsLoneSeat}
+use Rattle.shared_parties.specs.{declared.known.CallState.CallState, Known.party, Known.view_of, CallStates.idle, CallStates.is_busy, CallStates.IsLoneSeat}
+use Rattle.shared_tables.specs.{Seats.count_of, TableRule.Rule, SlotTable.home_under, SlotTable.slot_table}
 use Rattle.own_cells.specs.OneSlot.SingleCells.{state_of, word_for}
-use Rattle.shared_tables.specs.TableRule.{Rule}
-use Rattle.shared_tables.specs.SlotTable.{home_under, slot_table}
 use Rattle.shared_parties.proofs.FirstParty.{first_rests, first_kept}
 use Rattle.shared_tables.proofs.TableRests.{table_ends}
 

@@ -3,19 +3,11 @@ use Rattle.std.proofs.Common.{◌≡◌, ℕ, List, ◌∷◌, get_or, set, Opti
 use mathlib.Core.Option.{some}
 use lib.ListN.{get_elem?}
 use Rattle.atomic_table.specs.Table.{Act, Valid, carried_after, homes_after, stepped, Allows}
-use Rattle.queue_laws.specs.Common.Vocabulary.{Effect, Answer, Next}
+use Rattle.queue_laws.specs.Common.{Vocabulary.Effect, Vocabulary.Answer, Vocabulary.Next, Operations.op_word, Operations.op_makes, Operations.answer_for}
 use Rattle.queue_steps.specs.Next.{CanNext, next_of}
-use Rattle.shared_parties.specs.declared.known.InCall.{InCall}
-use Rattle.shared_parties.specs.declared.known.Work.TheVariants as work
-use Rattle.shared_parties.specs.declared.known.CallState.{CallState}
-use Rattle.shared_tables.specs.Seats.{Table, Seated, count_of}
-use Rattle.shared_parties.specs.Calling.{CallsOf, stand_of, Standing, touched_list, handed_by, HasTouched}
-use Rattle.shared_tables.specs.TableRule.{TableOf, Rule, found_by, InTable, TakesOff, TableStepOk, TableLaws}
-use Rattle.queue_laws.specs.Common.Operations.{op_word, op_makes, answer_for}
-use Rattle.shared_tables.specs.TableTurns.{After, Follows}
-use Rattle.shared_parties.specs.CallsAt.{Ready, CallsAt, Told}
-use Rattle.shared_parties.proofs.Callings.{grown}
-use Rattle.shared_parties.proofs.CallSteps.{set_at, stands_at, Stepping, call_step}
+use Rattle.shared_parties.specs.{declared.known.InCall.InCall, declared.known.Work.Work as work, declared.known.CallState.CallState, Calling.CallsOf, Calling.stand_of, Calling.Standing, Calling.touched_list, Calling.handed_by, Calling.HasTouched, CallsAt.Ready, CallsAt.CallsAt, CallsAt.Told}
+use Rattle.shared_tables.specs.{Seats.Table, Seats.Seated, Seats.count_of, TableRule.TableOf, TableRule.Rule, TableRule.found_by, TableRule.InTable, TableRule.TakesOff, TableRule.TableStepOk, TableRule.TableLaws, TableTurns.After, TableTurns.Follows}
+use Rattle.shared_parties.proofs.{Callings.grown, CallSteps.set_at, CallSteps.stands_at, CallSteps.Stepping, CallSteps.call_step}
 
 module _ {T : Type 0} (K : TableOf T) (words : ℕ) (laws : TableLaws K words) where
   abbrev C : CallsOf T

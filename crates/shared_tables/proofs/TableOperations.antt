@@ -4,16 +4,11 @@ use Rattle.std.specs.Int.{bit_not}
 use mathlib.Core.Option.{some}
 use lib.ListN.{get_elem?}
 use Rattle.atomic_table.specs.Table.{Allows, stepped, carried_after}
-use Rattle.queue_laws.specs.Common.Vocabulary.{Word, Op, Answer}
+use Rattle.queue_laws.specs.Common.{Vocabulary.Word, Vocabulary.Op, Vocabulary.Answer, Operations.op_word, Operations.op_makes, Operations.answer_for}
 use Rattle.queue_steps.specs.Next.{CanNext, next_of}
-use Rattle.shared_parties.specs.declared.known.InCall.{InCall}
-use Rattle.shared_tables.specs.Seats.{Table, Seated}
-use Rattle.shared_parties.specs.Calling.{touched_list, handed_by}
-use Rattle.shared_tables.specs.TableRule.{TableOf, Rule, TableLaws, InTable, TakesOff, found_by}
-use Rattle.queue_laws.specs.Common.Operations.{op_word, op_makes, answer_for}
+use Rattle.shared_parties.specs.{declared.known.InCall.InCall, Calling.touched_list, Calling.handed_by, CallsAt.Ready}
+use Rattle.shared_tables.specs.{Seats.Table, Seats.Seated, TableRule.TableOf, TableRule.Rule, TableRule.TableLaws, TableRule.InTable, TableRule.TakesOff, TableRule.found_by, TableTurns.After, TableTurns.Follows}
 use Rattle.queue_laws.proofs.Common.Operations.{has_word}
-use Rattle.shared_tables.specs.TableTurns.{After, Follows}
-use Rattle.shared_parties.specs.CallsAt.{Ready}
 use Rattle.shared_tables.proofs.TableAllows.{table_allows, takes_off}
 
 module _ {T : Type 0} (kinds : ℕ → TableOf T) (key slots words wide id : ℕ) (m : Seated T) (c : InCall T) (laws : TableLaws (kinds slots) words) (same : key ≡ slots) (size : wide ≡ words)

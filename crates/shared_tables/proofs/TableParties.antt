@@ -1,12 +1,8 @@
 -- The rule of a shared table stays true where only the views change.
 use Rattle.std.proofs.Common.{◌≡◌, ℕ, List, ◌∷◌, ap, sym, ◌∙◌, subst, set, get_or}
-use Rattle.shared_parties.specs.declared.known.CallState.{CallState}
-use Rattle.shared_parties.specs.CallStates.{Sharing}
-use Rattle.shared_parties.specs.Parting.{Regroups}
-use Rattle.shared_parties.specs.CallsAt.{CallsAt}
+use Rattle.shared_parties.specs.{declared.known.CallState.CallState, CallStates.Sharing, Parting.Regroups, CallsAt.CallsAt}
 use Rattle.shared_parties.proofs.Sharings.{sharing, regrouped}
-use Rattle.shared_tables.specs.Seats.{Table, count_of}
-use Rattle.shared_tables.specs.TableRule.{TableOf, Rule}
+use Rattle.shared_tables.specs.{Seats.Table, Seats.count_of, TableRule.TableOf, TableRule.Rule}
 
 -- the table with another count, and other views
 abbrev pub recounted : {T : Type 0} → Table T → ℕ → List (CallState T) → Table T

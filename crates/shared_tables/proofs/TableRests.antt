@@ -7,15 +7,10 @@ use native.Mathlib.Decide.{ℕ_discrete}
 use lib.ListN.{get_elem?}
 use Rattle.atomic_table.proofs.Lists.{at_map}
 use Rattle.queue_steps.specs.Parties.{IsWhole}
-use Rattle.shared_parties.specs.declared.known.CallState.{CallState}
-use Rattle.shared_parties.specs.Known.{view_of}
-use Rattle.shared_tables.specs.Seats.{Table, count_of}
-use Rattle.shared_parties.specs.CallStates.{is_busy, known_by, IsLoneSeat}
-use Rattle.shared_parties.specs.Calling.{cap_of}
-use Rattle.shared_tables.specs.TableRule.{TableOf, Rule}
+use Rattle.shared_parties.specs.{declared.known.CallState.CallState, Known.view_of, CallStates.is_busy, CallStates.known_by, CallStates.IsLoneSeat, Calling.cap_of}
+use Rattle.shared_tables.specs.{Seats.Table, Seats.count_of, TableRule.TableOf, TableRule.Rule}
 use Rattle.shared_tables.proofs.TableParties.{table_keeps_parties}
-use Rattle.shared_parties.proofs.Sharings.{false_if}
-use Rattle.shared_parties.proofs.Alone.{Alone, alone}
+use Rattle.shared_parties.proofs.{Sharings.false_if, Alone.Alone, Alone.alone}
 
 -- what is so of a table by its rule, where the seat id has all of the share
 pub record OnlyParty {T : Type 0} (K : TableOf T) (s : Table T) (id : ℕ) (d : CallState T) (rule : Rule K s) : Type 0 where

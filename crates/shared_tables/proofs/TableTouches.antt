@@ -2,15 +2,8 @@
 use Rattle.std.proofs.Common.{◌≡◌, ℕ, List, [], ◌∷◌, Option, refl, ap, sym, ◌∙◌, subst, inl, inr}
 use Rattle.atomic_table.specs.Table.{rest}
 use Rattle.queue_laws.specs.Common.Vocabulary.{Call, Op, Touch, Local}
-use Rattle.shared_parties.specs.declared.known.InCall.{InCall}
-use Rattle.shared_parties.specs.declared.known.Work.TheVariants as work
-use Rattle.shared_tables.specs.Seats.{Seated}
-use Rattle.shared_parties.specs.Calling.{touched_list, handed_by, lies_in}
-use Rattle.shared_tables.specs.TableRule.{TableOf}
-use Rattle.shared_parties.specs.CallsAt.{Ready}
-use Rattle.shared_tables.specs.AtTable.{CanTouch, Touched, Swapped}
-use Rattle.shared_parties.specs.Called.{call_of_work}
-use Rattle.shared_tables.specs.TableTurns.{CanDo, CanOperate, call_at}
+use Rattle.shared_parties.specs.{declared.known.InCall.InCall, declared.known.Work.Work as work, Calling.touched_list, Calling.handed_by, Calling.lies_in, CallsAt.Ready, Called.call_of_work}
+use Rattle.shared_tables.specs.{Seats.Seated, TableRule.TableOf, AtTable.CanTouch, AtTable.Touched, AtTable.Swapped, TableTurns.CanDo, TableTurns.CanOperate, TableTurns.call_at}
 
 module _ {T : Type 0} (K : TableOf T) where
   pub can_touch : (m : Seated T) (l : Local ℕ) (u : Touch) (o : Op ℕ) (x : Option T) (c : InCall T) → CanDo K m l u o x c → CanTouch u m

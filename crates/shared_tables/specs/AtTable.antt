@@ -1,10 +1,8 @@
 -- A party's seat at the table of a shared queue: between calls, where a slot is touched, and when a call ended.
 use Rattle.std.specs.Prelude.{◌≡◌, ℕ, ◌∷◌, Option}
-use Rattle.atomic_table.specs.Table.{rest}
-use Rattle.atomic_table.specs.Seated.{TableId}
+use Rattle.atomic_table.specs.{Table.rest, Seated.TableId}
 use Rattle.queue_laws.specs.Common.Vocabulary.{Call, Reply, Touch}
-use Rattle.queue_steps.specs.Effect.{IsHistory}
-use Rattle.queue_steps.specs.Parties.{SharedCall}
+use Rattle.queue_steps.specs.{Effect.IsHistory, Parties.SharedCall}
 use Rattle.shared_tables.specs.Seats.{Seated, Rests, view_at}
 use Rattle.shared_parties.specs.CallStates.{HasAll}
 

@@ -1,11 +1,8 @@
 -- A call at a table that is given up.
 use Rattle.std.specs.Prelude.{◌≡◌, []}
 use Rattle.queue_steps.specs.Kinds.{call_value}
-use Rattle.shared_parties.specs.declared.known.Work.TheVariants as work
-use Rattle.shared_parties.specs.Calling.{CallsOf}
-use Rattle.shared_parties.specs.Quitting.{its_call, Quit}
-use Rattle.shared_tables.specs.Early.{IsEarly}
-use Rattle.shared_tables.specs.Seats.{Seated}
+use Rattle.shared_parties.specs.{declared.known.Work.Work as work, Calling.CallsOf, Quitting.its_call, Quitting.Quit}
+use Rattle.shared_tables.specs.{Early.IsEarly, Seats.Seated}
 
 -- the seat is at a call that has had no effect
 abbrev pub MayQuit : {T : Type 0} → Seated T → Type 0

@@ -2,9 +2,7 @@
 use Rattle.std.specs.Prelude.{◌≡◌, ℕ, [], Option, slice_index_or}
 use Rattle.atomic_table.specs.Table.{State, Me}
 use Rattle.queue_steps.specs.Parties.{View}
-use Rattle.shared_parties.specs.declared.known.CallState.{CallState}
-use Rattle.shared_parties.specs.Known.{view_of}
-use Rattle.shared_parties.specs.CallStates.{IsResting}
+use Rattle.shared_parties.specs.{declared.known.CallState.CallState, Known.view_of, CallStates.IsResting}
 
 -- a table, and what a seat knows and holds
 abbrev pub Table : Type 0 → Type 0

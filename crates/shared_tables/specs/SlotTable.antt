@@ -2,11 +2,7 @@
 use Rattle.std.specs.Prelude.{None, ◌≡◌, ℕ, List, [], ◌∷◌, Option}
 use mathlib.Core.Option.{some}
 use mathlib.Core.Option as maybe
-use Rattle.queue_laws.specs.Common.Vocabulary.{Kind}
-use Rattle.queue_laws.specs.Slot.SlotShared.{IsLock}
-use Rattle.queue_laws.specs.Slot.SlotHolder.{SlotHolder, Nobody}
-use Rattle.queue_laws.specs.Slot.SlotRows.{Codes, At}
-use Rattle.queue_laws.specs.Slot.SlotCells.{Slot, queue_of, own_in, Passes, Lent}
+use Rattle.queue_laws.specs.{Common.Vocabulary.Kind, Slot.SlotShared.IsLock, Slot.SlotHolder.SlotHolder, Slot.SlotHolder.Nobody, Slot.SlotRows.Codes, Slot.SlotRows.At, Slot.SlotCells.Slot, Slot.SlotCells.queue_of, Slot.SlotCells.own_in, Slot.SlotCells.Passes, Slot.SlotCells.Lent}
 use Rattle.shared_parties.specs.Calling.{CallsOf}
 use Rattle.shared_tables.specs.TableRule.{TableOf}
 

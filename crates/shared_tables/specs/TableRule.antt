@@ -4,18 +4,10 @@ use Rattle.std.specs.Int.{w64, bit_not}
 use mathlib.Core.Option.{some}
 use mathlib.Core.Option as maybe
 use Rattle.atomic_table.specs.Table.{Act, Valid, carried_after, homes_after}
-use Rattle.queue_laws.specs.Common.Vocabulary.{Call, Effect, Word, Op, Answer}
-use Rattle.queue_steps.specs.Kinds.{call_kind, call_value}
-use Rattle.queue_steps.specs.Next.{CanNext, first_local, next_of}
-use Rattle.queue_steps.specs.WaitFree.{is_wait_free, EndsWaitFree}
-use Rattle.queue_steps.specs.State.{State}
-use Rattle.queue_laws.specs.Common.Effects.{Leads, with_effect, MayFront}
-use Rattle.queue_laws.specs.Common.Stand.{Stand}
-use Rattle.shared_tables.specs.Early.{IsEarly}
-use Rattle.shared_tables.specs.Seats.{Table, count_of}
-use Rattle.queue_laws.specs.Common.Operations.{OnWord, op_word, op_makes, answer_for}
-use Rattle.shared_parties.specs.CallsAt.{CallsAt}
-use Rattle.shared_parties.specs.Calling.{CallsOf, CallLaws, touched_list, handed_by, NextOk, first_of, Opens}
+use Rattle.queue_laws.specs.Common.{Vocabulary.Call, Vocabulary.Effect, Vocabulary.Word, Vocabulary.Op, Vocabulary.Answer, Effects.Leads, Effects.with_effect, Effects.MayFront, Stand.Stand, Operations.OnWord, Operations.op_word, Operations.op_makes, Operations.answer_for}
+use Rattle.queue_steps.specs.{Kinds.call_kind, Kinds.call_value, Next.CanNext, Next.first_local, Next.next_of, WaitFree.is_wait_free, WaitFree.EndsWaitFree, State.State}
+use Rattle.shared_tables.specs.{Early.IsEarly, Seats.Table, Seats.count_of}
+use Rattle.shared_parties.specs.{CallsAt.CallsAt, Calling.CallsOf, Calling.CallLaws, Calling.touched_list, Calling.handed_by, Calling.NextOk, Calling.first_of, Calling.Opens}
 
 -- A kind of queue in a table: which of the steps' words it has and where, and how the words behind the count and the slots at home stand for its cells
 pub record TableOf (T : Type 0) : Type 1 where

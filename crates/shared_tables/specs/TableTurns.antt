@@ -1,20 +1,10 @@
 -- What a step of a call on a shared table asks of a party's seat, and what it tells; and so where a call stands for the driver.
 use Rattle.std.specs.Prelude.{◌≡◌, ℕ, Option, Some, None}
-use Rattle.queue_laws.specs.Common.Vocabulary.{Call, Reply, Op, Touch, Answer, Local, Next}
-use Rattle.queue_steps.specs.Kinds.{filled}
-use Rattle.queue_steps.specs.Next.{CanNext, next_of}
-use Rattle.queue_steps.specs.Parties.{SharedCall}
-use Rattle.shared_parties.specs.declared.known.InCall.{InCall}
-use Rattle.shared_parties.specs.declared.known.Work.TheVariants as work
-use Rattle.shared_tables.specs.Seats.{Seated, Rests, view_at}
-use Rattle.shared_parties.specs.CallsAt.{begun_at, Ready}
-use Rattle.shared_parties.specs.CallStates.{HasAll}
-use Rattle.shared_parties.specs.Calling.{cap_of, handed_by, HasTouched, touched_list}
-use Rattle.shared_tables.specs.TableRule.{TableOf, InTable}
-use Rattle.queue_laws.specs.Common.Operations.{answer_for}
+use Rattle.queue_laws.specs.Common.{Vocabulary.Call, Vocabulary.Reply, Vocabulary.Op, Vocabulary.Touch, Vocabulary.Answer, Vocabulary.Local, Vocabulary.Next, Operations.answer_for}
+use Rattle.queue_steps.specs.{Kinds.filled, Next.CanNext, Next.next_of, Parties.SharedCall}
+use Rattle.shared_parties.specs.{declared.known.InCall.InCall, declared.known.Work.Work as work, CallsAt.begun_at, CallsAt.Ready, CallStates.HasAll, Calling.cap_of, Calling.handed_by, Calling.HasTouched, Calling.touched_list, Called.called_at}
+use Rattle.shared_tables.specs.{Seats.Seated, Seats.Rests, Seats.view_at, TableRule.TableOf, TableRule.InTable, AtTable.TableSeat, AtTable.Ended}
 use Rattle.atomic_table.specs.Seated.{TableId}
-use Rattle.shared_tables.specs.AtTable.{TableSeat, Ended}
-use Rattle.shared_parties.specs.Called.{called_at}
 
 -- the call is at its next step, with v carried; or it ended as a shared call
 abbrev pub After : {T : Type 0} → TableOf T → InCall T → Option T → Next ℕ → Seated T → Type 0

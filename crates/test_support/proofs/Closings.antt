@@ -9,10 +9,8 @@ use denote.RawPtr.{Ptr}
 use Rattle.atomic_table.proofs.Lists.{at_set, at_snoc}
 use Rattle.mem_blocks.specs.Web.{Block, State, Sitter, block, Lives, word_of, with_word, KeepsRule, Allows, CanFork, CanMerge}
 use Rattle.test_support.specs.ClosingRule as told
-use Rattle.test_support.specs.ClosingRule.{mark, Begins, view, IsViewOf, ClosingHolds}
+use Rattle.test_support.specs.{ClosingRule.mark, ClosingRule.Begins, ClosingRule.view, ClosingRule.IsViewOf, ClosingRule.ClosingHolds, declared.closing_rule.View.View, declared.closing_rule.QueueEnds.QueueEnds}
 use Rattle.mem_blocks.specs.declared.sizes.TheConstants.{SLOTS}
-use Rattle.test_support.specs.declared.closing_rule.View.{View}
-use Rattle.test_support.specs.declared.closing_rule.QueueEnds.{QueueEnds}
 
 mark_is : (log : List ℕ) → (mark log ≡ 0) ⊎ (mark log ≡ 1)
 mark_is [] = inl refl

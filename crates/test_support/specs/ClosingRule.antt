@@ -3,8 +3,7 @@ use Rattle.std.specs.Prelude.{◌≡◌, ◌≢◌, ℕ, ◌<◌, List, [], ◌�
 use mathlib.Core.Option.{some}
 use lib.ListN.{get_elem?}
 use Rattle.mem_blocks.specs.Web.{State, Sitter, block, Lives, word_of}
-use Rattle.test_support.specs.declared.closing_rule.View.{View}
-use Rattle.test_support.specs.declared.closing_rule.QueueEnds.{QueueEnds}
+use Rattle.test_support.specs.declared.closing_rule.{View.View, QueueEnds.QueueEnds}
 
 -- 1 once the history has an effect.
 abbrev pub mark : List ℕ → ℕ

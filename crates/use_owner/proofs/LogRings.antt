@@ -2,15 +2,8 @@
 use Rattle.std.proofs.Common.{◌≡◌, ℕ, ◌+◌, ◌<◌, ◌≤◌, true, false, List, [], ◌∷◌, ◌++◌, length, Option, Some, None, Result, Err, refl, ap, sym, subst, ◌∙◌, inl, inr, arith, length-append, append-nil, append_assoc, add-zero}
 use Rattle.std.specs.Prelude.{◌⊎◌, IfSome}
 use Rattle.std.specs.Option.{option_to_list, unwrap_or}
-use Rattle.queue_steps.specs.declared.sizes.TheConstants.{LIMIT}
-use Rattle.queue_steps.specs.State.{State, is_single_cap}
-use Rattle.queue_steps.specs.Errors.{force_push_error_value}
-use Rattle.queue_steps.specs.Legal.{IsSound, IsSoundOwned, IsWithin}
-use Rattle.queue_steps.specs.Sequential.{Owned, counted}
-use Rattle.queue_steps.specs.declared.errors.ForcePushError.{ForcePushError}
-use Rattle.queue_steps.specs.declared.errors.ForcePushError.TheVariants as force
-use Rattle.use_owner.specs.Log.{Held, newest, with_all, Appends}
-use Rattle.use_owner.specs.LogRings.{capacity_of, held_by, IsLog}
+use Rattle.queue_steps.specs.{declared.sizes.TheConstants.LIMIT, State.State, State.is_single_cap, Errors.force_push_error_value, Legal.IsSound, Legal.IsSoundOwned, Legal.IsWithin, Sequential.Owned, Sequential.counted, declared.errors.ForcePushError.ForcePushError, declared.errors.ForcePushError.ForcePushError as force}
+use Rattle.use_owner.specs.{Log.Held, Log.newest, Log.with_all, Log.Appends, LogRings.capacity_of, LogRings.held_by, LogRings.IsLog}
 use Rattle.use_owner.proofs.Newest.{newest_all, newest_on, newest_one}
 
 module _ {T : Type 0} where

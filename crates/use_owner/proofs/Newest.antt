@@ -1,9 +1,7 @@
 -- The last items of a list.
 use Rattle.std.proofs.Common.{◌≡◌, ℕ, ◌+◌, ◌-◌, ◌≤◌, List, [], ◌∷◌, ◌++◌, length, drop, Option, Some, None, inl, inr, refl, ap, sym, subst, ◌∙◌, arith, length-append}
-use Rattle.std.specs.Prelude.{IfSome}
-use Rattle.std.specs.Option.{option_to_list}
-use Rattle.std.proofs.lemmas.List.{drop-append-le, drop-drop, length-drop}
-use Rattle.std.proofs.lemmas.Bool.Decides.{leb_tells}
+use Rattle.std.specs.{Prelude.IfSome, Option.option_to_list}
+use Rattle.std.proofs.lemmas.{List.drop-append-le, List.drop-drop, List.length-drop, Bool.Decides.leb_tells}
 use Rattle.use_owner.specs.Log.{newest}
 
 module _ {T : Type 0} where

@@ -2,9 +2,7 @@
 use Rattle.std.proofs.Common.{◌≡◌, ◌≢◌, ℕ, zero, suc, ◌+◌, ◌<◌, List, [], ◌∷◌, ◌++◌, length, ⊎_elim, refl, sym, subst, arith}
 use Rattle.std.specs.List.{All, Contains}
 use Rattle.std.proofs.lemmas.List.Elements.{All-nil, All-push, All-head, All-cons, All-weaker, All-get_or, Contains-get_or, Contains-push, Contains-push_cases, Contains-append_left, Contains-append_right}
-use Rattle.std.proofs.lemmas.List.Kept.{AllPairs-cons}
-use Rattle.std.proofs.lemmas.List.Quantifiers.{all_pairs_push}
-use Rattle.std.proofs.lemmas.Map.Made.{Contains-tail}
+use Rattle.std.proofs.lemmas.{List.Kept.AllPairs-cons, List.Quantifiers.all_pairs_push, Map.Made.Contains-tail}
 use Rattle.queue_laws.proofs.History.Numbers.{AreDistinct, distinct_few}
 use Rattle.use_owner.specs.Pool.{Places, numbers, IsOut, Takes, GivesBack}
 

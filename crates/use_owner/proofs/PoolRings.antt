@@ -1,21 +1,11 @@
 -- What the calls of a ring do to the pool that it keeps.
 use Rattle.std.proofs.Common.{◌≡◌, ℕ, zero, suc, ◌+◌, ◌<◌, ◌≤◌, true, false, [], ◌∷◌, ◌++◌, length, Option, Some, None, Result, Ok, Err, refl, ap, sym, subst, ◌∙◌, inl, inr, arith, length-append}
 use Rattle.std.specs.Prelude.{◌⊎◌, IfOk}
-use Rattle.std.specs.Option.{unwrap_or}
-use Rattle.std.specs.Result.{result_ok}
-use Rattle.std.specs.List.{All}
+use Rattle.std.specs.{Option.unwrap_or, Result.result_ok, List.All}
 use Rattle.std.proofs.lemmas.List.Elements.{All-push, All-tail}
-use Rattle.queue_steps.specs.declared.sizes.TheConstants.{LIMIT, MAX_CAPACITY}
-use Rattle.queue_steps.specs.State.{State, is_single_cap}
-use Rattle.queue_steps.specs.Errors.{push_error_value}
-use Rattle.queue_steps.specs.Sequential.{Owned, counted}
-use Rattle.queue_steps.specs.declared.errors.PopError.{PopError}
-use Rattle.queue_steps.specs.declared.errors.PopError.TheVariants as pop
-use Rattle.queue_steps.specs.declared.errors.PushError.{PushError}
-use Rattle.queue_steps.specs.declared.errors.PushError.TheVariants as push
+use Rattle.queue_steps.specs.{declared.sizes.TheConstants.LIMIT, declared.sizes.TheConstants.MAX_CAPACITY, State.State, State.is_single_cap, Errors.push_error_value, Sequential.Owned, Sequential.counted, declared.errors.PopError.PopError, declared.errors.PopError.PopError as pop, declared.errors.PushError.PushError, declared.errors.PushError.PushError as push}
 use Rattle.queue_laws.proofs.History.Numbers.{AreDistinct}
-use Rattle.use_owner.specs.Pool.{numbers, IsOut, TakesOne, Takes, GivesBack}
-use Rattle.use_owner.specs.PoolRings.{count_of, places_of, IsPool}
+use Rattle.use_owner.specs.{Pool.numbers, Pool.IsOut, Pool.TakesOne, Pool.Takes, Pool.GivesBack, PoolRings.count_of, PoolRings.places_of, PoolRings.IsPool}
 use Rattle.use_owner.proofs.Places.{numbers_below, numbers_once, once_more, once_less, fits, takes_first, gives_last}
 
 -- the ring as a call leaves it keeps a pool too

@@ -1,8 +1,7 @@
 -- The ring that keeps a log.
 use Rattle.std.specs.Prelude.{◌≡◌, ℕ, ◌<◌, true, Some}
 use Rattle.std.specs.Option.{unwrap_or}
-use Rattle.queue_steps.specs.declared.sizes.TheConstants.{LIMIT}
-use Rattle.queue_steps.specs.Sequential.{Owned}
+use Rattle.queue_steps.specs.{declared.sizes.TheConstants.LIMIT, Sequential.Owned}
 use Rattle.use_owner.specs.Log.{Held}
 
 abbrev pub capacity_of : {T : Type 0} → Owned T → ℕ

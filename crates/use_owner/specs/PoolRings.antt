@@ -1,9 +1,7 @@
 -- The ring that keeps a pool.
 use Rattle.std.specs.Prelude.{◌≡◌, ◌≢◌, ℕ, ◌<◌, true, Some}
-use Rattle.std.specs.List.{All, AllPairs}
-use Rattle.std.specs.Option.{unwrap_or}
-use Rattle.queue_steps.specs.declared.sizes.TheConstants.{LIMIT}
-use Rattle.queue_steps.specs.Sequential.{Owned}
+use Rattle.std.specs.{List.All, List.AllPairs, Option.unwrap_or}
+use Rattle.queue_steps.specs.{declared.sizes.TheConstants.LIMIT, Sequential.Owned}
 use Rattle.use_owner.specs.Pool.{Places}
 
 abbrev pub count_of : Owned ℕ → ℕ

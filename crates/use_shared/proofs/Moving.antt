@@ -1,26 +1,12 @@
 -- What the calls of a worker move.
 use Rattle.std.proofs.Common.{◌≡◌, ℕ, ◌+◌, ◌==◌, Bool, false, cond, List, [], ◌∷◌, Ok, Err, refl, ap, sym, subst, ◌∙◌, ⊎_elim, add-one, arith}
 use Rattle.std.specs.List.{count_by}
-use Rattle.queue_steps.specs.declared.model.Call.{Call}
-use Rattle.queue_steps.specs.declared.model.Reply.{Reply}
-use Rattle.queue_steps.specs.declared.model.Effect.{Effect}
-use Rattle.queue_steps.specs.declared.model.Call.TheVariants as call
-use Rattle.queue_steps.specs.declared.model.Reply.TheVariants as reply
-use Rattle.queue_steps.specs.declared.model.Effect.TheVariants as effect
-use Rattle.queue_steps.specs.declared.errors.PopError.{PopError}
-use Rattle.queue_steps.specs.declared.errors.PushError.{PushError}
-use Rattle.queue_steps.specs.declared.errors.PushError.TheVariants as push
-use Rattle.queue_steps.specs.Errors.{push_error_value}
-use Rattle.queue_steps.specs.Effect.{after, rest}
-use Rattle.queue_steps.specs.Sequential.{pop_result}
-use Rattle.queue_steps.specs.Shares.{Share, SamePart, IsEntire}
-use Rattle.queue_steps.specs.Parties.{IsView}
+use Rattle.queue_steps.specs.{declared.model.Call.Call, declared.model.Reply.Reply, declared.model.Effect.Effect, declared.model.Call.Call as call, declared.model.Reply.Reply as reply, declared.model.Effect.Effect as effect, declared.errors.PopError.PopError, declared.errors.PushError.PushError, declared.errors.PushError.PushError as push, Errors.push_error_value, Effect.after, Effect.rest, Sequential.pop_result, Shares.Share, Shares.SamePart, Shares.IsEntire, Parties.IsView}
 use Rattle.queue_steps.proofs.ShareLaws.{same_refl, same_trans}
 use Rattle.concurrent_queue.specs.Shared.{QueueId, PartyView, Calls}
 use Rattle.law_parties.specs.Doings.{hands_in_such, hands_out_such, Acts}
 use Rattle.law_parties.proofs.Doings.{single, acts}
-use Rattle.use_shared.specs.Sharing.{none, one, below, came, went, Moves, SeesNone}
-use Rattle.use_shared.specs.declared.tasks.executor.Worker.{Worker}
+use Rattle.use_shared.specs.{Sharing.none, Sharing.one, Sharing.below, Sharing.came, Sharing.went, Sharing.Moves, Sharing.SeesNone, declared.tasks.executor.Worker.Worker}
 
 -- a call of the party v, which is then p: so many of each number were handed in, and out
 pub record Turns {T : Type 0} (key : T → ℕ) (v p : PartyView T) (more less : ℕ → ℕ) : Type 0 where

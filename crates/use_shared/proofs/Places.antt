@@ -1,10 +1,7 @@
 -- Outputs that are put into the places of their numbers.
 use Rattle.std.proofs.Common.{◌≡◌, ◌≢◌, ◌⊎◌, ℕ, zero, suc, ◌+◌, ◌<◌, ◌==◌, cond, List, [], ◌∷◌, ◌++◌, length, map, get_or, set, replicate, Option, Some, None, slice_get, refl, ap, sym, subst, ◌∙◌, inl, inr, append-nil, length-append, arith}
 use Rattle.std.specs.List.{All, count_by}
-use Rattle.std.proofs.lemmas.List.Sums.{sum_by-append}
-use Rattle.std.proofs.lemmas.List.{get_or-set_same, get_or-set_other, get_or-replicate}
-use Rattle.std.proofs.lemmas.Bool.Decides.{eqb_tells}
-use Rattle.std.proofs.lemmas.Option.{slice_get_within}
+use Rattle.std.proofs.lemmas.{List.Sums.sum_by-append, List.get_or-set_same, List.get_or-set_other, List.get_or-replicate, Bool.Decides.eqb_tells, Option.slice_get_within}
 use Rattle.law_parties.proofs.Doings.{single}
 
 -- the outcome of the task that comes after so many

@@ -3,17 +3,11 @@ use Rattle.std.proofs.Common.{◌≡◌, ◌≢◌, ◌⊎◌, ℕ, zero, suc, �
 use Rattle.std.specs.List.{count_by}
 use Rattle.std.proofs.lemmas.Bool.Decides.{eqb_tells}
 use lib.ListN.{get_elem?}
-use Rattle.queue_steps.specs.declared.model.Effect.{Effect}
-use Rattle.queue_steps.specs.Effect.{after}
-use Rattle.queue_steps.specs.Legal.{IsSoundOwned}
-use Rattle.queue_steps.specs.Shares.{Share, SamePart, IsEntire}
-use Rattle.queue_steps.specs.Sequential.{Owned}
-use Rattle.queue_steps.specs.Parties.{IsView}
+use Rattle.queue_steps.specs.{declared.model.Effect.Effect, Effect.after, Legal.IsSoundOwned, Shares.Share, Shares.SamePart, Shares.IsEntire, Sequential.Owned, Parties.IsView}
 use Rattle.queue_steps.proofs.ShareLaws.{same_sym, same_trans, same_refl, halves_joined, entire_same}
 use Rattle.concurrent_queue.specs.Shared.{QueueId, PartyView, Parts, Joins, Finishes}
 use Rattle.law_parties.specs.Doings.{passes, done_by, hands_in_such, hands_out_such}
-use Rattle.law_parties.proofs.Doings.{unchanged, did_both}
-use Rattle.law_parties.proofs.Whole.{all_kept}
+use Rattle.law_parties.proofs.{Doings.unchanged, Doings.did_both, Whole.all_kept}
 use Rattle.use_shared.specs.Sharing.{none, one, below, Moves, IsFresh, AreParts, AreJoined, SeesNone, IsDone}
 use Rattle.use_shared.specs.declared.tasks.executor.Worker.{Worker}
 

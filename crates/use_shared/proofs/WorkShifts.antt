@@ -1,29 +1,14 @@
 -- What calls, partings and joinings add to the jobs that a party took.
 use Rattle.std.proofs.Common.{◌≡◌, ℕ, zero, suc, ◌+◌, ◌<◌, ◌≤◌, ◌==◌, Bool, true, false, cond, None, List, [], ◌∷◌, ◌++◌, Ok, Err, refl, ap, sym, subst, ◌∙◌, inl, inr, append_assoc, append-nil, length, map, arith}
 use Rattle.std.specs.List.{All, count_by}
-use Rattle.std.proofs.lemmas.Bool.Decides.{eqb_tells}
-use Rattle.std.proofs.lemmas.List.{length-map}
-use Rattle.std.proofs.lemmas.List.Elements.{All-head, All-tail}
-use Rattle.std.proofs.lemmas.List.Sums.{sum_by-cons, sum_by-append}
+use Rattle.std.proofs.lemmas.{Bool.Decides.eqb_tells, List.length-map, List.Elements.All-head, List.Elements.All-tail, List.Sums.sum_by-cons, List.Sums.sum_by-append}
 use lib.ListN.{get_elem?}
-use Rattle.queue_steps.specs.declared.model.Effect.{Effect}
-use Rattle.queue_steps.specs.declared.model.Effect.TheVariants as effect
-use Rattle.queue_steps.specs.declared.model.Call.TheVariants as call
-use Rattle.queue_steps.specs.declared.model.Reply.TheVariants as reply
-use Rattle.queue_steps.specs.declared.errors.PopError.{PopError}
-use Rattle.queue_steps.specs.Effect.{after}
-use Rattle.queue_steps.specs.Legal.{IsSoundOwned}
-use Rattle.queue_steps.specs.Sequential.{Owned}
-use Rattle.queue_steps.specs.Parties.{IsView}
+use Rattle.queue_steps.specs.{declared.model.Effect.Effect, declared.model.Effect.Effect as effect, declared.model.Call.Call as call, declared.model.Reply.Reply as reply, declared.errors.PopError.PopError, Effect.after, Legal.IsSoundOwned, Sequential.Owned, Parties.IsView}
 use Rattle.concurrent_queue.specs.Shared.{QueueId, PartyView, IsPartyOf, Calls, Finishes}
 use Rattle.law_parties.specs.Doings.{passes, done_by, hands_in, hands_out, Acts, SawDrained}
-use Rattle.law_parties.proofs.Doings.{acts, acts_on, single}
-use Rattle.law_parties.proofs.Drained.{still_drained, is_drained}
-use Rattle.law_parties.proofs.Whole.{all_there}
-use Rattle.queue_crew.specs.Work.{Piece, EachReports, IsPartOf, done_by_all, HasWorked}
-use Rattle.queue_crew.specs.declared.refusal.OnRefusal.TheVariants as refusal
-use Rattle.use_shared.specs.Work.{times, all_handed, appended, Took, HasTaken, Hauled}
-use Rattle.use_shared.specs.declared.work.Haul.{Haul}
+use Rattle.law_parties.proofs.{Doings.acts, Doings.acts_on, Doings.single, Drained.still_drained, Drained.is_drained, Whole.all_there}
+use Rattle.queue_crew.specs.{Work.Piece, Work.EachReports, Work.IsPartOf, Work.done_by_all, Work.HasWorked, declared.refusal.OnRefusal.OnRefusal as refusal}
+use Rattle.use_shared.specs.{Work.times, Work.all_handed, Work.appended, Work.Took, Work.HasTaken, Work.Hauled, declared.work.Haul.Haul}
 
 one_more : {X : Type 0} (test : X → Bool) (es : List X) (e : X) → count_by test (es ++ e ∷ []) ≡ count_by test es + cond (test e) 1 0
 one_more test es e = sum_by-append (λ f. cond (test f) 1 0) es (e ∷ []) ∙ ap (λ k. count_by test es + k) (single test e)

@@ -1,12 +1,9 @@
 -- What a worker does: how many items of each number its parties hand in and out.
 use Rattle.std.specs.Prelude.{◌≡◌, ℕ, zero, suc, ◌+◌, ◌<◌, ◌==◌, cond, [], Option, Some, None}
-use Rattle.queue_steps.specs.Shares.{SamePart, IsEntire}
+use Rattle.queue_steps.specs.{Shares.SamePart, Shares.IsEntire, Parties.IsView, Effect.after}
 use Rattle.concurrent_queue.specs.Shared.{PartyView, IsPartyOf, Parts, Joins}
-use Rattle.queue_steps.specs.Parties.{IsView}
-use Rattle.queue_steps.specs.Effect.{after}
 use Rattle.law_parties.specs.Doings.{done_by, hands_in_such, hands_out_such}
-use Rattle.use_shared.specs.declared.tasks.executor.Executor.{Executor}
-use Rattle.use_shared.specs.declared.tasks.executor.Worker.{Worker}
+use Rattle.use_shared.specs.declared.tasks.executor.{Executor.Executor, Worker.Worker}
 
 -- how many of each number: none, one of n, one of each below n
 abbrev pub none : ℕ → ℕ

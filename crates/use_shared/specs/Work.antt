@@ -1,12 +1,10 @@
 -- Which jobs were handed out, and what a worker has done.
 use Rattle.std.specs.Prelude.{◌≡◌, ℕ, zero, suc, ◌+◌, ◌<◌, ◌==◌, true, List, [], ◌∷◌, ◌++◌}
 use Rattle.std.specs.List.{count_by}
-use Rattle.queue_steps.specs.declared.model.Effect.{Effect}
-use Rattle.queue_steps.specs.declared.model.Effect.TheVariants as effect
+use Rattle.queue_steps.specs.declared.model.Effect.{Effect, Effect as effect}
 use Rattle.concurrent_queue.specs.Shared.{PartyView}
 use Rattle.law_parties.specs.Doings.{done_by, hands_in, hands_out, SawDrained}
-use Rattle.use_shared.specs.declared.work.Report.{Report}
-use Rattle.use_shared.specs.declared.work.Haul.{Haul}
+use Rattle.use_shared.specs.declared.work.{Report.Report, Haul.Haul}
 
 -- how often the job is in the list
 abbrev pub times : ℕ → List ℕ → ℕ

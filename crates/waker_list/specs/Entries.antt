@@ -2,9 +2,7 @@
 use Rattle.std.specs.Prelude.{◌≡◌, ◌⊎◌, true}
 use Rattle.futures.specs.declared.task.context.Context.{Context}
 use Rattle.event_count.specs.declared.wakes.seats.Seat.TheVariants.{Looking, Asleep}
-use Rattle.waker_list.specs.declared.place.entering.Entry.{Entry}
-use Rattle.waker_list.specs.declared.place.entering.Entry.TheVariants.{Look, Wait}
-use Rattle.waker_list.specs.declared.place.Place.{Place}
+use Rattle.waker_list.specs.declared.place.{entering.Entry.Entry, entering.Entry.TheVariants.Look, entering.Entry.TheVariants.Wait, Place.Place}
 
 module _ {C : Type 0} where
   -- its place is such

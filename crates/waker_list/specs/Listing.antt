@@ -1,10 +1,8 @@
 -- What becomes of a list under its lock.
 use Rattle.std.specs.Prelude.{◌≡◌, ℕ, [], ◌∷◌, ◌++◌, Option, Some, None}
 use Rattle.std.specs.Option.{option_to_list}
-use Rattle.futures.specs.WaitList.{WaitList, queue, IsQueued, IsParkedAt}
-use Rattle.futures.specs.declared.task.context.Context.{Context}
-use Rattle.event_count.specs.declared.wakes.seats.ListStep.{ListStep}
-use Rattle.event_count.specs.declared.wakes.seats.ListStep.TheVariants.{TakeOne, TakeAll}
+use Rattle.futures.specs.{WaitList.WaitList, WaitList.queue, WaitList.IsQueued, WaitList.IsParkedAt, declared.task.context.Context.Context}
+use Rattle.event_count.specs.declared.wakes.seats.ListStep.{ListStep, TheVariants.TakeOne, TheVariants.TakeAll}
 use Rattle.waker_list.specs.declared.state.Joined.{Joined}
 
 abbrev Waiters : Type 0

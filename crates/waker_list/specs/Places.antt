@@ -1,10 +1,7 @@
 -- Where a future is between its steps.
 use Rattle.std.specs.Prelude.{◌≡◌, ◌⊎◌, Bool, true, false, Option, Some, None, IsTrue, is_some, if◌then◌else◌}
 use Rattle.futures.specs.declared.util.wait_list.Ticket.{Ticket}
-use Rattle.event_count.specs.declared.wakes.seats.Seat.{Seat}
-use Rattle.event_count.specs.declared.wakes.seats.Seat.TheVariants.{Away, Looking, Asleep, Told, Given}
-use Rattle.event_count.specs.Sleep.Lists.{is_on}
-use Rattle.event_count.specs.Sleep.Seats.{taken_off_of, left_of}
+use Rattle.event_count.specs.{declared.wakes.seats.Seat.Seat, declared.wakes.seats.Seat.TheVariants.Away, declared.wakes.seats.Seat.TheVariants.Looking, declared.wakes.seats.Seat.TheVariants.Asleep, declared.wakes.seats.Seat.TheVariants.Told, declared.wakes.seats.Seat.TheVariants.Given, Sleep.Lists.is_on, Sleep.Seats.taken_off_of, Sleep.Seats.left_of}
 
 abbrev pub is_away : Seat → Bool
 is_away Away = true

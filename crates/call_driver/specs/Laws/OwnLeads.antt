@@ -1,22 +1,8 @@
 -- A run of one owner that ends is a call that leads on at every step.
 use Rattle.std.specs.Prelude.{◌≡◌, ℕ, zero, suc, Option, Some, None}
 use Rattle.std.proofs.Common.{sym, subst}
-use Rattle.queue_steps.specs.declared.model.Call.{Call}
-use Rattle.queue_steps.specs.declared.model.Reply.{Reply}
-use Rattle.queue_steps.specs.declared.steps.types.Kind.{Kind}
-use Rattle.queue_steps.specs.declared.steps.types.Answer.{Answer}
-use Rattle.queue_steps.specs.declared.steps.types.Answer.TheVariants as answer
-use Rattle.queue_steps.specs.declared.steps.types.Next.{Next}
-use Rattle.queue_steps.specs.declared.steps.types.Next.TheVariants as next
-use Rattle.queue_steps.specs.declared.steps.types.Op.{Op}
-use Rattle.queue_steps.specs.declared.steps.types.Touch.{Touch}
-use Rattle.queue_steps.specs.declared.steps.types.Local.{Local}
-use Rattle.queue_steps.specs.Next.{next_of, first_local}
-use Rattle.queue_steps.specs.Kinds.{call_kind, call_value, filled}
-use Rattle.queue_steps.specs.Sequential.{Owned}
-use Rattle.call_driver.specs.EndsIn.{EndsIn, EndsRight, Answered}
-use Rattle.call_driver.specs.Leads.{Leads, GoesOn, Begins}
-use Rattle.call_driver.specs.Own.{MayTake, Took, EndsRightFrom, Ended}
+use Rattle.queue_steps.specs.{declared.model.Call.Call, declared.model.Reply.Reply, declared.steps.types.Kind.Kind, declared.steps.types.Answer.Answer, declared.steps.types.Answer.Answer as answer, declared.steps.types.Next.Next, declared.steps.types.Next.Next as next, declared.steps.types.Op.Op, declared.steps.types.Touch.Touch, declared.steps.types.Local.Local, Next.next_of, Next.first_local, Kinds.call_kind, Kinds.call_value, Kinds.filled, Sequential.Owned}
+use Rattle.call_driver.specs.{EndsIn.EndsIn, EndsIn.EndsRight, EndsIn.Answered, Leads.Leads, Leads.GoesOn, Leads.Begins, Own.MayTake, Own.Took, Own.EndsRightFrom, Own.Ended}
 
 module _ {T B C : Type 0} (can_touch : C → Touch → Op B → Type 0) (touches : C → Touch → Op B → Option T → C → Option T → Type 0)
     (can_perform : C → Op B → Type 0) (performs : C → Op B → Answer B → C → Type 0) where

@@ -3,18 +3,7 @@ use Rattle.std.proofs.Common.{◌≡◌, ◌⊎◌, inl, inr, ℕ, zero, suc, Bo
 use mathlib.Core.Option.{some, some-injective, some-ne-none}
 use mathlib.Core.List.{IsPrefix}
 use lib.ListN.{get_elem?}
-use Rattle.queue_steps.specs.declared.model.Call.{Call}
-use Rattle.queue_steps.specs.declared.model.Call.TheVariants as call
-use Rattle.queue_steps.specs.declared.model.Reply.{Reply}
-use Rattle.queue_steps.specs.declared.model.Reply.TheVariants as reply
-use Rattle.queue_steps.specs.declared.model.Effect.{Effect}
-use Rattle.queue_steps.specs.declared.model.Effect.TheVariants as effect
-use Rattle.queue_steps.specs.declared.errors.PushError.TheVariants as push
-use Rattle.queue_steps.specs.declared.errors.ForcePushError.TheVariants as force
-use Rattle.queue_steps.specs.State.{State, start}
-use Rattle.queue_steps.specs.Effect.{Runs, IsHistory, made, after_from, after}
-use Rattle.queue_steps.specs.Replies.{Tells, Allows}
-use Rattle.queue_steps.specs.Parties.{View, StandAt, SharedCall}
+use Rattle.queue_steps.specs.{declared.model.Call.Call, declared.model.Call.Call as call, declared.model.Reply.Reply, declared.model.Reply.Reply as reply, declared.model.Effect.Effect, declared.model.Effect.Effect as effect, declared.errors.PushError.PushError as push, declared.errors.ForcePushError.ForcePushError as force, State.State, State.start, Effect.Runs, Effect.IsHistory, Effect.made, Effect.after_from, Effect.after, Replies.Tells, Replies.Allows, Parties.View, Parties.StandAt, Parties.SharedCall}
 use Rattle.queue_steps.proofs.Keeping.{stays_closed}
 use Rattle.concurrent_queue.specs.Shared.{QueueId, PartyView, Calls}
 use Rattle.counted_channel.specs.QueueCalls.Calls.{Ends, HasSeenClosed}

@@ -1,22 +1,8 @@
 -- Which replies of the queue a channel's answers are, and what its last end does.
 use Rattle.std.specs.Prelude.{◌≡◌, Bool, true, false, Result, Ok, Err, Option, Some, None}
-use Rattle.queue_steps.specs.declared.model.Call.TheVariants as call
-use Rattle.queue_steps.specs.declared.model.Reply.{Reply}
-use Rattle.queue_steps.specs.declared.model.Reply.TheVariants as reply
-use Rattle.queue_steps.specs.declared.errors.PopError.TheVariants as pop
-use Rattle.queue_steps.specs.declared.errors.PushError.TheVariants as push
-use Rattle.queue_steps.specs.declared.errors.ForcePushError.TheVariants as force
-use Rattle.queue_steps.specs.Effect.{after}
+use Rattle.queue_steps.specs.{declared.model.Call.Call as call, declared.model.Reply.Reply, declared.model.Reply.Reply as reply, declared.errors.PopError.PopError as pop, declared.errors.PushError.PushError as push, declared.errors.ForcePushError.ForcePushError as force, Effect.after}
 use Rattle.concurrent_queue.specs.Shared.{PartyView, Calls}
-use Rattle.counted_channel.specs.declared.calls.errors.SendError.{SendError}
-use Rattle.counted_channel.specs.declared.calls.errors.SendError.TheVariants as send
-use Rattle.counted_channel.specs.declared.calls.errors.Disconnected.{Disconnected}
-use Rattle.counted_channel.specs.declared.calls.waited.Pushed.{Pushed}
-use Rattle.counted_channel.specs.declared.calls.waited.Pushed.TheVariants as put
-use Rattle.counted_channel.specs.declared.calls.waited.ForcePushed.{ForcePushed}
-use Rattle.counted_channel.specs.declared.calls.waited.ForcePushed.TheVariants as forced
-use Rattle.counted_channel.specs.declared.calls.waited.Popped.{Popped}
-use Rattle.counted_channel.specs.declared.calls.waited.Popped.TheVariants as taken
+use Rattle.counted_channel.specs.declared.calls.{errors.SendError.SendError, errors.SendError.SendError as send, errors.Disconnected.Disconnected, waited.Pushed.Pushed, waited.Pushed.Pushed as put, waited.ForcePushed.ForcePushed, waited.ForcePushed.ForcePushed as forced, waited.Popped.Popped, waited.Popped.Popped as taken}
 
 -- the replies of the queue that the channel's answers stand for
 abbrev pub sent : {T : Type 0} → Result (Unit {0}) (SendError T) → Reply T

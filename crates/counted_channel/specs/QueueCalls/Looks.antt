@@ -1,12 +1,6 @@
 -- Which tickets are left where a call looked in vain.
-use Rattle.event_count.specs.declared.patience.Look.{Look}
-use Rattle.event_count.specs.Looks.{IsInVain}
-use Rattle.counted_channel.specs.declared.calls.waited.Items.{Items}
-use Rattle.counted_channel.specs.declared.calls.waited.Room.{Room}
-use Rattle.counted_channel.specs.declared.calls.waited.Pushed.{Pushed}
-use Rattle.counted_channel.specs.declared.calls.waited.Pushed.TheVariants as pushed
-use Rattle.counted_channel.specs.declared.calls.waited.Popped.{Popped}
-use Rattle.counted_channel.specs.declared.calls.waited.Popped.TheVariants as popped
+use Rattle.event_count.specs.{declared.patience.Look.Look, Looks.IsInVain}
+use Rattle.counted_channel.specs.declared.calls.waited.{Items.Items, Room.Room, Pushed.Pushed, Pushed.Pushed as pushed, Popped.Popped, Popped.Popped as popped}
 
 -- who found no room, or no item, has a ticket to sleep on exactly if the look was made with one
 abbrev pub FullKeepsTicket : {T : Type 0} → Look Room → Pushed T → Type 0

@@ -1,26 +1,10 @@
 -- What one call that a future makes comes to, and which list the future is at after it.
 use Rattle.std.specs.Prelude.{◌≡◌, false, Ok, Err}
-use Rattle.queue_steps.specs.declared.model.Call.{Call}
-use Rattle.queue_steps.specs.declared.model.Call.TheVariants as call
-use Rattle.queue_steps.specs.declared.model.Reply.TheVariants as reply
-use Rattle.queue_steps.specs.declared.errors.PopError.TheVariants as pop
-use Rattle.queue_steps.specs.declared.errors.PushError.TheVariants as push
-use Rattle.concurrent_queue.specs.SawMore.{SawMore}
-use Rattle.concurrent_queue.specs.Shared.{QueueId, PartyView, IsPartyOf, Calls}
+use Rattle.queue_steps.specs.declared.{model.Call.Call, model.Call.Call as call, model.Reply.Reply as reply, errors.PopError.PopError as pop, errors.PushError.PushError as push}
+use Rattle.concurrent_queue.specs.{SawMore.SawMore, Shared.QueueId, Shared.PartyView, Shared.IsPartyOf, Shared.Calls}
 use Rattle.event_count.specs.Sleep.Seats.{looked_of}
-use Rattle.waker_list.specs.declared.place.Place.{Place}
-use Rattle.waker_list.specs.declared.place.Look.{Look}
-use Rattle.waker_list.specs.declared.place.Missed.{Missed}
-use Rattle.counted_channel.specs.declared.calls.waited.Items.{Items}
-use Rattle.counted_channel.specs.declared.calls.waited.Room.{Room}
-use Rattle.counted_channel.specs.declared.calls.polled.At.{At}
-use Rattle.counted_channel.specs.declared.calls.polled.At.TheVariants as at
-use Rattle.counted_channel.specs.declared.calls.polled.Attempt.{Attempt}
-use Rattle.counted_channel.specs.declared.calls.polled.Attempt.TheVariants as attempt
-use Rattle.counted_channel.specs.declared.calls.polled.PolledPop.{PolledPop}
-use Rattle.counted_channel.specs.declared.calls.polled.PolledPop.TheVariants as popped
-use Rattle.counted_channel.specs.declared.calls.polled.PolledPush.{PolledPush}
-use Rattle.counted_channel.specs.declared.calls.polled.PolledPush.TheVariants as pushed
+use Rattle.waker_list.specs.declared.place.{Place.Place, Look.Look, Missed.Missed}
+use Rattle.counted_channel.specs.declared.calls.{waited.Items.Items, waited.Room.Room, polled.At.At, polled.At.At as at, polled.Attempt.Attempt, polled.Attempt.Attempt as attempt, polled.PolledPop.PolledPop, polled.PolledPop.PolledPop as popped, polled.PolledPush.PolledPush, polled.PolledPush.PolledPush as pushed}
 
 module _ {T A : Type 0} where
   -- the party, as it was before the pop that it is in

@@ -1,7 +1,6 @@
 -- How many of a list are such, once one of it is another.
 use Rattle.std.proofs.Common.{◌≡◌, ◌≢◌, ◌⊎◌, inl, inr, ℕ, zero, suc, ◌+◌, ◌≤◌, Bool, true, false, cond, Some, List, [], ◌∷◌, map, replicate, count_by, slice_get, slice_set, refl, ap, subst, arith}
-use Rattle.std.proofs.lemmas.List.Sums.{sum_by-cons, sum_by-set, get_or-le-sum_by}
-use Rattle.std.proofs.lemmas.Option.{slice_get_within, get_or_from_slice_get}
+use Rattle.std.proofs.lemmas.{List.Sums.sum_by-cons, List.Sums.sum_by-set, List.Sums.get_or-le-sum_by, Option.slice_get_within, Option.get_or_from_slice_get}
 
 abbrev pub one : {X : Type 0} → (X → Bool) → X → ℕ
 one f x = cond (f x) 1 0

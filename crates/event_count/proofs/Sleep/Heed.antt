@@ -1,9 +1,6 @@
 -- How many parties are on the way to sleep, and how many go to wake them.
 use Rattle.std.proofs.Common.{◌≡◌, ◌⊎◌, inl, inr, ℕ, ◌+◌, ◌≤◌, ◌==◌, Bool, true, false, Some, List, count_by, slice_get, slice_set, arith, le_refl}
-use Rattle.event_count.specs.declared.wakes.steps.Phase.TheVariants.{Prepared, Missed, Given, Taking, Moving, Waking}
-use Rattle.event_count.specs.declared.wakes.steps.Whom.TheVariants.{One, All}
-use Rattle.event_count.specs.Sleep.World.{Party, Awake, is_asleep}
-use Rattle.event_count.specs.Sleep.Laws.{is_woken, is_rousing}
+use Rattle.event_count.specs.{declared.wakes.steps.Phase.TheVariants.Prepared, declared.wakes.steps.Phase.TheVariants.Missed, declared.wakes.steps.Phase.TheVariants.Given, declared.wakes.steps.Phase.TheVariants.Taking, declared.wakes.steps.Phase.TheVariants.Moving, declared.wakes.steps.Phase.TheVariants.Waking, declared.wakes.steps.Whom.TheVariants.One, declared.wakes.steps.Whom.TheVariants.All, Sleep.World.Party, Sleep.World.Awake, Sleep.World.is_asleep, Sleep.Laws.is_woken, Sleep.Laws.is_rousing}
 use Rattle.event_count.proofs.Sleep.Counts.{one, count_set}
 
 -- its ticket is what `EVENTS` is, so it may come to sleep

@@ -1,14 +1,9 @@
 -- Each step keeps that no item is left to nobody, while no party slept on a ticket that `EVENTS` was no longer.
 use Rattle.std.proofs.Common.{◌≡◌, ◌≢◌, inl, inr, ℕ, ◌+◌, ◌-◌, ◌≤◌, ◌==◌, Bool, true, false, cond, if◌then◌else◌, Option, Some, None, map, count_by, slice_get, slice_set, refl, sym, ap, ◌∙◌, subst, arith, le_refl, le_trans, eqb-true}
-use Rattle.event_count.specs.declared.wakes.steps.Phase.{Phase}
+use Rattle.event_count.specs.{declared.wakes.steps.Phase.Phase, declared.wakes.steps.Whom.TheVariants.One, declared.wakes.steps.Whom.TheVariants.All, Sleep.Steps.low, Sleep.Steps.step_of, Sleep.Laws.is_woken, Sleep.Laws.is_rousing}
 use Rattle.event_count.specs.declared.wakes.steps.Phase.TheVariants.{Idle, Starting, Loaded, Prepared, Missed, Returned, Given, Taking, Clearing, Moving, Waking}
-use Rattle.event_count.specs.declared.wakes.steps.Whom.TheVariants.{One, All}
-use Rattle.event_count.specs.Sleep.Steps.{low, step_of}
 use Rattle.event_count.specs.Sleep.World.{Party, Awake, Asleep, World, is_asleep, risen, put, goes_on, counts_late, wakes_one, takes}
-use Rattle.event_count.specs.Sleep.Laws.{is_woken, is_rousing}
-use Rattle.event_count.proofs.Sleep.Counts.{one, count_le, count_map, count_none, set_get, set_other, map_at}
-use Rattle.event_count.proofs.Sleep.Told.{Fits, Told, turned}
-use Rattle.event_count.proofs.Sleep.Telling.{same_risen, none_risen}
+use Rattle.event_count.proofs.Sleep.{Counts.one, Counts.count_le, Counts.count_map, Counts.count_none, Counts.set_get, Counts.set_other, Counts.map_at, Told.Fits, Told.Told, Told.turned, Telling.same_risen, Telling.none_risen}
 use Rattle.event_count.proofs.Sleep.Heed.{is_near, is_parking, is_unmoved, is_moving, is_waking, is_moving_all, moving_rouses, tally_of, part, unless, no_fewer, Covers, Heeds, swaps, Owes, owes_keeps, alike, empty_keeps, both, two_swaps}
 
 abbrev pub Heeded : World → Type 0

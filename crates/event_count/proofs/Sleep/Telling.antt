@@ -1,13 +1,9 @@
 -- Each event keeps what those may rely on that wait for what all wait for.
 use Rattle.std.proofs.Common.{◌≡◌, ◌≢◌, ◌⊎◌, inl, inr, ℕ, ◌+◌, ◌-◌, ◌^◌, ◌<◌, ◌≤◌, ◌==◌, Bool, true, false, cond, if◌then◌else◌, Option, Some, None, map, count_by, slice_get, slice_set, refl, sym, ap, ◌∙◌, subst, arith, le_refl, le_trans, eqb-true, eq-eqb}
 use Rattle.std.proofs.Math.Nat.{eq-or-lt_of_le}
-use Rattle.event_count.specs.declared.wakes.steps.Phase.{Phase}
+use Rattle.event_count.specs.{declared.wakes.steps.Phase.Phase, declared.wakes.steps.Whom.Whom, declared.wakes.steps.Whom.TheVariants.One, declared.wakes.steps.Whom.TheVariants.All, Sleep.Steps.low, Sleep.Steps.step_of, Sleep.Laws.is_telling}
 use Rattle.event_count.specs.declared.wakes.steps.Phase.TheVariants.{Idle, Starting, Loaded, Prepared, Missed, Returned, Given, Taking, Clearing, Moving, Waking}
-use Rattle.event_count.specs.declared.wakes.steps.Whom.{Whom}
-use Rattle.event_count.specs.declared.wakes.steps.Whom.TheVariants.{One, All}
-use Rattle.event_count.specs.Sleep.Steps.{low, step_of}
 use Rattle.event_count.specs.Sleep.World.{Party, Awake, Asleep, World, Event, Steps, Rises, Prepares, Looks, Leaves, Gives, Tells, is_asleep, risen, put, goes_on, counts_late, wakes_one, takes, rises, looks, leaves, prepares, gives, tells, acts, happens}
-use Rattle.event_count.specs.Sleep.Laws.{is_telling}
 use Rattle.event_count.proofs.Sleep.Counts.{one, count_set, count_le, count_map, count_none, set_get, set_other, map_get, map_at}
 use Rattle.event_count.proofs.Sleep.Told.{is_untold, is_plain, MayPark, MaySleep, Fits, Told, keeps, turned, turned_keeps, plain_keeps}
 

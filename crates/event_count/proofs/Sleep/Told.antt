@@ -1,9 +1,6 @@
 -- What each event keeps for those that wait for what all wait for.
 use Rattle.std.proofs.Common.{◌≡◌, ◌⊎◌, inl, inr, ℕ, ◌+◌, ◌^◌, ◌<◌, ◌≤◌, ◌==◌, Bool, true, false, Some, count_by, slice_get, slice_set, refl, sym, subst, arith}
-use Rattle.event_count.specs.declared.wakes.steps.Phase.TheVariants.{Loaded, Prepared, Missed, Clearing, Moving, Waking}
-use Rattle.event_count.specs.declared.wakes.steps.Whom.TheVariants.{All}
-use Rattle.event_count.specs.Sleep.World.{Party, Awake, Asleep, World, is_asleep}
-use Rattle.event_count.specs.Sleep.Laws.{is_telling}
+use Rattle.event_count.specs.{declared.wakes.steps.Phase.TheVariants.Loaded, declared.wakes.steps.Phase.TheVariants.Prepared, declared.wakes.steps.Phase.TheVariants.Missed, declared.wakes.steps.Phase.TheVariants.Clearing, declared.wakes.steps.Phase.TheVariants.Moving, declared.wakes.steps.Phase.TheVariants.Waking, declared.wakes.steps.Whom.TheVariants.All, Sleep.World.Party, Sleep.World.Awake, Sleep.World.Asleep, Sleep.World.World, Sleep.World.is_asleep, Sleep.Laws.is_telling}
 use Rattle.event_count.proofs.Sleep.Counts.{one, count_at, count_set, set_get}
 
 -- it made what all wait for come for the n-th time, and has not moved `EVENTS`

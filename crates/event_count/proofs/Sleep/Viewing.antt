@@ -1,10 +1,7 @@
 -- What a future does by what it knows is what it does where it is.
 use Rattle.std.proofs.Common.{◌≡◌, ◌⊎◌, inl, inr, Bool, true, false, refl, ap}
-use Rattle.event_count.specs.declared.wakes.seats.Seat.{Seat}
+use Rattle.event_count.specs.{declared.wakes.seats.Seat.Seat, Sleep.Lists.is_on, Sleep.Seats.entered_of, Sleep.Seats.looked_of, Sleep.Seats.taken_off_of, Sleep.Seats.left_of, Sleep.Views.is_behind, Sleep.Views.IsView, Sleep.Views.ViewsAgree}
 use Rattle.event_count.specs.declared.wakes.seats.Seat.TheVariants.{Away, Looking, Asleep, Told, Taken, Given, Waking, Telling, Calling}
-use Rattle.event_count.specs.Sleep.Lists.{is_on}
-use Rattle.event_count.specs.Sleep.Seats.{entered_of, looked_of, taken_off_of, left_of}
-use Rattle.event_count.specs.Sleep.Views.{is_behind, IsView, ViewsAgree}
 
 pops : (s : Seat) → is_on s ≡ true → IsView (taken_off_of s) s
 pops Looking on = inr refl

@@ -1,7 +1,6 @@
 -- Short runs, in which the first party waits and the others notify.
 use Rattle.std.specs.Prelude.{◌≡◌, ℕ, List, [], ◌∷◌, ◌++◌}
-use Rattle.event_count.specs.declared.wakes.steps.Phase.TheVariants.{Idle, Returned, Taking, Moving, Waking}
-use Rattle.event_count.specs.declared.wakes.steps.Whom.TheVariants.{One, All}
+use Rattle.event_count.specs.declared.wakes.steps.{Phase.TheVariants.Idle, Phase.TheVariants.Returned, Phase.TheVariants.Taking, Phase.TheVariants.Moving, Phase.TheVariants.Waking, Whom.TheVariants.One, Whom.TheVariants.All}
 use Rattle.event_count.specs.Sleep.World.{Party, Awake, Asleep, Event, Steps, Prepares, Looks, Gives, Tells, start, run}
 
 -- the first party prepares, and misses what it waits for

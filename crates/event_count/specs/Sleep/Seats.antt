@@ -1,9 +1,7 @@
 -- Where a party at a list of wakers is after what it does.
 use Rattle.std.specs.Prelude.{Bool, if◌then◌else◌}
-use Rattle.event_count.specs.declared.wakes.seats.Seat.{Seat}
+use Rattle.event_count.specs.declared.wakes.seats.{Seat.Seat, ListStep.ListStep, ListStep.TheVariants.Rest, ListStep.TheVariants.Load, ListStep.TheVariants.TakeOne, ListStep.TheVariants.TakeAll}
 use Rattle.event_count.specs.declared.wakes.seats.Seat.TheVariants.{Away, Looking, Asleep, Told, Taken, Given, Waking, Telling, Calling}
-use Rattle.event_count.specs.declared.wakes.seats.ListStep.{ListStep}
-use Rattle.event_count.specs.declared.wakes.seats.ListStep.TheVariants.{Rest, Load, TakeOne, TakeAll}
 
 -- what a notify does next
 abbrev pub step_of : Seat → ListStep

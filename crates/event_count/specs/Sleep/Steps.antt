@@ -1,11 +1,7 @@
 -- What a party does next, and where it is then.
 use Rattle.std.specs.Prelude.{ℕ, ◌%◌, ◌^◌, ◌==◌, Bool, if◌then◌else◌}
-use Rattle.event_count.specs.declared.wakes.steps.Phase.{Phase}
+use Rattle.event_count.specs.declared.wakes.steps.{Phase.Phase, Step.Step, Step.TheVariants.Rest, Step.TheVariants.Load, Step.TheVariants.Add, Step.TheVariants.Take, Step.TheVariants.Clear, Step.TheVariants.Park, Step.TheVariants.Wake, Whom.TheVariants.One, Whom.TheVariants.All, Word.Word as word}
 use Rattle.event_count.specs.declared.wakes.steps.Phase.TheVariants.{Idle, Starting, Loaded, Prepared, Missed, Returned, Given, Taking, Clearing, Moving, Waking}
-use Rattle.event_count.specs.declared.wakes.steps.Step.{Step}
-use Rattle.event_count.specs.declared.wakes.steps.Step.TheVariants.{Rest, Load, Add, Take, Clear, Park, Wake}
-use Rattle.event_count.specs.declared.wakes.steps.Whom.TheVariants.{One, All}
-use Rattle.event_count.specs.declared.wakes.steps.Word.TheVariants as word
 
 -- what a park compares
 abbrev pub low : ℕ → ℕ

@@ -1,17 +1,11 @@
 -- A chain: a call that has appended replies by its fourth step, whatever the other parties do.
 use Rattle.std.proofs.Common.{ℕ, ◌<◌, ◌≤◌, ◌≡◌, Bool, Option, Some, List, subst, arith}
-use Rattle.queue_steps.specs.State.{State}
-use Rattle.machine_replay.specs.Vocabulary.{Kind, Op, Touch, Local, Running}
-use Rattle.queue_steps.specs.declared.steps.unbounded.UnboundedLocal.TheVariants as chain
-use Rattle.queue_laws.specs.Common.Stand.{Stand}
-use Rattle.machine_replay.proofs.Engine.StandOf.{running_of}
-use Rattle.queue_laws.specs.Chain.ChainCells.{Chain}
-use Rattle.queue_laws.specs.Chain.ChainAt.{At, laying, opening, chaining, writing}
+use Rattle.queue_steps.specs.{State.State, declared.steps.unbounded.UnboundedLocal.UnboundedLocal as chain}
+use Rattle.machine_replay.specs.{Vocabulary.Kind, Vocabulary.Op, Vocabulary.Touch, Vocabulary.Local, Vocabulary.Running, Progress.AppendsReplyWithin}
+use Rattle.queue_laws.specs.{Common.Stand.Stand, Chain.ChainCells.Chain, Chain.ChainAt.At, Chain.ChainAt.laying, Chain.ChainAt.opening, Chain.ChainAt.chaining, Chain.ChainAt.writing}
+use Rattle.machine_replay.proofs.{Engine.StandOf.running_of, Progress.Appended.HasAppend, Progress.Appended.appends_reply, Chain.Stretch.chain_rules}
 use Rattle.machine_memory.specs.SharedMemory.{Shared}
 use Rattle.machine_steps.specs.Steps.{step_of}
-use Rattle.machine_replay.specs.Progress.{AppendsReplyWithin}
-use Rattle.machine_replay.proofs.Progress.Appended.{HasAppend, appends_reply}
-use Rattle.machine_replay.proofs.Chain.Stretch.{chain_rules}
 
 -- how many steps a call has before it that has appended
 to_write : Local ℕ → ℕ

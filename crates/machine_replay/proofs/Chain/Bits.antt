@@ -1,11 +1,8 @@
 -- What the steps of the calls do to the state word of a slot.
 use Rattle.std.proofs.Common.{ℕ, ◌≡◌, ◌≢◌, ◌==◌, not, ◌∙◌, inl, inr, false, refl, sym, ap, bit_and, bit_or}
-use Rattle.std.proofs.lemmas.Nat.{and_or_self, and_or_apart}
-use Rattle.std.proofs.lemmas.Bool.Decides.{eqb_tells}
-use Rattle.std.proofs.lemmas.Bool.{eq-eqb}
+use Rattle.std.proofs.lemmas.{Nat.and_or_self, Nat.and_or_apart, Bool.Decides.eqb_tells, Bool.eq-eqb}
 use Rattle.machine_replay.specs.Vocabulary.{WRITE, READ, DESTROY}
-use Rattle.queue_laws.specs.Chain.ChainCells.{Wrote, Done, Waits, Chain, item_at}
-use Rattle.queue_laws.specs.Chain.ChainAnswers.{is_wrote, is_done, waits_at, IsState}
+use Rattle.queue_laws.specs.Chain.{ChainCells.Wrote, ChainCells.Done, ChainCells.Waits, ChainCells.Chain, ChainCells.item_at, ChainAnswers.is_wrote, ChainAnswers.is_done, ChainAnswers.waits_at, ChainAnswers.IsState}
 use Rattle.machine_replay.proofs.Chain.Codes.{wrote_in, wrote_alike}
 
 -- a bit that is set, and one that is left

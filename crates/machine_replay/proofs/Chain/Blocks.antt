@@ -1,7 +1,6 @@
 -- What the machine's changes of a block do to the list of its blocks.
 use Rattle.std.proofs.Common.{ℕ, ◌<◌, ◌≡◌, ◌∙◌, inl, inr, Option, Some, None, List, length, refl, sym, ap, subst, get_or, set, get_or-set_same, get_or-set_other}
-use Rattle.std.proofs.lemmas.List.{get_or_past, length-set, set-set, set-get_or}
-use Rattle.std.proofs.lemmas.Bool.{cases_lt}
+use Rattle.std.proofs.lemmas.{List.get_or_past, List.length-set, List.set-set, List.set-get_or, Bool.cases_lt}
 use Rattle.machine_memory.specs.declared.blocks.BlockPlace.{BlockPlace}
 use Rattle.machine_memory.specs.Blocks.{Block, blank, places_in, with_place, with_next, state_of, put_state, put_item, put_next}
 use Rattle.machine_replay.proofs.Chain.Names.{Changed}

@@ -1,18 +1,12 @@
 -- What is owed of the shared memory at each step of a call on a chain.
 use Rattle.std.proofs.Common.{ℕ, ◌≡◌, Bool, List}
-use Rattle.queue_steps.specs.State.{State}
-use Rattle.queue_steps.specs.UnboundedNext.{unbounded_next}
+use Rattle.queue_steps.specs.{State.State, UnboundedNext.unbounded_next}
 use Rattle.machine_replay.specs.Vocabulary.{Kind}
-use Rattle.queue_laws.specs.Common.Stand.{Stand}
-use Rattle.machine_replay.proofs.Engine.StandOf.{running_of}
-use Rattle.queue_laws.specs.Chain.ChainCells.{Chain, ChainOk}
-use Rattle.queue_laws.specs.Chain.ChainAt.{At}
-use Rattle.queue_laws.specs.Chain.ChainAnswers.{Answers}
-use Rattle.queue_laws.specs.Chain.ChainAfter.{chain_of, carried_of, after_of, left_by}
+use Rattle.queue_laws.specs.{Common.Stand.Stand, Chain.ChainCells.Chain, Chain.ChainCells.ChainOk, Chain.ChainAt.At, Chain.ChainAnswers.Answers, Chain.ChainAfter.chain_of, Chain.ChainAfter.carried_of, Chain.ChainAfter.after_of, Chain.ChainAfter.left_by}
+use Rattle.machine_replay.proofs.{Engine.StandOf.running_of, Chain.Names.Codes}
 use Rattle.queue_laws.proofs.Chain.ChainRight.{Gives}
 use Rattle.machine_memory.specs.SharedMemory.{Shared, CanTouch, CanOperate, slots_there, block_touched}
 use Rattle.machine_steps.specs.Steps.{after_touch, carried_then, answer_to, shared_then}
-use Rattle.machine_replay.proofs.Chain.Names.{Codes}
 
 -- the words, the links and the blocks of the machine are those of the chain
 abbrev pub CodesShared : {A : Type 0} → Shared A → Chain A → Type 0

@@ -2,31 +2,15 @@
 use Rattle.std.proofs.Common.{ℕ, ◌+◌, ◌*◌, ◌/◌, ◌<◌, ◌≤◌, ◌≡◌, ◌≢◌, ◌==◌, ◌∙◌, ◌⊎◌, inl, inr, Bool, true, false, if◌then◌else◌, Option, IsSome, List, refl, sym, ap, subst, arith, None}
 use Rattle.std.proofs.lemmas.Bool.Decides.{eqb_tells}
 use Rattle.machine_replay.specs.Vocabulary.{Answer, BLOCK_SLOTS, TAIL_STEP, Look}
-use Rattle.queue_steps.specs.State.{State}
-use Rattle.queue_steps.specs.Looks.{IsCount}
-use Rattle.queue_steps.specs.Words.{IsWord, position_of}
-use Rattle.queue_steps.specs.ChainWords.{offset_of, items_before}
-use Rattle.queue_steps.specs.UnboundedNext.{unbounded_next}
-use Rattle.queue_steps.specs.declared.steps.unbounded.UnboundedLocal.TheVariants as chain
-use Rattle.queue_laws.specs.Common.Moments.{HeadWas, SeenIn}
+use Rattle.queue_steps.specs.{State.State, Looks.IsCount, Words.IsWord, Words.position_of, ChainWords.offset_of, ChainWords.items_before, UnboundedNext.unbounded_next, declared.steps.unbounded.UnboundedLocal.UnboundedLocal as chain}
+use Rattle.queue_laws.specs.{Common.Moments.HeadWas, Common.Moments.SeenIn, Chain.ChainAnswers.head_word, Chain.ChainAnswers.linked_of, Chain.ChainTransitions.taken, Chain.ChainAfter.taken_if, Chain.ChainAfter.if_taken}
 use Rattle.queue_laws.specs.Chain.ChainFacts.{place, head_of, HeadIs, IsNamed, HeadBlockIs, HeadBlockRead, IsMore, Got, SawEmpty}
 use Rattle.queue_laws.specs.Chain.ChainCells.{Writer, Writing, Wrote, Reader, Reading, Done, Stands as Rested, Passing, Entering, GivenUp, Chain, FrontOk, ChainOk, Read, Head, HoldsOnly, Nothing, item_at, Free, ItemOk}
-use Rattle.queue_laws.specs.Chain.ChainAnswers.{head_word, linked_of}
 use prog.Atomic.{either}
-use Rattle.machine_memory.specs.Blocks.{block_of, behind, behind_in, state_of}
-use Rattle.machine_memory.specs.SharedMemory.{Shared}
-use Rattle.machine_replay.proofs.Chain.Names.{Codes}
-use Rattle.machine_replay.proofs.Chain.Blocks.{state_is}
-use Rattle.machine_replay.proofs.Chain.Gives.{codes_left, block_at, has_place, state_answers, one_block}
-use Rattle.machine_replay.proofs.Chain.Coded.{CodesShared, Coded}
-use Rattle.queue_laws.proofs.Chain.ChainReads.{front_is}
-use Rattle.queue_laws.specs.Chain.ChainTransitions.{taken}
-use Rattle.queue_laws.specs.Chain.ChainAfter.{taken_if, if_taken}
-use Rattle.queue_laws.proofs.Chain.ChainAnswers.{same_head, head_offset}
+use Rattle.machine_memory.specs.{Blocks.block_of, Blocks.behind, Blocks.behind_in, Blocks.state_of, SharedMemory.Shared}
+use Rattle.machine_replay.proofs.Chain.{Names.Codes, Blocks.state_is, Gives.codes_left, Gives.block_at, Gives.has_place, Gives.state_answers, Gives.one_block, Coded.CodesShared, Coded.Coded, CodesPush.codes_marked, CodesPop.codes_taken, CodesPop.codes_passed, CodesPop.codes_entered}
+use Rattle.queue_laws.proofs.Chain.{ChainReads.front_is, ChainAnswers.same_head, ChainAnswers.head_offset, ChainReads.not_given_up}
 use Rattle.queue_laws.specs.Chain.ChainAt.{Only, Either, IsBehind, IsFurther, pop_head, pop_block, pop_tail, taking, following, peeking, passing, entering, awaiting, count_tail, count_head, count_again, empty_head, empty_tail, closing, closed_tail}
-use Rattle.queue_laws.proofs.Chain.ChainReads.{not_given_up}
-use Rattle.machine_replay.proofs.Chain.CodesPush.{codes_marked}
-use Rattle.machine_replay.proofs.Chain.CodesPop.{codes_taken, codes_passed, codes_entered}
 
 module _ {A : Type 0} (c : Chain A) (who : ℕ) (ms : List (State A)) (ok : Bool) (s : Shared A) where
   -- V1: the head is read

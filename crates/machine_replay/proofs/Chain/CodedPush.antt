@@ -1,33 +1,17 @@
 -- The shared memory at each step of a push on a chain.
 use Rattle.std.proofs.Common.{ℕ, ◌+◌, ◌/◌, ◌%◌, ◌<◌, ◌≤◌, ◌≡◌, ◌≢◌, ◌==◌, ◌^◌, ◌∙◌, ◌⊎◌, inl, inr, zero, suc, Bool, true, false, if◌then◌else◌, Option, Some, None, IsSome, List, length, refl, sym, ap, subst, arith, get_or, bit_or}
-use Rattle.std.proofs.lemmas.List.{length-set}
-use Rattle.std.proofs.lemmas.Bool.Decides.{eqb_tells}
+use Rattle.std.proofs.lemmas.{List.length-set, Bool.Decides.eqb_tells}
 use Rattle.machine_replay.specs.Vocabulary.{Answer, Next, PushKind, LIMIT, BLOCK_SLOTS, TAIL_STEP, WRITE}
-use Rattle.queue_steps.specs.State.{State}
-use Rattle.queue_steps.specs.ChainWords.{offset_of}
-use Rattle.queue_steps.specs.UnboundedNext.{unbounded_next, chain_tail_found}
-use Rattle.queue_steps.specs.declared.steps.unbounded.UnboundedLocal.TheVariants as chain
+use Rattle.queue_steps.specs.{State.State, ChainWords.offset_of, UnboundedNext.unbounded_next, UnboundedNext.chain_tail_found, declared.steps.unbounded.UnboundedLocal.UnboundedLocal as chain}
 use Rattle.queue_laws.specs.Chain.ChainCells.{Done, Rests, Laying, Opening, Linking, Showing, Spare, Chain, ChainOk, Write, Tail, Next as Behind, First, HoldsOnly, Nothing, item_at}
-use Rattle.queue_laws.specs.Chain.ChainFacts.{open_tail_of, IsNamed, TailBlockIs, HasSpare, SawTail, Claimed}
-use Rattle.queue_laws.specs.Chain.ChainAnswers.{tail_word, last_of, is_done}
-use Rattle.queue_laws.proofs.Chain.ChainAnswers.{tail_small, same_tail}
-use Rattle.queue_laws.proofs.Chain.ChainRight.{Gives}
-use Rattle.queue_laws.specs.Chain.ChainAfter.{left_by, if_installed, claimed_if, if_claimed}
+use Rattle.queue_laws.specs.Chain.{ChainFacts.open_tail_of, ChainFacts.IsNamed, ChainFacts.TailBlockIs, ChainFacts.HasSpare, ChainFacts.SawTail, ChainFacts.Claimed, ChainAnswers.tail_word, ChainAnswers.last_of, ChainAnswers.is_done, ChainAfter.left_by, ChainAfter.if_installed, ChainAfter.claimed_if, ChainAfter.if_claimed, ChainTransitions.appended}
+use Rattle.queue_laws.proofs.Chain.{ChainAnswers.tail_small, ChainAnswers.same_tail, ChainRight.Gives, ChainReads.not_given_up}
 use prog.Atomic.{either}
-use Rattle.machine_memory.specs.Blocks.{without, blank, places_in, state_of, put_state, put_item}
-use Rattle.machine_memory.specs.SharedMemory.{Shared, installed}
+use Rattle.machine_memory.specs.{Blocks.without, Blocks.blank, Blocks.places_in, Blocks.state_of, Blocks.put_state, Blocks.put_item, SharedMemory.Shared, SharedMemory.installed}
 use Rattle.machine_steps.specs.Steps.{spare_in}
-use Rattle.machine_replay.proofs.Chain.Codes.{lies}
-use Rattle.machine_replay.proofs.Chain.Names.{Codes, Changed}
-use Rattle.machine_replay.proofs.Chain.Blocks.{placed, place_in, item_put, next_put, state_left, both_put}
-use Rattle.machine_replay.proofs.Chain.Gives.{codes_left, block_at, has_place, state_answers}
-use Rattle.machine_replay.proofs.Chain.Coded.{CodesShared, Coded}
-use Rattle.queue_laws.specs.Chain.ChainTransitions.{appended}
+use Rattle.machine_replay.proofs.Chain.{Codes.lies, Names.Codes, Names.Changed, Blocks.placed, Blocks.place_in, Blocks.item_put, Blocks.next_put, Blocks.state_left, Blocks.both_put, Gives.codes_left, Gives.block_at, Gives.has_place, Gives.state_answers, Coded.CodesShared, Coded.Coded, CodesPush.codes_marked, CodesPush.codes_granted, CodesPush.codes_installed, CodesPush.codes_displayed, CodesPush.codes_appended, CodesPush.codes_laid_out, CodesPush.codes_opened, CodesAt.unread_item, CodesAt.codes_chained, CodesAt.codes_written}
 use Rattle.queue_laws.specs.Chain.ChainTransitions as moves
 use Rattle.queue_laws.specs.Chain.ChainAt.{Only, Either, IsLast, Asks, push_tail, push_block, asking, installing, showing, claiming, laying, opening, chaining, writing, spending}
-use Rattle.queue_laws.proofs.Chain.ChainReads.{not_given_up}
-use Rattle.machine_replay.proofs.Chain.CodesPush.{codes_marked, codes_granted, codes_installed, codes_displayed, codes_appended, codes_laid_out, codes_opened}
-use Rattle.machine_replay.proofs.Chain.CodesAt.{unread_item, codes_chained, codes_written}
 
 module _ {A : Type 0} (c : Chain A) (who : ℕ) (ms : List (State A)) (ok : Bool) (s : Shared A) where
   -- U1: the tail is read

@@ -1,36 +1,15 @@
 -- The shared memory at each step of a pop on a chain that reads its item or walks over a passed block.
 use Rattle.std.proofs.Common.{ℕ, ◌+◌, ◌/◌, ◌%◌, ◌<◌, ◌≡◌, ◌≢◌, ◌==◌, ◌∙◌, ◌⊎◌, inl, inr, Bool, true, false, if◌then◌else◌, Option, Some, None, List, length, refl, sym, ap, subst, arith, get_or, bit_or}
-use Rattle.std.proofs.lemmas.List.{length-set}
-use Rattle.std.proofs.lemmas.Bool.{le-ltb, lt-ltb, ne_eqb}
+use Rattle.std.proofs.{lemmas.List.length-set, lemmas.Bool.le-ltb, lemmas.Bool.lt-ltb, lemmas.Bool.ne_eqb, Common.not, Common.Ok, Common.bit_and, Common.get_or-set_other}
 use Rattle.machine_replay.specs.Vocabulary.{Reply, Word, Op, Touch, Answer, Next, BLOCK_SLOTS, READ, DESTROY}
-use Rattle.queue_steps.specs.State.{State}
-use Rattle.queue_steps.specs.ChainWords.{offset_of}
-use Rattle.queue_steps.specs.UnboundedNext.{at, walks, walks_on}
-use Rattle.queue_steps.specs.declared.steps.unbounded.UnboundedLocal.TheVariants as chain
+use Rattle.queue_steps.specs.{State.State, ChainWords.offset_of, UnboundedNext.at, UnboundedNext.walks, UnboundedNext.walks_on, declared.steps.unbounded.UnboundedLocal.UnboundedLocal as chain}
 use Rattle.queue_laws.specs.Chain.ChainCells.{Wrote, Reading, Done, Walker, Waits, GivenUp, Chain, ChainOk, Read, Passed, HoldsOnly, item_at, LAST, Walk, Before, Chained, WalkOk}
-use Rattle.queue_laws.specs.Chain.ChainFacts.{head_of, IsNamed, Got}
-use Rattle.queue_laws.specs.Chain.ChainAfter.{left_by}
-use Rattle.machine_memory.specs.Blocks.{place_count, Block, without, blank, places_in, state_of, put_item, put_state}
-use Rattle.machine_memory.specs.SharedMemory.{Shared}
+use Rattle.queue_laws.specs.Chain.{ChainFacts.head_of, ChainFacts.IsNamed, ChainFacts.Got, ChainAfter.left_by, ChainTransitions.walk_after, ChainTransitions.reads, ChainTransitions.walked, ChainAnswers.is_done, ChainAnswers.waits_at, ChainAnswers.IsState, ChainAnswers.StateAnswers, ChainAt.Only, ChainAt.IsLast, ChainAt.reading, ChainAt.beginning, ChainAt.walking, ChainAt.destroying}
+use Rattle.machine_memory.specs.{Blocks.place_count, Blocks.Block, Blocks.without, Blocks.blank, Blocks.places_in, Blocks.state_of, Blocks.put_item, Blocks.put_state, SharedMemory.Shared, declared.blocks.BlockPlace.BlockPlace}
 use Rattle.machine_steps.specs.Steps.{spare_in}
-use Rattle.machine_replay.proofs.Chain.Names.{Codes, Changed}
+use Rattle.machine_replay.proofs.Chain.{Names.Codes, Names.Changed, Gives.block_at, Gives.has_place, Gives.state_answers, Coded.CodesShared, Coded.Coded, Codes.BlockIs, Codes.lies, Fresh.unwalked, Bits.state_waits, Bits.state_passed, CodesWalk.Left, CodesWalk.codes_read, CodesWalk.codes_walked, CodesWalk.after_waits, CodesWalk.codes_given_block}
 use Rattle.machine_replay.proofs.Chain.Blocks.{there, place_in, item_put, state_put, state_is, state_left, both_put, placed_same, placed, changed_twice, changed_set, changed_none}
-use Rattle.machine_replay.proofs.Chain.Gives.{block_at, has_place, state_answers}
-use Rattle.machine_replay.proofs.Chain.Coded.{CodesShared, Coded}
-use Rattle.std.proofs.Common.{not, Ok, bit_and, get_or-set_other}
-use Rattle.queue_laws.proofs.Common.Puts.{put_same}
-use Rattle.queue_laws.specs.Chain.ChainTransitions.{walk_after, reads, walked}
-use Rattle.queue_laws.specs.Chain.ChainAnswers.{is_done, waits_at, IsState, StateAnswers}
-use Rattle.queue_laws.proofs.Chain.ChainAnswers.{done_is, head_offset}
-use Rattle.queue_laws.proofs.Chain.ChainRead.{waits_is}
-use Rattle.queue_laws.proofs.Chain.ChainWalk.{after_walker}
-use Rattle.queue_laws.specs.Chain.ChainAt.{Only, IsLast, reading, beginning, walking, destroying}
-use Rattle.queue_laws.proofs.Chain.ChainReads.{not_given_up}
-use Rattle.machine_memory.specs.declared.blocks.BlockPlace.{BlockPlace}
-use Rattle.machine_replay.proofs.Chain.Codes.{BlockIs, lies}
-use Rattle.machine_replay.proofs.Chain.Fresh.{unwalked}
-use Rattle.machine_replay.proofs.Chain.Bits.{state_waits, state_passed}
-use Rattle.machine_replay.proofs.Chain.CodesWalk.{Left, codes_read, codes_walked, after_waits, codes_given_block}
+use Rattle.queue_laws.proofs.{Common.Puts.put_same, Chain.ChainAnswers.done_is, Chain.ChainAnswers.head_offset, Chain.ChainRead.waits_is, Chain.ChainWalk.after_walker, Chain.ChainReads.not_given_up}
 
 -- the blocks after a walk that goes on or gives the block up
 over_blocks : {A : Type 0} {bs cs : List (Option (Block A))} {f : ℕ} {x : Block A} → Changed bs cs f (Some x) → Changed bs (without (Some f) cs) f None

@@ -1,13 +1,11 @@
 -- How a block of the machine stands for a block of a chain, and that it goes on doing so.
 use Rattle.std.proofs.Common.{ℕ, ◌+◌, ◌<◌, ◌≡◌, ◌≢◌, not, ◌∙◌, inl, inr, if◌then◌else◌, Option, Some, None, List, length, refl, sym, ap, subst, arith, get_or, set, get_or-set_same, get_or-set_other}
-use Rattle.std.proofs.lemmas.List.{length-set}
-use Rattle.std.proofs.lemmas.Bool.Decides.{eqb_tells}
+use Rattle.std.proofs.lemmas.{List.length-set, Bool.Decides.eqb_tells}
 use Rattle.machine_replay.specs.Vocabulary.{BLOCK_SLOTS}
 use Rattle.queue_laws.specs.Chain.ChainCells.{Writer, Free, Writing, Wrote, Reader, Done, Chain, item_at, LAST}
 use Rattle.queue_laws.specs.Chain.ChainAnswers.{linked_of, is_wrote, is_done, waits_at, IsState}
 use Rattle.queue_laws.proofs.Chain.ChainAnswers.{done_is}
-use Rattle.machine_memory.specs.declared.blocks.BlockPlace.{BlockPlace}
-use Rattle.machine_memory.specs.Blocks.{blank}
+use Rattle.machine_memory.specs.{declared.blocks.BlockPlace.BlockPlace, Blocks.blank}
 
 -- the item of a slot, once it is written
 abbrev pub wrote_in : {A : Type 0} → Writer A → Option A

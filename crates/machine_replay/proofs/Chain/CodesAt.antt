@@ -2,16 +2,11 @@
 use Rattle.std.proofs.Common.{ℕ, ◌+◌, ◌/◌, ◌<◌, ◌≡◌, ◌≢◌, ◌∙◌, inl, inr, false, Option, Some, None, List, refl, sym, ap, subst, arith, get_or, set, bit_or}
 use Rattle.std.proofs.lemmas.Bool.Decides.{eqb_tells}
 use Rattle.machine_replay.specs.Vocabulary.{BLOCK_SLOTS, WRITE}
-use Rattle.queue_laws.specs.Common.Puts.{put}
+use Rattle.queue_laws.specs.{Common.Puts.put, Chain.ChainTransitions.chained, Chain.ChainTransitions.written, Chain.ChainFacts.IsNamed, Chain.ChainAnswers.linked_of, Chain.ChainAnswers.is_done}
 use Rattle.queue_laws.proofs.Common.Puts.{put_other, put_same}
 use Rattle.queue_laws.specs.Chain.ChainCells.{Writer, Writing, Wrote, Reader, Done, LinkState, Linked, Walk, GivenUp, Chained, Chain, ItemOk, ChainOk, item_at}
-use Rattle.queue_laws.specs.Chain.ChainTransitions.{chained, written}
-use Rattle.queue_laws.specs.Chain.ChainFacts.{IsNamed}
-use Rattle.queue_laws.specs.Chain.ChainAnswers.{linked_of, is_done}
 use Rattle.machine_memory.specs.Blocks.{Block, blank}
-use Rattle.machine_replay.proofs.Chain.Codes.{BlockIs, wrote_in, lies, block_put, block_same}
-use Rattle.machine_replay.proofs.Chain.Bits.{state_written}
-use Rattle.machine_replay.proofs.Chain.Names.{NameIs, HeldIs, Codes, Keeps, Changed, name_kept, one_name}
+use Rattle.machine_replay.proofs.Chain.{Codes.BlockIs, Codes.wrote_in, Codes.lies, Codes.block_put, Codes.block_same, Bits.state_written, Names.NameIs, Names.HeldIs, Names.Codes, Names.Keeps, Names.Changed, Names.name_kept, Names.one_name}
 
 -- the chain with other items, readers, links and walks
 abbrev pub parts : {A : Type 0} → Chain A → (ℕ → Writer A) → (ℕ → Reader) → (ℕ → LinkState) → (ℕ → Walk) → Chain A

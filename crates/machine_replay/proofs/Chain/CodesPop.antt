@@ -2,13 +2,9 @@
 use Rattle.std.proofs.Common.{ℕ, ◌+◌, ◌*◌, ◌%◌, ◌≡◌, ◌≢◌, ◌∙◌, ◌⊎◌, inl, inr, Bool, true, false, if◌then◌else◌, Option, Some, None, List, refl, sym, ap, subst, arith, get_or}
 use Rattle.machine_replay.specs.Vocabulary.{BLOCK_SLOTS, TAIL_STEP}
 use Rattle.queue_steps.specs.Words.{tail_of, position_of}
-use Rattle.queue_laws.proofs.Common.Puts.{put_ok}
-use Rattle.queue_laws.proofs.Common.Tails.{position_tail}
-use Rattle.queue_laws.specs.Chain.ChainFacts.{place, head_of, IsNamed}
+use Rattle.queue_laws.proofs.{Common.Puts.put_ok, Common.Tails.position_tail, Chain.ChainReads.passer_sees}
+use Rattle.queue_laws.specs.Chain.{ChainFacts.place, ChainFacts.head_of, ChainFacts.IsNamed, ChainTransitions.taken, ChainTransitions.passed, ChainTransitions.entered, ChainAnswers.head_place, ChainAnswers.shown_of, ChainAnswers.is_done}
 use Rattle.queue_laws.specs.Chain.ChainCells.{Unread, Reading, Passer, Stands, Passing, Entering, Chain, FrontOk, ChainOk, item_at}
-use Rattle.queue_laws.specs.Chain.ChainTransitions.{taken, passed, entered}
-use Rattle.queue_laws.proofs.Chain.ChainReads.{passer_sees}
-use Rattle.queue_laws.specs.Chain.ChainAnswers.{head_place, shown_of, is_done}
 use Rattle.machine_memory.specs.Blocks.{Block}
 use Rattle.machine_replay.proofs.Chain.Names.{Codes, Keeps, name_kept, keeps_all}
 

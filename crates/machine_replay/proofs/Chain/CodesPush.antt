@@ -1,22 +1,13 @@
 -- The steps of pushes and of closes leave the machine standing for the chain after them.
 use Rattle.std.proofs.Common.{ℕ, ◌+◌, ◌-◌, ◌%◌, ◌<◌, ◌≤◌, ◌≡◌, ◌≢◌, ◌∙◌, ◌⊎◌, inl, inr, false, Option, Some, None, List, [], ◌∷◌, ◌++◌, length, refl, sym, ap, subst, arith, get_or, bit_or}
-use Rattle.std.proofs.lemmas.List.{get_or_append_left, get_or_past, length-append}
-use Rattle.std.proofs.Math.Seq.{get_or-append_seam}
-use Rattle.std.proofs.lemmas.Bool.{cases_lt}
+use Rattle.std.proofs.{lemmas.List.get_or_append_left, lemmas.List.get_or_past, lemmas.List.length-append, Math.Seq.get_or-append_seam, lemmas.Bool.cases_lt}
 use Rattle.machine_replay.specs.Vocabulary.{BLOCK_SLOTS, MARK, TAIL_STEP}
 use Rattle.queue_steps.specs.Words.{tail_of}
-use Rattle.queue_laws.specs.Common.Puts.{put}
-use Rattle.queue_laws.proofs.Common.Puts.{put_ok, put_other, put_same}
-use Rattle.queue_laws.proofs.Common.Tails.{mark_tail, next_tail}
-use Rattle.queue_laws.specs.Chain.ChainFacts.{place, open_tail_of, IsNamed}
+use Rattle.queue_laws.specs.{Common.Puts.put, Chain.ChainFacts.place, Chain.ChainFacts.open_tail_of, Chain.ChainFacts.IsNamed, Chain.ChainTransitions.appended, Chain.ChainTransitions.installed, Chain.ChainTransitions.displayed, Chain.ChainTransitions.laid_out, Chain.ChainTransitions.opened, Chain.ChainTransitions.marked, Chain.ChainTransitions.renamed, Chain.ChainAnswers.tail_place, Chain.ChainAnswers.shown_of, Chain.ChainAnswers.linked_of}
+use Rattle.queue_laws.proofs.{Common.Puts.put_ok, Common.Puts.put_other, Common.Puts.put_same, Common.Tails.mark_tail, Common.Tails.next_tail, Chain.ChainTransitions.next_free, Chain.ChainTransitions.no_front}
 use Rattle.queue_laws.specs.Chain.ChainCells.{Writing, Mover, Rests, Laying, Opening, LinkState, Linking, Linked, Shown, Showing, Seen, Unused, Spare, Chained, Chain, BlocksOk, LinkOk, ShownOk, ChainOk, item_at}
-use Rattle.queue_laws.proofs.Chain.ChainTransitions.{next_free, no_front}
-use Rattle.queue_laws.specs.Chain.ChainTransitions.{appended, installed, displayed, laid_out, opened, marked, renamed}
-use Rattle.queue_laws.specs.Chain.ChainAnswers.{tail_place, shown_of, linked_of}
 use Rattle.machine_memory.specs.Blocks.{Block, fresh_block}
-use Rattle.machine_replay.proofs.Chain.Codes.{wrote_in}
-use Rattle.machine_replay.proofs.Chain.Names.{NameIs, Codes, Keeps, name_kept, keeps_all}
-use Rattle.machine_replay.proofs.Chain.Fresh.{fresh_is, unlinked, last_name}
+use Rattle.machine_replay.proofs.Chain.{Codes.wrote_in, Names.NameIs, Names.Codes, Names.Keeps, Names.name_kept, Names.keeps_all, Fresh.fresh_is, Fresh.unlinked, Fresh.last_name}
 
 -- the mark of a close
 pub codes_marked : {A : Type 0} {c : Chain A} {head tail : ℕ} {front last : Option ℕ} {blocks : List (Option (Block A))} → Codes c head tail front last blocks → Codes (marked c) head (bit_or tail MARK) front last blocks

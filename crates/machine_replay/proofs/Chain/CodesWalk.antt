@@ -2,18 +2,11 @@
 use Rattle.std.proofs.Common.{ℕ, ◌+◌, ◌/◌, ◌<◌, ◌≡◌, ◌≢◌, ◌∙◌, ◌⊎◌, inl, inr, false, Option, Some, None, List, refl, sym, ap, subst, arith, get_or, set, bit_or}
 use Rattle.std.proofs.lemmas.Bool.Decides.{eqb_tells}
 use Rattle.machine_replay.specs.Vocabulary.{BLOCK_SLOTS, READ}
-use Rattle.queue_laws.specs.Common.Puts.{put}
+use Rattle.queue_laws.specs.{Common.Puts.put, Chain.ChainTransitions.reads, Chain.ChainTransitions.walked, Chain.ChainTransitions.walk_after, Chain.ChainTransitions.given_up, Chain.ChainTransitions.lost_of, Chain.ChainFacts.IsNamed, Chain.ChainAnswers.is_done, Chain.ChainAnswers.waits_at, Chain.ChainAnswers.IsState}
 use Rattle.queue_laws.proofs.Common.Puts.{put_ok, put_other, put_same}
 use Rattle.queue_laws.specs.Chain.ChainCells.{Done, Walk, GivenUp, Unused, Spare, Chained, Chain, ChainOk, item_at, LAST}
-use Rattle.queue_laws.specs.Chain.ChainTransitions.{reads, walked, walk_after, given_up, lost_of}
-use Rattle.queue_laws.specs.Chain.ChainFacts.{IsNamed}
-use Rattle.queue_laws.specs.Chain.ChainAnswers.{is_done, waits_at, IsState}
-use Rattle.machine_memory.specs.declared.blocks.BlockPlace.{BlockPlace}
-use Rattle.machine_memory.specs.Blocks.{Block, blank}
-use Rattle.machine_replay.proofs.Chain.Codes.{BlockIs, lies, block_put}
-use Rattle.machine_replay.proofs.Chain.Bits.{state_read}
-use Rattle.machine_replay.proofs.Chain.Names.{NameIs, HeldIs, AliveIs, Codes, Changed, name_kept, keeps_all}
-use Rattle.machine_replay.proofs.Chain.CodesAt.{codes_at, other_block, other_slot}
+use Rattle.machine_memory.specs.{declared.blocks.BlockPlace.BlockPlace, Blocks.Block, Blocks.blank}
+use Rattle.machine_replay.proofs.Chain.{Codes.BlockIs, Codes.lies, Codes.block_put, Bits.state_read, Names.NameIs, Names.HeldIs, Names.AliveIs, Names.Codes, Names.Changed, Names.name_kept, Names.keeps_all, CodesAt.codes_at, CodesAt.other_block, CodesAt.other_slot}
 
 -- the block after the step: it is given up with its walk, or is this
 abbrev pub Left : {A : Type 0} → Walk → Option (Block A) → Block A → Type 0

@@ -1,26 +1,13 @@
 -- The blocks of a machine over a chain are within the bound, and no fewer than its items span.
 use Rattle.std.proofs.Common.{ℕ, ◌<◌, ◌≡◌, ◌≢◌, not, nat_lt, ◌∙◌, inl, inr, true, false, Option, Some, None, is_some, List, [], ◌∷◌, length, refl, sym, ap, subst, arith, get_or}
-use Rattle.std.proofs.lemmas.Bool.{ltb-true, ltb-false}
-use Rattle.std.proofs.lemmas.List.{get_or_past}
-use Rattle.queue_steps.specs.State.{State}
-use Rattle.queue_steps.specs.Sequential.{blocks_of}
-use Rattle.machine_replay.specs.Vocabulary.{Call, Effect, Running}
-use Rattle.machine_replay.proofs.Engine.StandOf.{stand_of}
-use Rattle.queue_laws.specs.Chain.ChainCells.{Walk, GivenUp, Use, Chained, Chain, queue_of, HoldsOnly, Nothing}
-use Rattle.queue_laws.specs.Chain.ChainAt.{At}
-use Rattle.queue_laws.specs.Chain.ChainPasses.{spare_in, Spares}
-use Rattle.queue_laws.proofs.Chain.Count.{count, count_same, count_front}
-use Rattle.queue_laws.proofs.Chain.ChainHands.{HandOf, in_hand, idle_hand}
-use Rattle.queue_laws.proofs.Chain.ChainCount.{is_given_up, is_alive, alive, few_alive}
-use Rattle.queue_laws.proofs.Chain.ChainSpan.{spans_if, held_items}
-use Rattle.machine_memory.specs.Blocks.{Block}
-use Rattle.machine_replay.specs.Book.{Book}
-use Rattle.machine_memory.specs.SharedMemory.{Shared}
-use Rattle.machine_memory.specs.Present.{present}
+use Rattle.std.proofs.lemmas.{Bool.ltb-true, Bool.ltb-false, List.get_or_past}
+use Rattle.queue_steps.specs.{State.State, Sequential.blocks_of}
+use Rattle.machine_replay.specs.{Vocabulary.Call, Vocabulary.Effect, Vocabulary.Running, Book.Book}
+use Rattle.machine_replay.proofs.{Engine.StandOf.stand_of, Chain.Names.NameIs, Chain.Holding.ChainHolds, Engine.KindLaws.IsCounted}
+use Rattle.queue_laws.specs.Chain.{ChainCells.Walk, ChainCells.GivenUp, ChainCells.Use, ChainCells.Chained, ChainCells.Chain, ChainCells.queue_of, ChainCells.HoldsOnly, ChainCells.Nothing, ChainAt.At, ChainPasses.spare_in, ChainPasses.Spares}
+use Rattle.queue_laws.proofs.Chain.{Count.count, Count.count_same, Count.count_front, ChainHands.HandOf, ChainHands.in_hand, ChainHands.idle_hand, ChainCount.is_given_up, ChainCount.is_alive, ChainCount.alive, ChainCount.few_alive, ChainSpan.spans_if, ChainSpan.held_items}
+use Rattle.machine_memory.specs.{Blocks.Block, SharedMemory.Shared, Present.present}
 use Rattle.machine_steps.specs.World.{World, call_at}
-use Rattle.machine_replay.proofs.Chain.Names.{NameIs}
-use Rattle.machine_replay.proofs.Chain.Holding.{ChainHolds}
-use Rattle.machine_replay.proofs.Engine.KindLaws.{IsCounted}
 
 -- a call of the party stands on the chain
 pub record InCall {A : Type 0} (g : Chain A) (who : ℕ) (r : Running A) : Type 0 where

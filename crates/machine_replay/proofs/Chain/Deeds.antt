@@ -1,14 +1,11 @@
 -- What a call on a chain has claimed and is still to do to a block: to put its item, to lay a block behind, or to read.
 use Rattle.std.proofs.Common.{ℕ, ◌+◌, ◌-◌, ◌/◌, ◌%◌, ◌≡◌, ◌∙◌, ◌⊎◌, inl, inr, Bool, Option, Some, None, List, refl, sym, ap, arith}
 use Rattle.machine_replay.specs.Vocabulary.{Op, Touch, Local, UnboundedLocal, BLOCK_SLOTS, READ}
-use Rattle.queue_steps.specs.ChainWords.{offset_of}
-use Rattle.queue_steps.specs.declared.steps.unbounded.UnboundedLocal.TheVariants as chain
+use Rattle.queue_steps.specs.{ChainWords.offset_of, declared.steps.unbounded.UnboundedLocal.UnboundedLocal as chain}
 use Rattle.queue_laws.specs.Chain.ChainCells.{Writing, Reading, Laying, Passing, Linking, Showing, Spare, Chain, Part, Write, Read, Tail, Head, Next, First, Passed, writer_of, reader_of, mover_of, passer_of, linker_of, shower_of, HoldsOnly, Nothing}
-use Rattle.queue_laws.specs.Chain.ChainFacts.{head_of, open_tail_of, IsNamed, Claimed, Got}
-use Rattle.queue_laws.specs.Chain.ChainAt.{Only, Either}
+use Rattle.queue_laws.specs.Chain.{ChainFacts.head_of, ChainFacts.open_tail_of, ChainFacts.IsNamed, ChainFacts.Claimed, ChainFacts.Got, ChainAt.Only, ChainAt.Either}
 use Rattle.queue_laws.proofs.Chain.ChainAnswers.{head_offset}
-use Rattle.machine_memory.specs.Blocks.{Block, put_state, put_item, put_next}
-use Rattle.machine_memory.specs.SharedMemory.{block_touched}
+use Rattle.machine_memory.specs.{Blocks.Block, Blocks.put_state, Blocks.put_item, Blocks.put_next, SharedMemory.block_touched}
 use Rattle.machine_steps.specs.ChainLeft.{reached, settled_at, settled_by}
 
 -- nothing; to put this into a slot; that, and to link the block to a fresh one; to read a slot

@@ -1,10 +1,8 @@
 -- A block of the machine once every call in progress has done what it has claimed.
 use Rattle.std.proofs.Common.{ℕ, suc, zero, ◌<◌, ◌≡◌, ◌≢◌, ◌==◌, ◌∙◌, inl, inr, Bool, true, false, if◌then◌else◌, Option, Some, None, List, [], ◌∷◌, length, refl, sym, ap, subst, set, get_or, get_or-set_same, get_or-set_other, bit_and, arith}
-use Rattle.std.proofs.lemmas.List.{length-set}
-use Rattle.std.proofs.lemmas.Bool.Decides.{eqb_tells}
+use Rattle.std.proofs.lemmas.{List.length-set, Bool.Decides.eqb_tells}
 use Rattle.machine_replay.specs.Vocabulary.{BLOCK_SLOTS, READ, Running}
-use Rattle.machine_memory.specs.declared.blocks.BlockPlace.{BlockPlace}
-use Rattle.machine_memory.specs.Blocks.{Block, blank, places_in, with_place, with_next, put_item}
+use Rattle.machine_memory.specs.{declared.blocks.BlockPlace.BlockPlace, Blocks.Block, Blocks.blank, Blocks.places_in, Blocks.with_place, Blocks.with_next, Blocks.put_item}
 use Rattle.machine_steps.specs.ChainLeft.{settled_by, settled_blocks}
 use Rattle.machine_replay.proofs.Chain.Deeds.{Deed, Rest, Puts, Lays, Reads, deed_of, done, deed_done, PutsAt, LinksTo}
 use Rattle.machine_replay.proofs.Chain.Counted.{within_list}

@@ -1,36 +1,15 @@
 -- A chain from its opening on: a call that nobody hinders replies by its seventy-third step, also where the first block is not shown yet.
 use Rattle.std.proofs.Common.{ℕ, ◌+◌, ◌-◌, ◌==◌, ◌<◌, ◌≡◌, ◌≢◌, ◌⊎◌, inl, inr, ◌∙◌, Bool, true, false, Option, Some, None, IsSome, List, [], ◌∷◌, refl, sym, ap, subst, arith}
 use Rattle.std.proofs.lemmas.Bool.Decides.{eqb_tells}
-use Rattle.machine_replay.specs.Vocabulary.{Kind, Answer, Local, Next, BLOCK_SLOTS, Running}
-use Rattle.queue_steps.specs.State.{State}
-use Rattle.queue_steps.specs.Next.{next_of}
-use Rattle.queue_steps.specs.Words.{position_of}
-use Rattle.queue_steps.specs.UnboundedNext.{unbounded_next}
-use Rattle.queue_steps.specs.declared.steps.unbounded.UnboundedLocal.TheVariants as chain
-use Rattle.queue_laws.specs.Common.Effects.{with_effect}
-use Rattle.queue_laws.specs.Common.Stand.{Stand}
-use Rattle.machine_replay.proofs.Engine.StandOf.{running_of}
-use Rattle.queue_laws.specs.Chain.ChainAfter.{after_of, chain_of, left_by}
-use Rattle.queue_laws.specs.Chain.ChainAnswers.{Answers, tail_word, head_word}
+use Rattle.machine_replay.specs.{Vocabulary.Kind, Vocabulary.Answer, Vocabulary.Local, Vocabulary.Next, Vocabulary.BLOCK_SLOTS, Vocabulary.Running, Book.Open, Progress.Standing, Progress.IsToShow, Progress.NobodyShows, Progress.UnhinderedWithin}
+use Rattle.queue_steps.specs.{State.State, Next.next_of, Words.position_of, UnboundedNext.unbounded_next, declared.steps.unbounded.UnboundedLocal.UnboundedLocal as chain}
+use Rattle.queue_laws.specs.{Common.Effects.with_effect, Common.Stand.Stand, Chain.ChainAfter.after_of, Chain.ChainAfter.chain_of, Chain.ChainAfter.left_by, Chain.ChainAnswers.Answers, Chain.ChainAnswers.tail_word, Chain.ChainAnswers.head_word, Chain.ChainFacts.head_of}
+use Rattle.machine_replay.proofs.{Engine.StandOf.running_of, Chain.Far.one_of_pop, Chain.Far.by_call, Chain.Far.goes_as, Chain.Far.bounded, Chain.Far.seen_is, Chain.Fits.ChainFits, Chain.Holding.ChainHolds, Chain.Laws.StepStands, Chain.Laws.chain_then, Chain.Laws.next_on, Chain.Stands.steps_stand, Chain.Stretch.chain_rules, Chain.Stretch.own_falls, Chain.Stretch.not_empty, Chain.Stretch.ready_on, Chain.Stretch.words_stay, Chain.Waits.holds_at, Chain.Waits.holder, Chain.Waits.other_row, Chain.Waits.unseen_if, Progress.Stretch.Paces, Progress.Stretch.Turns, Progress.Stretch.Here, Progress.Stretch.party-open, Progress.Stretch.unhindered}
 use Rattle.queue_laws.specs.Chain.ChainAt.{At, Only, push_tail, push_block, asking, installing, showing, claiming, spending, pop_head, pop_block, pop_tail, taking, following, peeking, passing, entering, awaiting, reading, beginning, walking, destroying, count_tail, count_head, count_again, empty_head, empty_tail, closing, closed_tail}
 use Rattle.queue_laws.specs.Chain.ChainCells.{Shown, Hidden, Showing, Seen, Chain, ChainOk, ShownOk, First, owner, shower_of, HoldsOnly, Nothing, queue_of}
-use Rattle.queue_laws.specs.Chain.ChainFacts.{head_of}
-use Rattle.queue_laws.proofs.Chain.ChainRanks.{is_seen}
-use Rattle.queue_laws.proofs.Chain.ChainRight.{NextOkSpares, step_right}
-use Rattle.queue_laws.proofs.Chain.ChainStep.{is_chain}
+use Rattle.queue_laws.proofs.Chain.{ChainRanks.is_seen, ChainRight.NextOkSpares, ChainRight.step_right, ChainStep.is_chain}
 use Rattle.machine_memory.specs.SharedMemory.{Shared}
-use Rattle.machine_steps.specs.Steps.{answer_to, step_of, running_after, next_after, carried_then}
-use Rattle.machine_steps.specs.World.{World, call_at}
-use Rattle.machine_replay.specs.Book.{Open}
-use Rattle.machine_replay.specs.Progress.{Standing, IsToShow, NobodyShows, UnhinderedWithin}
-use Rattle.machine_replay.proofs.Chain.Far.{one_of_pop, by_call, goes_as, bounded, seen_is}
-use Rattle.machine_replay.proofs.Chain.Fits.{ChainFits}
-use Rattle.machine_replay.proofs.Chain.Holding.{ChainHolds}
-use Rattle.machine_replay.proofs.Chain.Laws.{StepStands, chain_then, next_on}
-use Rattle.machine_replay.proofs.Chain.Stands.{steps_stand}
-use Rattle.machine_replay.proofs.Chain.Stretch.{chain_rules, own_falls, not_empty, ready_on, words_stay}
-use Rattle.machine_replay.proofs.Chain.Waits.{holds_at, holder, other_row, unseen_if}
-use Rattle.machine_replay.proofs.Progress.Stretch.{Paces, Turns, Here, party-open, unhindered}
+use Rattle.machine_steps.specs.{Steps.answer_to, Steps.step_of, Steps.running_after, Steps.next_after, Steps.carried_then, World.World, World.call_at}
 use Rattle.machine_replay.proofs.Chain.Near.{near_at, near_within, near_pop, near_same, Fewer, first_place, same_place, IsBare, fewer}
 
 -- a call that goes on has fewer steps before it

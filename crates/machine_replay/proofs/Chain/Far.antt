@@ -1,23 +1,11 @@
 -- How many steps a call on a chain has before it, once the first block is shown, by the machine's words.
 use Rattle.std.proofs.Common.{ℕ, ◌+◌, ◌==◌, ◌%◌, ◌<◌, ◌≤◌, ◌≡◌, inl, inr, ◌∙◌, true, false, Option, Some, None, IsSome, List, refl, sym, ap, subst, arith}
-use Rattle.std.proofs.lemmas.Bool.{ne_eqb}
-use Rattle.std.proofs.lemmas.Bool.Decides.{eqb_tells}
+use Rattle.std.proofs.lemmas.Bool.{ne_eqb, Decides.eqb_tells}
 use Rattle.machine_replay.specs.Vocabulary.{Call, Effect, Local, Next, PushKind, BLOCK_SLOTS, Running, Look}
-use Rattle.queue_steps.specs.State.{State}
-use Rattle.queue_steps.specs.Looks.{call_of_look}
-use Rattle.queue_steps.specs.ChainWords.{offset_of}
-use Rattle.queue_steps.specs.declared.steps.unbounded.UnboundedLocal.TheVariants as chain
-use Rattle.queue_laws.specs.Common.Pushes.{pushes}
-use Rattle.queue_laws.proofs.Common.Ranks.{either_small}
-use Rattle.queue_laws.specs.Common.Stand.{Stand}
-use Rattle.queue_laws.specs.Chain.ChainCells.{Shown, Seen, Chain, ChainOk, ShownOk, LAST}
-use Rattle.queue_laws.specs.Chain.ChainAnswers.{tail_word, head_word, shown_of}
+use Rattle.queue_steps.specs.{State.State, Looks.call_of_look, ChainWords.offset_of, declared.steps.unbounded.UnboundedLocal.UnboundedLocal as chain}
+use Rattle.queue_laws.specs.{Common.Pushes.pushes, Common.Stand.Stand, Chain.ChainCells.Shown, Chain.ChainCells.Seen, Chain.ChainCells.Chain, Chain.ChainCells.ChainOk, Chain.ChainCells.ShownOk, Chain.ChainCells.LAST, Chain.ChainAnswers.tail_word, Chain.ChainAnswers.head_word, Chain.ChainAnswers.shown_of, Chain.ChainFacts.head_of, Chain.ChainFacts.open_tail_of}
+use Rattle.queue_laws.proofs.{Common.Ranks.either_small, Chain.ChainAnswers.head_offset, Chain.ChainRanks.rank, Chain.ChainRanks.lag, Chain.ChainRanks.walk_rank, Chain.ChainRanks.is_seen, Chain.ChainRanksWalk.last_claimed, Chain.ChainRight.NextOkSpares}
 use Rattle.queue_laws.specs.Chain.ChainAt.{At, push_tail, push_block, asking, installing, showing, claiming, laying, opening, chaining, writing, spending, pop_block, pop_tail, taking, reading, walking, destroying, count_head, count_again, count_tail}
-use Rattle.queue_laws.specs.Chain.ChainFacts.{head_of, open_tail_of}
-use Rattle.queue_laws.proofs.Chain.ChainAnswers.{head_offset}
-use Rattle.queue_laws.proofs.Chain.ChainRanks.{rank, lag, walk_rank, is_seen}
-use Rattle.queue_laws.proofs.Chain.ChainRanksWalk.{last_claimed}
-use Rattle.queue_laws.proofs.Chain.ChainRight.{NextOkSpares}
 use Rattle.machine_memory.specs.SharedMemory.{Shared}
 use Rattle.machine_steps.specs.Steps.{running_after}
 use Rattle.machine_replay.proofs.Chain.Names.{Codes}

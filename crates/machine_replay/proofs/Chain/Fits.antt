@@ -1,30 +1,13 @@
 -- Where a call on a chain stands in the machine, by the laws of the chain, and where it stands after each step: nothing here knows a cell.
 use Rattle.std.proofs.Common.{ℕ, ◌≡◌, ◌≢◌, true, Option, None, List, [], ◌∷◌, sym, subst, arith}
-use Rattle.queue_steps.specs.State.{State}
-use Rattle.queue_steps.specs.Kinds.{call_kind, call_value}
-use Rattle.queue_steps.specs.UnboundedNext.{unbounded_begin, unbounded_next}
-use Rattle.machine_replay.specs.Vocabulary.{Call, Reply, Effect, Kind, Answer, Next, Running}
-use Rattle.queue_laws.specs.Common.Effects.{with_effect}
-use Rattle.machine_replay.proofs.Engine.StandOf.{stand_of}
-use Rattle.queue_laws.specs.Chain.ChainCells.{Chain, queue_of, ChainOk, HoldsOnly, Nothing}
-use Rattle.queue_laws.specs.Chain.ChainPasses.{Passes, Spares, spare_in}
-use Rattle.queue_laws.proofs.Chain.ChainFacts.{holds_stays}
-use Rattle.queue_laws.specs.Chain.ChainAt.{At}
-use Rattle.queue_laws.proofs.Chain.ChainAt.{at_stays}
-use Rattle.queue_laws.specs.Chain.ChainAnswers.{Answers}
-use Rattle.queue_laws.specs.Chain.ChainAfter.{chain_of, after_of, carried_of, left_by}
-use Rattle.queue_laws.proofs.Chain.ChainStart.{Begins, at_begun}
-use Rattle.queue_laws.proofs.Chain.ChainGiven.{spares_stay}
-use Rattle.queue_laws.proofs.Chain.ChainRight.{NextOkSpares, step_right}
-use Rattle.queue_laws.proofs.Chain.ChainRanks.{rank, longest, rank_small, rank_some, Falls}
-use Rattle.queue_laws.proofs.Chain.ChainRanksStep.{step_falls, wait_free_falls, wait_free_small}
-use Rattle.machine_replay.specs.Book.{Open, after_own, begun, is_wait_free, joined, watched}
+use Rattle.queue_steps.specs.{State.State, Kinds.call_kind, Kinds.call_value, UnboundedNext.unbounded_begin, UnboundedNext.unbounded_next}
+use Rattle.machine_replay.specs.{Vocabulary.Call, Vocabulary.Reply, Vocabulary.Effect, Vocabulary.Kind, Vocabulary.Answer, Vocabulary.Next, Vocabulary.Running, Book.Open, Book.after_own, Book.begun, Book.is_wait_free, Book.joined, Book.watched}
+use Rattle.queue_laws.specs.{Common.Effects.with_effect, Chain.ChainCells.Chain, Chain.ChainCells.queue_of, Chain.ChainCells.ChainOk, Chain.ChainCells.HoldsOnly, Chain.ChainCells.Nothing, Chain.ChainPasses.Passes, Chain.ChainPasses.Spares, Chain.ChainPasses.spare_in, Chain.ChainAt.At, Chain.ChainAnswers.Answers, Chain.ChainAfter.chain_of, Chain.ChainAfter.after_of, Chain.ChainAfter.carried_of, Chain.ChainAfter.left_by}
+use Rattle.machine_replay.proofs.{Engine.StandOf.stand_of, Progress.FewSteps.FewSteps, Progress.FewSteps.few_begun, Progress.FewSteps.few_joined, Progress.FewSteps.few_watched, Progress.FewSteps.few_own, Progress.FewSteps.few_stays, Chain.Moments.chain_begun, Chain.Moments.allowed_in, Engine.Moments.same_moments}
+use Rattle.queue_laws.proofs.Chain.{ChainFacts.holds_stays, ChainAt.at_stays, ChainStart.Begins, ChainStart.at_begun, ChainGiven.spares_stay, ChainRight.NextOkSpares, ChainRight.step_right, ChainRanks.rank, ChainRanks.longest, ChainRanks.rank_small, ChainRanks.rank_some, ChainRanks.Falls, ChainRanksStep.step_falls, ChainRanksStep.wait_free_falls, ChainRanksStep.wait_free_small}
 use Rattle.machine_memory.specs.SharedMemory.{Shared}
 use Rattle.machine_steps.specs.Steps.{CanStep, step_of, start_of, running_after, reply_after}
 use Rattle.machine_replay.proofs.Engine.Events as engine
-use Rattle.machine_replay.proofs.Progress.FewSteps.{FewSteps, few_begun, few_joined, few_watched, few_own, few_stays}
-use Rattle.machine_replay.proofs.Chain.Moments.{chain_begun, allowed_in}
-use Rattle.machine_replay.proofs.Engine.Moments.{same_moments}
 
 -- a party between calls holds no part and has no spare
 abbrev pub ChainIdle : {A : Type 0} → Chain A → ℕ → Type 0

@@ -1,12 +1,9 @@
 -- One turn of each loop that makes the list that a chain of blocks leaves.
 use Rattle.std.proofs.Common.{◌≡◌, ◌∙◌, ℕ, suc, ◌+◌, ◌-◌, ◌<◌, ◌≤◌, Option, Some, None, List, [], ◌∷◌, ◌++◌, length, refl, sym, ap, arith, append_assoc, append-nil, length-append}
 use Rattle.std.proofs.lemmas.List.{length-set}
-use Rattle.queue_steps.specs.ChainWords.{offset_of}
+use Rattle.queue_steps.specs.{ChainWords.offset_of, declared.steps.unbounded.UnboundedLocal.UnboundedLocal as chain}
 use Rattle.machine_replay.specs.Vocabulary.{Op, Touch, Local, UnboundedLocal, Running}
-use Rattle.queue_steps.specs.declared.steps.unbounded.UnboundedLocal.TheVariants as chain
-use Rattle.machine_memory.specs.SharedMemory.{block_touched}
-use Rattle.machine_memory.specs.declared.blocks.BlockPlace.{BlockPlace}
-use Rattle.machine_memory.specs.Blocks.{Block, put_item, without}
+use Rattle.machine_memory.specs.{SharedMemory.block_touched, declared.blocks.BlockPlace.BlockPlace, Blocks.Block, Blocks.put_item, Blocks.without}
 use Rattle.machine_steps.specs.ChainLeft.{laid, marked, reached, settled_at, settled_by, settled_blocks, front_at, settled_front, unread_in, unread, unread_at, behind_at, chained, chain_left}
 
 -- what comes first of what is left goes to the end of what there is

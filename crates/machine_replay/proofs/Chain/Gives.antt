@@ -1,20 +1,12 @@
 -- A block that is there, and one that is given up with a reply.
 use Rattle.std.proofs.Common.{ℕ, ◌<◌, ◌≡◌, ◌≢◌, ◌∙◌, inl, inr, Option, Some, None, List, length, refl, sym, ap, subst, arith, get_or, set, get_or-set_same, get_or-set_other}
-use Rattle.std.proofs.lemmas.List.{get_or_past, length-set}
-use Rattle.std.proofs.lemmas.Bool.Decides.{eqb_tells}
-use Rattle.std.proofs.lemmas.Bool.{cases_lt}
+use Rattle.std.proofs.lemmas.{List.get_or_past, List.length-set, Bool.Decides.eqb_tells, Bool.cases_lt}
 use Rattle.machine_replay.specs.Vocabulary.{Answer, Next, BLOCK_SLOTS}
-use Rattle.queue_laws.specs.Chain.ChainCells.{Done, GivenUp, Chained, Chain, ChainOk, item_at, LAST}
-use Rattle.queue_laws.specs.Chain.ChainFacts.{IsNamed}
-use Rattle.queue_laws.specs.Chain.ChainAnswers.{IsState, StateAnswers}
+use Rattle.queue_laws.specs.Chain.{ChainCells.Done, ChainCells.GivenUp, ChainCells.Chained, ChainCells.Chain, ChainCells.ChainOk, ChainCells.item_at, ChainCells.LAST, ChainFacts.IsNamed, ChainAnswers.IsState, ChainAnswers.StateAnswers, ChainAfter.left_by}
 use Rattle.queue_laws.proofs.Chain.ChainRight.{Gives}
-use Rattle.queue_laws.specs.Chain.ChainAfter.{left_by}
 use Rattle.machine_memory.specs.Blocks.{Block, fresh_block, without, places_in, place_count}
 use Rattle.machine_steps.specs.Steps.{spare_in}
-use Rattle.machine_replay.proofs.Chain.Codes.{BlockIs}
-use Rattle.machine_replay.proofs.Chain.Names.{NameIs, HeldIs, Codes, alive_of, name_of}
-use Rattle.machine_replay.proofs.Chain.CodesWalk.{codes_given_spare, codes_given_block}
-use Rattle.machine_replay.proofs.Chain.Blocks.{there, changed_set, place_in}
+use Rattle.machine_replay.proofs.Chain.{Codes.BlockIs, Names.NameIs, Names.HeldIs, Names.Codes, Names.alive_of, Names.name_of, CodesWalk.codes_given_spare, CodesWalk.codes_given_block, Blocks.there, Blocks.changed_set, Blocks.place_in}
 
 -- what stands under the name of the chain's block b
 held_of : {A : Type 0} {c : Chain A} {head tail : ℕ} {front last : Option ℕ} {blocks : List (Option (Block A))} (b f : ℕ) → ChainOk c → IsNamed c b f → Codes c head tail front last blocks → HeldIs c b (get_or blocks f None)

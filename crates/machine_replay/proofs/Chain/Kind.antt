@@ -1,21 +1,12 @@
 -- All that a chain of blocks owes the machine.
 use Rattle.std.proofs.Common.{ℕ, Option, Some, None}
-use Rattle.machine_replay.specs.Vocabulary.{Kind, Running}
+use Rattle.machine_replay.specs.{Vocabulary.Kind, Vocabulary.Running, Book.Book, Book.Open}
 use Rattle.queue_laws.specs.Chain.ChainCells.{Chain}
 use Rattle.queue_laws.proofs.Chain.ChainFirst.{first}
-use Rattle.machine_replay.specs.Book.{Book, Open}
 use Rattle.machine_memory.specs.SharedMemory.{Shared}
-use Rattle.machine_steps.specs.Steps.{CanStep, step_of, start_of}
+use Rattle.machine_steps.specs.{Steps.CanStep, Steps.step_of, Steps.start_of, World.World, World.call_at}
 use Rattle.machine_replay.proofs.Engine.Events as engine
-use Rattle.machine_steps.specs.World.{World, call_at}
-use Rattle.machine_replay.proofs.Engine.KindLaws.{KindLaws, SimulatesOf, IsCounted}
-use Rattle.machine_replay.proofs.Chain.Holding.{ChainHolds}
-use Rattle.machine_replay.proofs.Chain.Fits.{ChainIdle, ChainFits}
-use Rattle.machine_replay.proofs.Chain.Laws.{chain_steps}
-use Rattle.machine_replay.proofs.Chain.Stands.{steps_stand}
-use Rattle.machine_replay.proofs.Chain.Opening.{chain_opens, chain_all_idle}
-use Rattle.machine_replay.proofs.Chain.Counted.{StandsAt, chain_counted}
-use Rattle.machine_replay.proofs.Chain.Left.{chain_left}
+use Rattle.machine_replay.proofs.{Engine.KindLaws.KindLaws, Engine.KindLaws.SimulatesOf, Engine.KindLaws.IsCounted, Chain.Holding.ChainHolds, Chain.Fits.ChainIdle, Chain.Fits.ChainFits, Chain.Laws.chain_steps, Chain.Stands.steps_stand, Chain.Opening.chain_opens, Chain.Opening.chain_all_idle, Chain.Counted.StandsAt, Chain.Counted.chain_counted, Chain.Left.chain_left}
 
 -- each party of a run on a chain stands between its calls or in one
 party_stands : {A : Type 0} (s : Shared A) (g : Chain A) (p : ℕ) (r : Option (Running A)) (o : Option (Open A)) (busy : ℕ) (b : Book A)

@@ -1,28 +1,13 @@
 -- A chain keeps the laws of the engine, where each step of a call leaves words, links and blocks that stand for the chain after it.
 use Rattle.std.proofs.Common.{ℕ, ◌≡◌, ◌≢◌, Bool, Option, None, List, refl, sym, ap, subst}
-use Rattle.queue_steps.specs.State.{State}
-use Rattle.queue_steps.specs.Next.{CanNext, next_of}
-use Rattle.queue_steps.specs.UnboundedNext.{unbounded_next}
-use Rattle.machine_replay.specs.Vocabulary.{Call, Effect, Kind, Next, Running}
-use Rattle.queue_laws.specs.Common.Effects.{with_effect}
-use Rattle.machine_replay.proofs.Engine.StandOf.{stand_of}
-use Rattle.queue_laws.specs.Chain.ChainCells.{Chain, queue_of}
-use Rattle.queue_laws.specs.Chain.ChainAt.{At}
-use Rattle.queue_laws.specs.Chain.ChainAnswers.{Answers}
-use Rattle.queue_laws.specs.Chain.ChainAfter.{chain_of, after_of, carried_of, left_by}
-use Rattle.queue_laws.proofs.Chain.ChainStep.{is_chain}
-use Rattle.queue_laws.specs.Chain.ChainPasses.{Spares, spare_in}
-use Rattle.queue_laws.proofs.Chain.ChainRight.{NextOkSpares, step_right}
-use Rattle.machine_replay.specs.Book.{Open, Moves, after_own}
-use Rattle.machine_memory.specs.SharedMemory.{Shared, CanTouch, CanOperate, block_touched, slots_there}
+use Rattle.queue_steps.specs.{State.State, Next.CanNext, Next.next_of, UnboundedNext.unbounded_next}
+use Rattle.machine_replay.specs.{Vocabulary.Call, Vocabulary.Effect, Vocabulary.Kind, Vocabulary.Next, Vocabulary.Running, Book.Open, Book.Moves, Book.after_own}
+use Rattle.queue_laws.specs.{Common.Effects.with_effect, Chain.ChainCells.Chain, Chain.ChainCells.queue_of, Chain.ChainAt.At, Chain.ChainAnswers.Answers, Chain.ChainAfter.chain_of, Chain.ChainAfter.after_of, Chain.ChainAfter.carried_of, Chain.ChainAfter.left_by, Chain.ChainPasses.Spares, Chain.ChainPasses.spare_in}
+use Rattle.machine_replay.proofs.{Engine.StandOf.stand_of, Engine.KindLaws.LawsOf, Chain.Names.Codes, Chain.Holding.ChainHolds, Chain.Moments.chain_moves, Chain.Fits.ChainIdle, Chain.Fits.ChainFits, Chain.Fits.ChainGoes, Chain.Fits.chain_goes, Chain.Fits.chain_watched, Chain.Fits.chain_idle, Chain.Fits.chain_joins, Chain.Fits.chain_begins}
+use Rattle.queue_laws.proofs.Chain.{ChainStep.is_chain, ChainRight.NextOkSpares, ChainRight.step_right}
+use Rattle.machine_memory.specs.{SharedMemory.Shared, SharedMemory.CanTouch, SharedMemory.CanOperate, SharedMemory.block_touched, SharedMemory.slots_there, EffectOf.effect_of}
 use Rattle.machine_steps.specs.Steps.{CanReply, CanStep, after_touch, answer_to, carried_then, shared_then, next_after, running_after, reply_after, step_of, start_of}
-use Rattle.machine_memory.specs.EffectOf.{effect_of}
 use Rattle.machine_replay.proofs.Engine.Events as engine
-use Rattle.machine_replay.proofs.Engine.KindLaws.{LawsOf}
-use Rattle.machine_replay.proofs.Chain.Names.{Codes}
-use Rattle.machine_replay.proofs.Chain.Holding.{ChainHolds}
-use Rattle.machine_replay.proofs.Chain.Moments.{chain_moves}
-use Rattle.machine_replay.proofs.Chain.Fits.{ChainIdle, ChainFits, ChainGoes, chain_goes, chain_watched, chain_idle, chain_joins, chain_begins}
 
 -- what the call does after its step, by what it found
 abbrev pub next_on : {A : Type 0} → Bool → Shared A → Running A → Next ℕ

@@ -1,29 +1,13 @@
 -- The list that a chain of blocks holds, once every call in progress has done what it has claimed, is that of the queue.
 use Rattle.std.proofs.Common.{ℕ, suc, zero, ◌+◌, ◌-◌, ◌*◌, ◌<◌, ◌≤◌, ◌≡◌, ◌≢◌, nat_lt, ◌∙◌, ◌⊎◌, inl, inr, true, false, Option, Some, None, List, [], ◌∷◌, ◌++◌, length, refl, sym, ap, subst, get_or, set, get_or-set_other, drop, arith}
-use Rattle.std.proofs.lemmas.Bool.{ltb-true, ltb-false}
-use Rattle.std.proofs.lemmas.Bool.Decides.{eqb_tells}
-use Rattle.std.proofs.lemmas.List.{drop_all}
+use Rattle.std.proofs.lemmas.{Bool.ltb-true, Bool.ltb-false, Bool.Decides.eqb_tells, List.drop_all}
 use Rattle.queue_steps.specs.State.{State}
-use Rattle.machine_replay.specs.Vocabulary.{Kind, BLOCK_SLOTS, Running}
+use Rattle.machine_replay.specs.{Vocabulary.Kind, Vocabulary.BLOCK_SLOTS, Vocabulary.Running, Book.Book}
 use Rattle.queue_laws.specs.Chain.ChainCells.{Reading, Done, Passer, Stands, Passing, Entering, Shown, Hidden, Showing, Seen, GivenUp, Before, Unused, Spare, Chained, Chain, ChainOk, FrontOk, ShownOk, item_at, LAST, Head, passer_of}
-use Rattle.queue_laws.proofs.Chain.ChainTransitions.{no_block}
-use Rattle.queue_laws.proofs.Chain.ChainCount.{number_of}
-use Rattle.queue_laws.proofs.Chain.ChainSpan.{not_done}
-use Rattle.queue_laws.proofs.Chain.Count.{count_all, count_into}
-use Rattle.machine_memory.specs.Blocks.{Block, fresh_block, places_in, behind_in, without}
-use Rattle.machine_replay.specs.Book.{Book}
-use Rattle.machine_memory.specs.SharedMemory.{Shared}
-use Rattle.machine_steps.specs.ChainLeft.{unread, chained, settled_blocks}
-use Rattle.machine_steps.specs.Left.{left_of}
-use Rattle.machine_steps.specs.World.{World, call_at}
-use Rattle.machine_replay.proofs.Chain.Codes.{BlockIs}
-use Rattle.machine_replay.proofs.Chain.Names.{NameIs, name_of, alive_of}
-use Rattle.machine_replay.proofs.Chain.Fresh.{next_high, unwalked}
-use Rattle.machine_replay.proofs.Chain.Holding.{ChainHolds}
-use Rattle.machine_replay.proofs.Chain.Counted.{StandsAt}
-use Rattle.machine_replay.proofs.Chain.Done.{all_done, settled_block}
-use Rattle.machine_replay.proofs.Chain.Shows.{AllStand, deed_at, in_call, block_shows}
-use Rattle.machine_replay.proofs.Chain.Links.{next_is, last_next, spare_empty, front_then, front_is}
+use Rattle.queue_laws.proofs.Chain.{ChainTransitions.no_block, ChainCount.number_of, ChainSpan.not_done, Count.count_all, Count.count_into}
+use Rattle.machine_memory.specs.{Blocks.Block, Blocks.fresh_block, Blocks.places_in, Blocks.behind_in, Blocks.without, SharedMemory.Shared}
+use Rattle.machine_steps.specs.{ChainLeft.unread, ChainLeft.chained, ChainLeft.settled_blocks, Left.left_of, World.World, World.call_at}
+use Rattle.machine_replay.proofs.Chain.{Codes.BlockIs, Names.NameIs, Names.name_of, Names.alive_of, Fresh.next_high, Fresh.unwalked, Holding.ChainHolds, Counted.StandsAt, Done.all_done, Done.settled_block, Shows.AllStand, Shows.deed_at, Shows.in_call, Shows.block_shows, Links.next_is, Links.last_next, Links.spare_empty, Links.front_then, Links.front_is}
 
 -- from no block on there is nothing
 chained_none : {A : Type 0} (n : ℕ) (bs : List (Option (Block A))) → chained n bs None ≡ []

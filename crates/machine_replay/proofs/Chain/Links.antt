@@ -3,16 +3,12 @@ use Rattle.std.proofs.Common.{ℕ, suc, zero, ◌+◌, ◌-◌, ◌/◌, ◌<◌
 use Rattle.std.proofs.lemmas.List.{get_or-replicate, length-replicate}
 use Rattle.machine_replay.specs.Vocabulary.{BLOCK_SLOTS, Running}
 use Rattle.queue_laws.specs.Chain.ChainCells.{Mover, Rests, Laying, Opening, LinkState, Unlinked, Linking, Linked, Shown, Hidden, Showing, Seen, Spare, Chained, Chain, ChainOk, LinkOk, Next, First, Tail, mover_of, linker_of, shower_of}
-use Rattle.queue_laws.specs.Chain.ChainAnswers.{linked_of, shown_of}
-use Rattle.queue_laws.specs.Chain.ChainPasses.{spare_in, Spares}
-use Rattle.machine_memory.specs.declared.blocks.BlockPlace.{BlockPlace}
-use Rattle.machine_memory.specs.Blocks.{Block, blank, fresh_block}
+use Rattle.queue_laws.specs.Chain.{ChainAnswers.linked_of, ChainAnswers.shown_of, ChainPasses.spare_in, ChainPasses.Spares}
+use Rattle.machine_memory.specs.{declared.blocks.BlockPlace.BlockPlace, Blocks.Block, Blocks.blank, Blocks.fresh_block}
 use Rattle.machine_steps.specs.ChainLeft.{unread, settled_front, front_at}
-use Rattle.machine_replay.proofs.Chain.Codes.{BlockIs}
-use Rattle.machine_replay.proofs.Chain.Counted.{InCall, StandsAt}
+use Rattle.machine_replay.proofs.Chain.{Codes.BlockIs, Counted.InCall, Counted.StandsAt, Shows.AllStand, Shows.deed_in, Shows.deed_at, Shows.in_call, Shows.unread_none}
 use Rattle.machine_replay.proofs.Chain.Deeds.{Deed, Rest, Puts, Lays, Reads, PutsAt, LinksTo, IsClaimed, IsLaid}
 use Rattle.machine_replay.proofs.Chain.Done.{all_done, done_to, keeps_all, makes_all, IsWide, wide_done, HasItem, item_kept, HasNext, next_kept, next_made}
-use Rattle.machine_replay.proofs.Chain.Shows.{AllStand, deed_in, deed_at, in_call, unread_none}
 
 -- the numbers of two blocks of one name are one
 one_number : {A : Type 0} (g : Chain A) (m b f : ℕ) → ChainOk g → m < g.blocks → f ≡ g.names m → b < g.blocks → f ≡ g.names b → m ≡ b

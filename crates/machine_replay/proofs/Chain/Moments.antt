@@ -1,20 +1,13 @@
 -- What a step of a call on a chain is in the book: its effects begin those of a reply, its effect moves the queue, and its reply is right at a moment.
 use Rattle.std.proofs.Common.{ℕ, ◌≡◌, ◌==◌, Option, Ok, List, [], refl}
 use Rattle.std.specs.List.{Any}
-use Rattle.queue_steps.specs.State.{State}
-use Rattle.queue_steps.specs.Words.{is_shut}
-use Rattle.machine_replay.specs.Vocabulary.{Call, Reply, Effect, Kind, Answer, Local, UnboundedLocal, EffectKind}
-use Rattle.queue_steps.specs.declared.steps.unbounded.UnboundedLocal.TheVariants as chain
-use Rattle.queue_laws.specs.Common.Moments.{SeenIn}
-use Rattle.queue_laws.specs.Common.Effects.{Leads, with_effect}
-use Rattle.queue_laws.specs.Common.Stand.{Stand}
-use Rattle.queue_laws.specs.Chain.ChainCells.{Chain, queue_of}
+use Rattle.queue_steps.specs.{State.State, Words.is_shut, declared.steps.unbounded.UnboundedLocal.UnboundedLocal as chain}
+use Rattle.machine_replay.specs.{Vocabulary.Call, Vocabulary.Reply, Vocabulary.Effect, Vocabulary.Kind, Vocabulary.Answer, Vocabulary.Local, Vocabulary.UnboundedLocal, Vocabulary.EffectKind, Book.Open, Book.Moves, Book.Allows, Book.IsBegun}
+use Rattle.queue_laws.specs.{Common.Moments.SeenIn, Common.Effects.Leads, Common.Effects.with_effect, Common.Stand.Stand, Chain.ChainCells.Chain, Chain.ChainCells.queue_of}
 use Rattle.queue_laws.specs.Chain.ChainAt.{At, laying, opening, chaining, writing, following, peeking, passing, entering, awaiting, reading, beginning, walking, destroying}
 use Rattle.queue_laws.proofs.Chain.ChainStepOk.{IsEffect}
-use Rattle.machine_replay.specs.Book.{Open, Moves, Allows, IsBegun}
 use Rattle.machine_memory.specs.EffectOf.{effect_of}
-use Rattle.machine_replay.proofs.Engine.Moments.{any_in, begun_none, begun_append}
-use Rattle.machine_replay.proofs.Engine.Moving.{no_move, won, marked, appends, takes}
+use Rattle.machine_replay.proofs.Engine.{Moments.any_in, Moments.begun_none, Moments.begun_append, Moving.no_move, Moving.won, Moving.marked, Moving.appends, Moving.takes}
 
 -- the effects of a call in progress begin those of some reply
 pub chain_begun : {A : Type 0} {c : Chain A} {who : ℕ} {ms : List (State A)} {k : Stand A} → At c who ms k → IsBegun k.call k.effects

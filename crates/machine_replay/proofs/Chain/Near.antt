@@ -2,30 +2,14 @@
 use Rattle.std.proofs.Common.{ℕ, ◌+◌, ◌-◌, ◌/◌, ◌%◌, ◌==◌, if◌then◌else◌, ◌<◌, ◌≤◌, ◌≡◌, ◌≢◌, inl, inr, ◌∙◌, zero, suc, Bool, true, false, Option, Some, None, List, refl, sym, ap, arith}
 use Rattle.std.proofs.lemmas.Bool.{ne_eqb, eq-eqb}
 use Rattle.machine_replay.specs.Vocabulary.{Word, Link, Op, Touch, Answer, Local, Next, PushKind, BLOCK_SLOTS, Look}
-use Rattle.queue_steps.specs.State.{State}
-use Rattle.queue_steps.specs.Looks.{reply_of_look}
-use Rattle.queue_steps.specs.Words.{is_shut, position_of, tail_of}
-use Rattle.queue_steps.specs.ChainWords.{offset_of, items_before}
+use Rattle.queue_steps.specs.{State.State, Looks.reply_of_look, Words.is_shut, Words.position_of, Words.tail_of, ChainWords.offset_of, ChainWords.items_before, declared.steps.unbounded.UnboundedLocal.UnboundedLocal as chain}
 use Rattle.queue_steps.specs.UnboundedNext as steps
 use Rattle.queue_steps.specs.UnboundedNext.{chain_tail_found, chain_head_found, head_block_found, tail_block_found, asks, claims, lays, writes, ends, loads, is_last_slot, unbounded_next}
-use Rattle.queue_steps.specs.declared.steps.unbounded.UnboundedLocal.TheVariants as chain
-use Rattle.queue_laws.proofs.Common.Ranks.{either_small}
-use Rattle.queue_laws.proofs.Common.Tails.{position_tail, shut_tail}
-use Rattle.queue_laws.specs.Common.Stand.{Stand}
-use Rattle.queue_laws.specs.Chain.ChainAfter.{after_of, chain_of, claimed_if, if_installed}
-use Rattle.queue_laws.specs.Chain.ChainAnswers.{Answers, tail_place, tail_word, head_word, last_of, shown_of}
+use Rattle.queue_laws.proofs.{Common.Ranks.either_small, Common.Tails.position_tail, Common.Tails.shut_tail, Chain.ChainAnswers.tail_items, Chain.ChainAnswers.resting_word, Chain.ChainPush.tail_ways, Chain.ChainRanks.is_seen, Chain.ChainRanks.lag, Chain.ChainRanks.lag_none, Chain.ChainRanks.Falls, Chain.ChainRanks.rests_if, Chain.ChainRanks.stands_if, Chain.ChainRanksPop.head_falls, Chain.ChainRanksPush.push_tail_falls, Chain.ChainTransitions.no_block}
+use Rattle.queue_laws.specs.{Common.Stand.Stand, Chain.ChainAfter.after_of, Chain.ChainAfter.chain_of, Chain.ChainAfter.claimed_if, Chain.ChainAfter.if_installed, Chain.ChainAnswers.Answers, Chain.ChainAnswers.tail_place, Chain.ChainAnswers.tail_word, Chain.ChainAnswers.head_word, Chain.ChainAnswers.last_of, Chain.ChainAnswers.shown_of, Chain.ChainFacts.place, Chain.ChainFacts.head_of, Chain.ChainFacts.open_tail_of, Chain.ChainFacts.HeadIs, Chain.ChainFacts.TailIs, Chain.ChainFacts.HasSpare, Chain.ChainTransitions.installed}
 use Rattle.queue_laws.specs.Chain.ChainAt.{At, Only, push_tail, push_block, asking, installing, showing, claiming, laying, opening, chaining, writing, spending, pop_head, pop_block, pop_tail, taking, count_tail, count_head, count_again, empty_head, empty_tail, closing, closed_tail}
 use Rattle.queue_laws.specs.Chain.ChainCells.{Rests, Stands, Shown, Seen, Chain, ChainOk, Tail, Head, First, HoldsOnly, Nothing}
-use Rattle.queue_laws.specs.Chain.ChainFacts.{place, head_of, open_tail_of, HeadIs, TailIs, HasSpare}
-use Rattle.queue_laws.specs.Chain.ChainTransitions.{installed}
-use Rattle.queue_laws.proofs.Chain.ChainAnswers.{tail_items, resting_word}
-use Rattle.queue_laws.proofs.Chain.ChainPush.{tail_ways}
-use Rattle.queue_laws.proofs.Chain.ChainRanks.{is_seen, lag, lag_none, Falls, rests_if, stands_if}
-use Rattle.queue_laws.proofs.Chain.ChainRanksPop.{head_falls}
-use Rattle.queue_laws.proofs.Chain.ChainRanksPush.{push_tail_falls}
-use Rattle.queue_laws.proofs.Chain.ChainTransitions.{no_block}
-use Rattle.machine_replay.proofs.Chain.Far.{far_at, one_of_pop, lag_most}
-use Rattle.machine_replay.proofs.Chain.Taken.{ready_of, unheld}
+use Rattle.machine_replay.proofs.Chain.{Far.far_at, Far.one_of_pop, Far.lag_most, Taken.ready_of, Taken.unheld}
 
 -- a push that has no spare may come to its first block late, while the tail is at its first place
 abbrev early : ℕ → ℕ

@@ -1,9 +1,7 @@
 -- Each step of a call on a chain leaves words, links and blocks that stand for the chain after it.
-use Rattle.queue_laws.proofs.Chain.ChainStep.{step_good}
-use Rattle.queue_laws.proofs.Chain.ChainRight.{step_right}
+use Rattle.queue_laws.proofs.Chain.{ChainStep.step_good, ChainRight.step_right}
 use Rattle.machine_steps.specs.Steps.{answer_to}
-use Rattle.machine_replay.proofs.Chain.CodedAll.{coded}
-use Rattle.machine_replay.proofs.Chain.Laws.{StepsStand}
+use Rattle.machine_replay.proofs.Chain.{CodedAll.coded, Laws.StepsStand}
 
 pub steps_stand : (A : Type 0) → StepsStand A
 steps_stand A ok s Q g p ms x k es holds at spares =

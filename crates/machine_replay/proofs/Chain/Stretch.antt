@@ -1,34 +1,15 @@
 -- A chain: once the first block is shown, each step of a call that nobody hinders brings it nearer to its reply.
 use Rattle.std.proofs.Common.{ℕ, if◌then◌else◌, ◌-◌, ◌<◌, ◌≡◌, ◌∙◌, Bool, true, false, Option, Some, None, IsSome, List, [], ◌∷◌, bit_or, refl, sym, ap, subst, arith}
-use Rattle.queue_steps.specs.State.{State}
-use Rattle.queue_steps.specs.Next.{next_of}
-use Rattle.queue_steps.specs.Words.{is_shut, tail_of}
+use Rattle.queue_steps.specs.{State.State, Next.next_of, Words.is_shut, Words.tail_of}
 use Rattle.machine_replay.specs.Vocabulary.{Kind, Word, Link, Op, Touch, Next, MARK, EffectKind, Running}
-use Rattle.queue_laws.specs.Common.Effects.{with_effect}
-use Rattle.queue_laws.proofs.Common.Tails.{mark_tail, shut_tail}
-use Rattle.queue_laws.specs.Common.Stand.{Stand}
-use Rattle.machine_replay.proofs.Engine.StandOf.{running_of}
-use Rattle.queue_laws.specs.Chain.ChainCells.{Chain, queue_of}
-use Rattle.queue_laws.specs.Chain.ChainAfter.{after_of, left_by}
-use Rattle.queue_laws.specs.Chain.ChainAnswers.{tail_place, tail_word}
+use Rattle.queue_laws.specs.{Common.Effects.with_effect, Common.Stand.Stand, Chain.ChainCells.Chain, Chain.ChainCells.queue_of, Chain.ChainAfter.after_of, Chain.ChainAfter.left_by, Chain.ChainAnswers.tail_place, Chain.ChainAnswers.tail_word, Common.Operations.op_word, Common.Operations.op_makes}
+use Rattle.queue_laws.proofs.{Common.Tails.mark_tail, Common.Tails.shut_tail, Chain.ChainFirst.first, Chain.ChainRanks.rank, Chain.ChainRanks.rank_some, Chain.ChainRanks.Falls, Chain.ChainRanks.IsQuiet, Chain.ChainRanksStep.step_falls, Chain.ChainRight.NextOkSpares, Chain.ChainRight.step_right, Chain.ChainStep.is_chain}
+use Rattle.machine_replay.proofs.{Engine.StandOf.running_of, Chain.Far.far_at, Chain.Far.far_of, Chain.Far.one_of_pop, Chain.Far.by_call, Chain.Far.goes_as, Chain.Far.bounded, Chain.Fits.ChainIdle, Chain.Fits.ChainFits, Chain.Holding.ChainHolds, Chain.Laws.chain_steps, Chain.Laws.chain_then, Chain.Laws.next_on, Chain.Opening.chain_opens, Chain.Opening.chain_all_idle, Chain.Stands.steps_stand, Progress.Stretch.Rules}
 use Rattle.queue_laws.specs.Chain.ChainAt.{At, push_tail, push_block, asking, installing, showing, claiming, spending, pop_head, pop_block, pop_tail, taking, count_tail, count_head, count_again, empty_head, empty_tail, closing, closed_tail}
-use Rattle.queue_laws.proofs.Chain.ChainFirst.{first}
-use Rattle.queue_laws.proofs.Chain.ChainRanks.{rank, rank_some, Falls, IsQuiet}
-use Rattle.queue_laws.proofs.Chain.ChainRanksStep.{step_falls}
-use Rattle.queue_laws.proofs.Chain.ChainRight.{NextOkSpares, step_right}
-use Rattle.queue_laws.proofs.Chain.ChainStep.{is_chain}
 use prog.Atomic.{either}
-use Rattle.queue_laws.specs.Common.Operations.{op_word, op_makes}
 use Rattle.machine_replay.specs.Book.{Open}
 use Rattle.machine_memory.specs.SharedMemory.{Shared, word_at, put_word, put_at, touched, operated, granted_if, block_touched}
 use Rattle.machine_steps.specs.Steps.{answer_to, step_of, running_after, next_after, carried_then, after_touch}
-use Rattle.machine_replay.proofs.Chain.Far.{far_at, far_of, one_of_pop, by_call, goes_as, bounded}
-use Rattle.machine_replay.proofs.Chain.Fits.{ChainIdle, ChainFits}
-use Rattle.machine_replay.proofs.Chain.Holding.{ChainHolds}
-use Rattle.machine_replay.proofs.Chain.Laws.{chain_steps, chain_then, next_on}
-use Rattle.machine_replay.proofs.Chain.Opening.{chain_opens, chain_all_idle}
-use Rattle.machine_replay.proofs.Chain.Stands.{steps_stand}
-use Rattle.machine_replay.proofs.Progress.Stretch.{Rules}
 
 -- a call that goes on has fewer steps before it
 goes_on : {A : Type 0} (c : Chain A) (n : Next ℕ) (v : Option A) (m : ℕ) (x : Running A) → running_after n v ≡ Some x → Falls c n m → rank (left_by c n) x.local < m

@@ -1,39 +1,17 @@
 -- A chain: a pop that has taken waits for a push alone that has appended and not written yet.
 use Rattle.std.proofs.Common.{ℕ, ◌+◌, ◌-◌, ◌*◌, ◌/◌, ◌%◌, ◌==◌, if◌then◌else◌, ◌<◌, ◌≤◌, ◌≡◌, ◌≢◌, ◌⊎◌, inl, inr, ◌∙◌, nat_lt, not, Bool, true, false, Ok, Option, Some, List, bit_and, refl, sym, ap, subst, arith}
-use Rattle.std.proofs.lemmas.Bool.{cond_both, ltb-true}
-use Rattle.std.proofs.lemmas.Bool.Decides.{eqb_tells}
+use Rattle.std.proofs.lemmas.Bool.{cond_both, ltb-true, Decides.eqb_tells}
 use Rattle.machine_replay.specs.Vocabulary.{Reply, Kind, Word, Op, Touch, Answer, Local, Next, BLOCK_SLOTS, WRITE, READ, DESTROY, Running}
-use Rattle.queue_steps.specs.State.{State}
-use Rattle.queue_steps.specs.Next.{next_of}
-use Rattle.queue_steps.specs.ChainWords.{offset_of}
-use Rattle.queue_steps.specs.UnboundedNext.{followed, written_found, ends, walks, walks_on, unbounded_next}
-use Rattle.queue_steps.specs.declared.steps.unbounded.UnboundedLocal.TheVariants as chain
-use Rattle.queue_laws.specs.Common.Stand.{Stand}
+use Rattle.queue_steps.specs.{State.State, Next.next_of, ChainWords.offset_of, UnboundedNext.followed, UnboundedNext.written_found, UnboundedNext.ends, UnboundedNext.walks, UnboundedNext.walks_on, UnboundedNext.unbounded_next, declared.steps.unbounded.UnboundedLocal.UnboundedLocal as chain}
+use Rattle.queue_laws.specs.{Common.Stand.Stand, Chain.ChainAfter.chain_of, Chain.ChainAnswers.Answers, Chain.ChainAnswers.IsState, Chain.ChainAnswers.linked_of, Chain.ChainAnswers.is_wrote, Chain.ChainFacts.head_of}
 use Rattle.queue_laws.specs.Chain.ChainCells as cells
 use Rattle.queue_laws.specs.Chain.ChainCells.{Reader, Unread, Reading, Done, Shown, Seen, Chain, ChainOk, ItemOk, ShownOk, Part, Write, Read, Tail, Head, Passed, owner, item_at, LAST, HoldsOnly}
-use Rattle.queue_laws.specs.Chain.ChainAfter.{chain_of}
-use Rattle.queue_laws.specs.Chain.ChainAnswers.{Answers, IsState, linked_of, is_wrote}
 use Rattle.queue_laws.specs.Chain.ChainAt.{Only, Either, At, showing, laying, opening, chaining, writing, following, peeking, passing, entering, awaiting, reading, beginning, walking, destroying}
-use Rattle.queue_laws.proofs.Chain.ChainEarly.{early}
-use Rattle.queue_laws.specs.Chain.ChainFacts.{head_of}
-use Rattle.queue_laws.proofs.Chain.ChainAnswers.{head_offset}
-use Rattle.queue_laws.proofs.Chain.ChainRanks.{rests_if}
-use Rattle.queue_laws.proofs.Chain.ChainRanksPop.{wrote_then, linked_then}
-use Rattle.queue_laws.proofs.Chain.ChainRanksWalk.{last_claimed}
-use Rattle.queue_laws.proofs.Chain.ChainReads.{own_item}
-use Rattle.queue_laws.proofs.Chain.ChainStep.{is_chain}
-use Rattle.machine_replay.specs.Book.{Open}
+use Rattle.queue_laws.proofs.Chain.{ChainEarly.early, ChainAnswers.head_offset, ChainRanks.rests_if, ChainRanksPop.wrote_then, ChainRanksPop.linked_then, ChainRanksWalk.last_claimed, ChainReads.own_item, ChainStep.is_chain}
+use Rattle.machine_replay.specs.{Book.Open, Progress.TakesReplyWithin}
 use Rattle.machine_memory.specs.SharedMemory.{Shared}
 use Rattle.machine_steps.specs.Steps.{answer_to, step_of, running_after, next_after, carried_then}
-use Rattle.machine_replay.proofs.Chain.Far.{inner_low}
-use Rattle.machine_replay.proofs.Chain.Fits.{ChainFits}
-use Rattle.machine_replay.proofs.Chain.Holding.{ChainHolds}
-use Rattle.machine_replay.proofs.Chain.Laws.{next_on}
-use Rattle.machine_replay.proofs.Chain.Stands.{steps_stand}
-use Rattle.machine_replay.proofs.Chain.Stretch.{chain_rules}
-use Rattle.machine_replay.specs.Progress.{TakesReplyWithin}
-use Rattle.machine_replay.proofs.Progress.Appended.{HasAppend}
-use Rattle.machine_replay.proofs.Progress.Taken.{HasTake, takes_reply}
+use Rattle.machine_replay.proofs.{Chain.Far.inner_low, Chain.Fits.ChainFits, Chain.Holding.ChainHolds, Chain.Laws.next_on, Chain.Stands.steps_stand, Chain.Stretch.chain_rules, Progress.Appended.HasAppend, Progress.Taken.HasTake, Progress.Taken.takes_reply}
 
 -- a part that a pop may hold
 abbrev IsPops : Part → Type 0

@@ -1,39 +1,16 @@
 -- A chain: who waits for whom, step by step.
 use Rattle.std.proofs.Common.{ℕ, ◌+◌, ◌/◌, ◌%◌, ◌≤◌, ◌≡◌, ◌≢◌, ◌==◌, ◌⊎◌, inl, inr, ◌∙◌, not, false, true, Option, Some, None, List, refl, sym, ap, subst, arith}
 use Rattle.machine_replay.specs.Vocabulary.{Call, Effect, Kind, Answer, Local, Next, PushKind, BLOCK_SLOTS, Running}
-use Rattle.queue_steps.specs.State.{State}
-use Rattle.queue_steps.specs.Next.{next_of}
-use Rattle.queue_steps.specs.ChainWords.{offset_of}
-use Rattle.queue_steps.specs.UnboundedNext.{chain_tail_found, chain_head_found, chain_pop_tail_found, followed, written_found, unbounded_next}
-use Rattle.queue_steps.specs.declared.steps.unbounded.UnboundedLocal.TheVariants as chain
-use Rattle.queue_laws.specs.Common.Stand.{Stand}
-use Rattle.machine_replay.proofs.Engine.StandOf.{stand_of}
-use Rattle.queue_laws.specs.Chain.ChainAfter.{chain_of}
-use Rattle.queue_laws.specs.Chain.ChainAnswers.{Answers, IsState, tail_word, head_word, shown_of, linked_of, is_wrote}
+use Rattle.queue_steps.specs.{State.State, Next.next_of, ChainWords.offset_of, UnboundedNext.chain_tail_found, UnboundedNext.chain_head_found, UnboundedNext.chain_pop_tail_found, UnboundedNext.followed, UnboundedNext.written_found, UnboundedNext.unbounded_next, declared.steps.unbounded.UnboundedLocal.UnboundedLocal as chain}
+use Rattle.queue_laws.specs.{Common.Stand.Stand, Chain.ChainAfter.chain_of, Chain.ChainAnswers.Answers, Chain.ChainAnswers.IsState, Chain.ChainAnswers.tail_word, Chain.ChainAnswers.head_word, Chain.ChainAnswers.shown_of, Chain.ChainAnswers.linked_of, Chain.ChainAnswers.is_wrote, Chain.ChainFacts.head_of, Chain.ChainFacts.open_tail_of}
+use Rattle.machine_replay.proofs.{Engine.StandOf.stand_of, Progress.Beside.apart, Progress.Beside.beside, Progress.Beside.not_back, Chain.Laws.next_on, Chain.Stands.steps_stand, Chain.Stretch.chain_rules, Progress.Stretch.Here, Progress.Stretch.Party, Progress.Stretch.reach, Progress.Stretch.first, Progress.Stretch.party-open}
 use Rattle.queue_laws.specs.Chain.ChainAt.{At, push_tail, showing, laying, opening, chaining, writing, pop_head, pop_tail, following, peeking, passing, entering, awaiting, reading, beginning, walking, destroying}
-use Rattle.queue_laws.proofs.Chain.ChainEarly.{early}
+use Rattle.queue_laws.proofs.Chain.{ChainEarly.early, ChainAnswers.head_offset, ChainRanks.rank, ChainRanks.tail_rank, ChainRanks.is_seen, ChainRanks.Falls, ChainRanks.rests_if, ChainRanks.stands_if, ChainRanksPop.head_falls, ChainRanksPop.pop_tail_falls, ChainRanksPop.following_falls, ChainRanksPop.wrote_then, ChainRanksPop.awaiting_falls, ChainRanksPush.push_tail_falls, ChainReads.own_item, ChainStep.is_chain}
 use Rattle.queue_laws.specs.Chain.ChainCells as cells
 use Rattle.queue_laws.specs.Chain.ChainCells.{Passing, Shown, Seen, Chain, ChainOk, Part, Write, Read, Tail, Head, First, Passed, owner}
-use Rattle.queue_laws.specs.Chain.ChainFacts.{head_of, open_tail_of}
-use Rattle.queue_laws.proofs.Chain.ChainAnswers.{head_offset}
-use Rattle.queue_laws.proofs.Chain.ChainRanks.{rank, tail_rank, is_seen, Falls, rests_if, stands_if}
-use Rattle.queue_laws.proofs.Chain.ChainRanksPop.{head_falls, pop_tail_falls, following_falls, wrote_then, awaiting_falls}
-use Rattle.queue_laws.proofs.Chain.ChainRanksPush.{push_tail_falls}
-use Rattle.queue_laws.proofs.Chain.ChainReads.{own_item}
-use Rattle.queue_laws.proofs.Chain.ChainStep.{is_chain}
-use Rattle.machine_steps.specs.Left.{opening_world}
+use Rattle.machine_steps.specs.{Left.opening_world, Steps.answer_to, Steps.running_after, Steps.next_after, Steps.carried_then, World.World, World.call_at}
 use Rattle.machine_memory.specs.SharedMemory.{Shared}
-use Rattle.machine_steps.specs.Steps.{answer_to, running_after, next_after, carried_then}
-use Rattle.machine_steps.specs.World.{World, call_at}
-use Rattle.machine_replay.specs.Book.{Open}
-use Rattle.machine_replay.specs.Played.{told_of, world_after}
-use Rattle.machine_replay.specs.Progress.{Standing, Between, stands_by, IsToShow}
-use Rattle.machine_replay.specs.Waits.{ChainCallsWait, IsBeside, GoesOn, IsToMoveTail, IsToMoveHead, IsToLink, IsToWrite}
-use Rattle.machine_replay.proofs.Progress.Beside.{apart, beside, not_back}
-use Rattle.machine_replay.proofs.Chain.Laws.{next_on}
-use Rattle.machine_replay.proofs.Chain.Stands.{steps_stand}
-use Rattle.machine_replay.proofs.Chain.Stretch.{chain_rules}
-use Rattle.machine_replay.proofs.Progress.Stretch.{Here, Party, reach, first, party-open}
+use Rattle.machine_replay.specs.{Book.Open, Played.told_of, Played.world_after, Progress.Standing, Progress.Between, Progress.stands_by, Progress.IsToShow, Waits.ChainCallsWait, Waits.IsBeside, Waits.GoesOn, Waits.IsToMoveTail, Waits.IsToMoveHead, Waits.IsToLink, Waits.IsToWrite}
 
 -- where a call stands that holds a part of the chain. Nobody waits for who reads an item or walks over a block
 abbrev pub HolderAt : Part → Local ℕ → Type 0

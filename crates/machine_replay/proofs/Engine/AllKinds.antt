@@ -2,24 +2,13 @@
 use Rattle.std.proofs.Common.{ℕ, ◌+◌, ◌≤◌, ◌≡◌, Bool, nat_lt, false, is_none, if◌then◌else◌, List, [], ◌∷◌, ◌++◌, length, refl, arith, ◌∙◌, ap, sym, subst}
 use Rattle.machine_replay.specs.Vocabulary.{Call, Kind, MAX_CAPACITY, Event, Told, Peak, Begin, Step, Running}
 use Rattle.queue_steps.specs.Words.{IsRing}
-use Rattle.machine_replay.specs.Book.{opening}
+use Rattle.machine_replay.specs.{Book.opening, Conforms.capacity_of, Replays.CanReplay, Replays.is_too_large, Peaks.opening_peak, Peaks.peaked}
 use Rattle.machine_memory.specs.SharedMemory.{Shared}
-use Rattle.machine_steps.specs.Steps.{CanStart}
-use Rattle.machine_replay.specs.Conforms.{capacity_of}
-use Rattle.machine_steps.specs.Left.{left_of, opening_world, HasSlot}
-use Rattle.machine_replay.specs.Replays.{CanReplay, is_too_large}
-use Rattle.machine_steps.specs.Machine.{event_of, CanHandle, Handles, Passes, PassesAll}
-use Rattle.machine_replay.specs.Peaks.{opening_peak, peaked}
-use Rattle.machine_steps.specs.World.{World, call_at}
-use Rattle.machine_replay.proofs.Engine.KindLaws.{KindLaws}
-use Rattle.machine_replay.proofs.Single.Left.{single_laws}
-use Rattle.machine_replay.proofs.Ring.Kind.{ring_laws}
-use Rattle.machine_replay.proofs.Chain.Kind.{chain_laws}
+use Rattle.machine_steps.specs.{Steps.CanStart, Left.left_of, Left.opening_world, Left.HasSlot, Machine.event_of, Machine.CanHandle, Machine.Handles, Machine.Passes, Machine.PassesAll, World.World, World.call_at}
+use Rattle.machine_replay.proofs.{Engine.KindLaws.KindLaws, Single.Left.single_laws, Ring.Kind.ring_laws, Chain.Kind.chain_laws, Replays.Peaking.Run-length, Replays.Peaking.peaked-if, Engine.SoFar.SoFar, Engine.SoFar.so_far-first, Engine.SoFar.so_far-more, Engine.SoFar.so_far-can, Engine.SoFar.so_far-grows, Engine.SoFar.so_far-none, Engine.SoFar.so_far-room}
 use Rattle.std.proofs.lemmas.Bool.{ltb-false}
-use Rattle.machine_replay.proofs.Replays.Peaking.{Run-length, peaked-if}
 use Rattle.machine_memory.proofs.Presence.{Sparing}
 use Rattle.machine_steps.proofs.EventPresence.{event-sparing}
-use Rattle.machine_replay.proofs.Engine.SoFar.{SoFar, so_far-first, so_far-more, so_far-can, so_far-grows, so_far-none, so_far-room}
 
 -- the machine has queues of this kind
 abbrev pub HasMachine : Kind → Type 0

@@ -1,7 +1,6 @@
 -- The slots once every call that is about to write has written, and the items that are gathered from them.
 use Rattle.std.proofs.Common.{◌≡◌, ◌≢◌, ◌∙◌, ℕ, zero, suc, ◌+◌, ◌<◌, ◌≤◌, ◌==◌, Bool, true, false, Option, Some, None, List, [], ◌∷◌, length, get_or, set, get_or-set_same, get_or-set_other, refl, sym, ap, arith, inl, inr}
-use Rattle.std.proofs.lemmas.List.{length-set}
-use Rattle.std.proofs.lemmas.Bool.Decides.{eqb_tells}
+use Rattle.std.proofs.lemmas.{List.length-set, Bool.Decides.eqb_tells}
 use Rattle.machine_replay.specs.Vocabulary.{Touch, Running}
 use Rattle.queue_steps.specs.Words.{slot_at}
 use Rattle.queue_laws.proofs.Ring.RingCells.{apart}

@@ -1,8 +1,7 @@
 -- What one event more leaves of the calls that parties are in.
 use Rattle.std.proofs.Common.{◌≡◌, ◌≢◌, ◌⊎◌, ℕ, ◌+◌, ◌<◌, ◌≤◌, Option, Some, None, List, [], ◌∷◌, ◌++◌, sym, arith, inl, inr}
 use Rattle.std.specs.List.{AllByRecursion}
-use Rattle.machine_replay.specs.Vocabulary.{Reply, Event, Begin, Step}
-use Rattle.machine_replay.specs.InCall.{HasRun, IsStepOf, IsUnanswered, IsInCall}
+use Rattle.machine_replay.specs.{Vocabulary.Reply, Vocabulary.Event, Vocabulary.Begin, Vocabulary.Step, InCall.HasRun, InCall.IsStepOf, InCall.IsUnanswered, InCall.IsInCall}
 use Rattle.machine_replay.proofs.Engine.Entries.{each-more, each-both, each-all, event-more}
 
 -- the replies after the event n of party p, which ends a call with this reply or with none

@@ -1,10 +1,8 @@
 -- A queue with a capacity has no block.
 use Rattle.std.proofs.Common.{◌≡◌, ℕ, Some, [], length, ap, arith}
 use Rattle.queue_steps.specs.Sequential.{blocks_of, spanned}
-use Rattle.machine_replay.specs.Vocabulary.{Running}
-use Rattle.machine_replay.specs.Book.{Book}
-use Rattle.machine_memory.specs.SharedMemory.{Shared}
-use Rattle.machine_memory.specs.Present.{present}
+use Rattle.machine_replay.specs.{Vocabulary.Running, Book.Book}
+use Rattle.machine_memory.specs.{SharedMemory.Shared, Present.present}
 use Rattle.machine_steps.specs.World.{World}
 use Rattle.machine_replay.proofs.Engine.KindLaws.{IsCounted}
 

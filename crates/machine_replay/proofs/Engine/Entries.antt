@@ -1,12 +1,9 @@
 -- Entries of effects, and what a later entry leaves as it was.
 use Rattle.std.proofs.Common.{◌≡◌, ◌≢◌, ◌∙◌, ℕ, zero, suc, ◌+◌, ◌<◌, ◌≤◌, ◌==◌, ◌&&◌, nat_lt, Bool, true, false, if◌then◌else◌, Option, Some, List, [], ◌∷◌, ◌++◌, length, refl, sym, ap, arith, inl, inr, append-nil, length-append, slice_get}
 use Rattle.std.specs.List.{AllByRecursion}
-use Rattle.std.proofs.lemmas.Bool.{lt-ltb, eq-eqb}
-use Rattle.std.proofs.lemmas.Bool.Decides.{eqb_tells}
-use Rattle.queue_steps.specs.State.{start}
-use Rattle.queue_steps.specs.Effect.{after_from}
-use Rattle.machine_replay.specs.Vocabulary.{Effect}
-use Rattle.machine_replay.specs.Meaning.{Entry, chosen, effects_in, state_after, own_effects}
+use Rattle.std.proofs.lemmas.Bool.{lt-ltb, eq-eqb, Decides.eqb_tells}
+use Rattle.queue_steps.specs.{State.start, Effect.after_from}
+use Rattle.machine_replay.specs.{Vocabulary.Effect, Meaning.Entry, Meaning.chosen, Meaning.effects_in, Meaning.state_after, Meaning.own_effects}
 
 pub each-more : {X : Type 0} (P : X → Type 0) (xs : List X) (x : X) → AllByRecursion P xs → P x → AllByRecursion P (xs ++ x ∷ [])
 each-more P [] x all here = (here, tt)

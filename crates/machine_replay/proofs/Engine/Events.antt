@@ -1,11 +1,8 @@
 -- Any machine whose steps are steps of the queue: its events are events of the book. Nothing here knows a kind of queue.
 use Rattle.std.proofs.Common.{ℕ, ◌+◌, ◌-◌, ◌<◌, ◌≡◌, ◌≢◌, ◌&&◌, ◌∙◌, inl, inr, nat_lt, Bool, true, false, if◌then◌else◌, Option, Some, None, is_some, is_none, List, length, refl, sym, ap, arith, get_or, set, get_or-set_same, get_or-set_other}
-use Rattle.std.proofs.lemmas.List.{get_or_past, length-set}
-use Rattle.std.proofs.lemmas.Bool.{ltb-true, ltb-false}
-use Rattle.std.proofs.lemmas.Bool.Decides.{eqb_tells}
+use Rattle.std.proofs.lemmas.{List.get_or_past, List.length-set, Bool.ltb-true, Bool.ltb-false, Bool.Decides.eqb_tells}
 use Rattle.queue_laws.proofs.Common.Tests.{and_true, is_none_true}
-use Rattle.queue_steps.specs.State.{State}
-use Rattle.queue_steps.specs.Replies.{IsRightAt}
+use Rattle.queue_steps.specs.{State.State, Replies.IsRightAt}
 use Rattle.machine_replay.specs.Vocabulary.{Call, Reply, Effect, Event, Begin, Step, Skipped}
 use Rattle.machine_replay.specs.Book.{Book, Open, Moves, GoesOn, Stays, MayEnd, Steps, Happens, put, watched, joined, at_open, after_own, begun, has_steps}
 use Rattle.machine_steps.specs.World.{World, Made, Begun, call_at, can_begin, stepped, stepped_if, began, began_by, world_event}

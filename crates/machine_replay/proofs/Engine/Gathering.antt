@@ -4,8 +4,7 @@ use Rattle.std.specs.Option.{option_to_list}
 use Rattle.queue_steps.specs.Words.{slot_at}
 use Rattle.machine_memory.specs.SharedMemory.{Shared}
 use Rattle.machine_replay.specs.Vocabulary.{Kind, Running}
-use Rattle.machine_steps.specs.Left.{written_by, all_written, gathered, left_of, listed_in}
-use Rattle.machine_steps.specs.World.{World}
+use Rattle.machine_steps.specs.{Left.written_by, Left.all_written, Left.gathered, Left.left_of, Left.listed_in, World.World}
 
 pub all_written-append : {T : Type 0} (xs : List (Option (Running T))) (x : Option (Running T)) (slots : List (Option T)) → all_written (xs ++ x ∷ []) slots ≡ written_by x (all_written xs slots)
 all_written-append [] x slots = refl

@@ -1,17 +1,9 @@
 -- What a kind of queue owes, so that every run of it conforms.
 use Rattle.std.specs.Prelude.{◌≡◌, ℕ, ◌<◌, ◌≤◌, Some, length}
-use Rattle.queue_steps.specs.State.{State, start}
-use Rattle.queue_steps.specs.Sequential.{blocks_of}
-use Rattle.machine_replay.specs.Vocabulary.{Kind, Running}
-use Rattle.machine_replay.specs.Book.{Book, Open}
-use Rattle.machine_replay.specs.Conforms.{capacity_of, share}
-use Rattle.machine_memory.specs.Present.{present}
-use Rattle.machine_replay.specs.Peaks.{held}
-use Rattle.machine_steps.specs.World.{World}
-use Rattle.machine_memory.specs.SharedMemory.{Shared}
-use Rattle.machine_steps.specs.Steps.{CanStep, step_of, start_of}
-use Rattle.machine_memory.specs.Opening.{opening_shared}
-use Rattle.machine_steps.specs.Left.{left_of}
+use Rattle.queue_steps.specs.{State.State, State.start, Sequential.blocks_of}
+use Rattle.machine_replay.specs.{Vocabulary.Kind, Vocabulary.Running, Book.Book, Book.Open, Conforms.capacity_of, Conforms.share, Peaks.held}
+use Rattle.machine_memory.specs.{Present.present, SharedMemory.Shared, Opening.opening_shared}
+use Rattle.machine_steps.specs.{World.World, Steps.CanStep, Steps.step_of, Steps.start_of, Left.left_of}
 use Rattle.machine_replay.proofs.Engine.Events as engine
 
 -- the laws of the engine, at the shared memory of the machine

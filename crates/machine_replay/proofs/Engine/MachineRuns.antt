@@ -1,21 +1,11 @@
 -- A run of the machine, one event after another, is a run of the book.
 use Rattle.std.proofs.Common.{◌≡◌, ◌∙◌, ℕ, ◌+◌, ◌≤◌, nat_lt, Bool, false, if◌then◌else◌, Option, Some, None, is_some, List, [], ◌∷◌, ◌++◌, length, refl, sym, ap, arith, append_assoc, append-nil}
 use Rattle.std.proofs.lemmas.Bool.{le-ltb}
-use Rattle.machine_replay.specs.Vocabulary.{Kind, Event, Told, Peak, Step, Skipped, Running}
-use Rattle.machine_replay.specs.declared.machine_run.MachineRun.{MachineRun}
-use Rattle.machine_replay.specs.declared.machine_run.RunEnd.{RunEnd}
-use Rattle.machine_memory.specs.SharedMemory.{Shared}
-use Rattle.machine_replay.specs.MachineRuns.{Comes, Continues, EndsAs, IsMachineRun, KeepsRun, IsSomeMachineRun}
-use Rattle.machine_steps.specs.Left.{HasSlot, left_of, opening_world}
-use Rattle.machine_memory.specs.Room.{HasCount}
-use Rattle.machine_steps.specs.Machine.{CanHandle, Handles, event_of, world_of}
-use Rattle.machine_replay.specs.Peaks.{opening_peak, peaked}
-use Rattle.machine_memory.specs.Present.{present}
-use Rattle.machine_replay.specs.Replays.{CanReplay, is_too_large}
-use Rattle.machine_steps.specs.World.{World, call_at}
+use Rattle.machine_replay.specs.{Vocabulary.Kind, Vocabulary.Event, Vocabulary.Told, Vocabulary.Peak, Vocabulary.Step, Vocabulary.Skipped, Vocabulary.Running, declared.machine_run.MachineRun.MachineRun, declared.machine_run.RunEnd.RunEnd, MachineRuns.Comes, MachineRuns.Continues, MachineRuns.EndsAs, MachineRuns.IsMachineRun, MachineRuns.KeepsRun, MachineRuns.IsSomeMachineRun, Peaks.opening_peak, Peaks.peaked, Replays.CanReplay, Replays.is_too_large}
+use Rattle.machine_memory.specs.{SharedMemory.Shared, Room.HasCount, Present.present}
+use Rattle.machine_steps.specs.{Left.HasSlot, Left.left_of, Left.opening_world, Machine.CanHandle, Machine.Handles, Machine.event_of, Machine.world_of, World.World, World.call_at}
 use Rattle.machine_replay.proofs.Engine.AllKinds.{KnownAfter, has_machine, has_slot, known-can, known-first, known-grows, known-more, known-peak, known-room}
-use Rattle.machine_replay.proofs.Replays.Played.{run-made}
-use Rattle.machine_replay.proofs.Engine.SoFar.{so_far-left}
+use Rattle.machine_replay.proofs.{Replays.Played.run-made, Engine.SoFar.so_far-left}
 
 -- a run goes on by one event
 Comes-more : {T : Type 0} (k : Kind) (w v last : World (Shared T) (Running T)) (p q top : Peak) (es : List (Event T)) (ts : List (Told T)) (e : Event T) (t : Told T)

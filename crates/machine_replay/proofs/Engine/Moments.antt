@@ -1,13 +1,10 @@
 -- The moments of a call and the effects that it begins with, for rings and chains alike.
 use Rattle.std.proofs.Common.{suc, ◌≡◌, false, inl, inr, None, Ok, List, [], ◌∷◌, refl, arith}
 use Rattle.std.specs.List.{Any}
-use Rattle.queue_steps.specs.State.{State, start}
-use Rattle.queue_steps.specs.Sequential.{sequential_reply}
-use Rattle.machine_replay.specs.Vocabulary.{Call, Reply, Effect, PushKind}
+use Rattle.queue_steps.specs.{State.State, State.start, Sequential.sequential_reply}
+use Rattle.machine_replay.specs.{Vocabulary.Call, Vocabulary.Reply, Vocabulary.Effect, Vocabulary.PushKind, Book.IsBegun, Book.seen_by}
 use Rattle.queue_laws.specs.Common.Moments as laws
-use Rattle.queue_laws.specs.Common.Moments.{SeenIn}
-use Rattle.queue_laws.specs.Common.Pushes.{pushes}
-use Rattle.machine_replay.specs.Book.{IsBegun, seen_by}
+use Rattle.queue_laws.specs.Common.{Moments.SeenIn, Pushes.pushes}
 
 -- what was so at some moment is so at one of them
 pub any_in : {A : Type 0} (ms : List (State A)) (P R : State A → Type 0) → ((m : State A) → P m → R m) → SeenIn ms P → Any R ms

@@ -1,9 +1,8 @@
 -- How the effect that is told of a step moves the queue of the book, for rings and chains alike.
 use Rattle.std.proofs.Common.{◌≡◌, Bool, true, false, if◌then◌else◌, Option, Some, None, refl, sym, subst}
 use Rattle.queue_steps.specs.State.{State}
-use Rattle.machine_replay.specs.Vocabulary.{Effect, EffectKind}
+use Rattle.machine_replay.specs.{Vocabulary.Effect, Vocabulary.EffectKind, Book.Open, Book.Moves, Book.MayMake, Book.kind_of}
 use Rattle.queue_laws.specs.Common.Effects.{Leads, with_effect, Whether}
-use Rattle.machine_replay.specs.Book.{Open, Moves, MayMake, kind_of}
 
 -- a step without effect leaves the queue
 pub no_move : {A : Type 0} (Q R S : State A) (o : Open A) (e : Option (Effect A)) → Q ≡ R → e ≡ None → Leads R e S → Moves Q o None S (with_effect o.effects e)

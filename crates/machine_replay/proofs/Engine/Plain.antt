@@ -2,8 +2,7 @@
 use Rattle.std.proofs.Common.{◌≡◌, ◌∙◌, ℕ, Bool, true, Option, Some, None, [], refl, ap}
 use Rattle.machine_replay.specs.Vocabulary.{Kind, Word, Op, Touch, Local, Running}
 use Rattle.queue_laws.specs.Common.Operations.{OnWord, op_word, op_makes}
-use Rattle.machine_memory.specs.Blocks.{without}
-use Rattle.machine_memory.specs.SharedMemory.{Shared, word_at, put_word, operated, block_touched, touched}
+use Rattle.machine_memory.specs.{Blocks.without, SharedMemory.Shared, SharedMemory.word_at, SharedMemory.put_word, SharedMemory.operated, SharedMemory.block_touched, SharedMemory.touched}
 use Rattle.machine_steps.specs.Steps.{after_touch, after_operation, shared_then, step_of, CanStep}
 
 abbrev pub IsPlainWord : Word ℕ → Type 0

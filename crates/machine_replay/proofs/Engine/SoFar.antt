@@ -1,21 +1,12 @@
 -- A run of the machine so far, and what is told of it. Whatever kind of queue it is, it keeps its laws.
 use Rattle.std.proofs.Common.{ℕ, ◌+◌, ◌/◌, ◌<◌, ◌≤◌, ◌≡◌, ◌∙◌, Bool, Option, Some, None, is_none, List, [], ◌∷◌, ◌++◌, length, refl, sym, ap, subst, arith, append_assoc, append-nil}
 use Rattle.std.proofs.lemmas.List.{length-replicate}
-use Rattle.machine_replay.specs.Vocabulary.{Kind, BLOCK_SLOTS, Event, Told, Peak, Running}
-use Rattle.machine_replay.specs.Book.{Book, Run, Happens, opening}
-use Rattle.machine_memory.specs.SharedMemory.{Shared}
-use Rattle.machine_steps.specs.Steps.{CanStep, step_of, start_of}
-use Rattle.machine_replay.specs.Conforms.{capacity_of, party_of, entries_from, IsPeak, HasNoBlocks, share}
-use Rattle.machine_steps.specs.Left.{left_of, opening_world}
-use Rattle.machine_steps.specs.Machine.{event_of}
-use Rattle.machine_steps.specs.World.{World, call_at}
-use Rattle.machine_memory.specs.Present.{present}
+use Rattle.machine_replay.specs.{Vocabulary.Kind, Vocabulary.BLOCK_SLOTS, Vocabulary.Event, Vocabulary.Told, Vocabulary.Peak, Vocabulary.Running, Book.Book, Book.Run, Book.Happens, Book.opening, Conforms.capacity_of, Conforms.party_of, Conforms.entries_from, Conforms.IsPeak, Conforms.HasNoBlocks, Conforms.share, Peaks.bound_of, Peaks.opening_peak, Peaks.peaked}
+use Rattle.machine_memory.specs.{SharedMemory.Shared, Present.present}
+use Rattle.machine_steps.specs.{Steps.CanStep, Steps.step_of, Steps.start_of, Left.left_of, Left.opening_world, Machine.event_of, World.World, World.call_at}
 use Rattle.machine_memory.proofs.Busy.{nobody_calls, none_are_busy}
 use Rattle.machine_replay.proofs.Engine.Events as engine
-use Rattle.machine_replay.proofs.Engine.KindLaws.{KindLaws, SimulatesOf}
-use Rattle.machine_replay.proofs.Replays.Growing.{run-grows, run-cap, happens-grows}
-use Rattle.machine_replay.proofs.Replays.Peaking.{Run-length, peak-first, peak-more, peaked-covers}
-use Rattle.machine_replay.specs.Peaks.{bound_of, opening_peak, peaked}
+use Rattle.machine_replay.proofs.{Engine.KindLaws.KindLaws, Engine.KindLaws.SimulatesOf, Replays.Growing.run-grows, Replays.Growing.run-cap, Replays.Growing.happens-grows, Replays.Peaking.Run-length, Replays.Peaking.peak-first, Replays.Peaking.peak-more, Replays.Peaking.peaked-covers}
 
 -- a run goes on by one event
 Run-more : {T : Type 0} (cap : Option ℕ) (parties : ℕ) (b : Book T) (es : List (Event T)) (ts : List (Told T)) (mid : Book T) (e : Event T) (t : Told T) (c : Book T)

@@ -1,10 +1,9 @@
 -- A call that another one waits for.
 use Rattle.std.proofs.Common.{ℕ, ◌≡◌, ◌==◌, ◌∙◌, false, Some, sym, ap, subst}
 use Rattle.std.proofs.lemmas.Bool.{eqb-false}
-use Rattle.machine_replay.specs.Vocabulary.{Local, Running}
+use Rattle.machine_replay.specs.{Vocabulary.Local, Vocabulary.Running, Waits.IsBeside}
 use Rattle.machine_memory.specs.SharedMemory.{Shared}
 use Rattle.machine_steps.specs.World.{World, call_at}
-use Rattle.machine_replay.specs.Waits.{IsBeside}
 
 -- a party at such a step is another one where this party's call is at none
 pub beside : {T : Type 0} (w : World (Shared T) (Running T)) (p q : ℕ) (r s : Running T) (Such : Local ℕ → Type 0) → call_at w p ≡ Some r → call_at w q ≡ Some s → Such s.local → (Such r.local → ⊥) → IsBeside w p Such

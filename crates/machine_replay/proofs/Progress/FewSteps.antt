@@ -1,9 +1,8 @@
 -- How few steps a call in progress has before it: at most so many while it is alone, and two if it is wait-free.
 use Rattle.std.proofs.Common.{◌≡◌, ◌≢◌, ℕ, ◌+◌, ◌<◌, ◌≤◌, true, List, inl, inr, refl, arith}
 use Rattle.std.proofs.lemmas.Bool.Decides.{eqb_tells}
-use Rattle.machine_replay.specs.Vocabulary.{Call, Effect, SOLO_STEPS, WAIT_FREE_STEPS}
+use Rattle.machine_replay.specs.{Vocabulary.Call, Vocabulary.Effect, Vocabulary.SOLO_STEPS, Vocabulary.WAIT_FREE_STEPS, Book.Open, Book.IsBegun, Book.Stays, Book.after_own, Book.begun, Book.is_wait_free, Book.joined, Book.watched}
 use Rattle.queue_steps.specs.State.{State}
-use Rattle.machine_replay.specs.Book.{Open, IsBegun, Stays, after_own, begun, is_wait_free, joined, watched}
 
 -- the call has n steps before it, and with those that it took alone no more than most, which bounds every call; a wait-free one has two in all
 pub record FewSteps {T : Type 0} (busy : ℕ) (o : Open T) (n most : ℕ) : Type 0 where

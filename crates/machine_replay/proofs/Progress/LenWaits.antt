@@ -1,35 +1,15 @@
 -- A call of `len` waits for nobody: while the tail is as it is, it replies by its fifth step.
 use Rattle.std.proofs.Common.{◌≡◌, ◌≢◌, ◌∙◌, ℕ, ◌+◌, ◌<◌, ◌≤◌, ◌==◌, if◌then◌else◌, Bool, true, false, Option, Some, None, List, [], ◌∷◌, count_by, inl, inr, refl, sym, ap, subst, arith}
-use Rattle.std.proofs.lemmas.Bool.{eq-eqb, ltb-false}
-use Rattle.std.proofs.lemmas.Bool.Decides.{eqb_tells}
-use Rattle.queue_steps.specs.State.{State}
-use Rattle.machine_replay.specs.Vocabulary.{Kind, Local, Next, BoundedLocal, MAX_CAPACITY, Event, Running}
-use Rattle.queue_steps.specs.declared.steps.single.SingleLocal.TheVariants.{Looking}
-use Rattle.queue_steps.specs.declared.steps.unbounded.UnboundedLocal.TheVariants as chain
-use Rattle.queue_laws.specs.Slot.SlotHolder.{SlotHolder}
+use Rattle.std.proofs.lemmas.Bool.{eq-eqb, ltb-false, Decides.eqb_tells}
+use Rattle.queue_steps.specs.{State.State, declared.steps.single.SingleLocal.TheVariants.Looking, declared.steps.unbounded.UnboundedLocal.UnboundedLocal as chain}
+use Rattle.machine_replay.specs.{Vocabulary.Kind, Vocabulary.Local, Vocabulary.Next, Vocabulary.BoundedLocal, Vocabulary.MAX_CAPACITY, Vocabulary.Event, Vocabulary.Running, Book.Open, Played.told_of, Played.world_after, Progress.Standing, Progress.Between, Progress.stands_by, Progress.stands_then, Progress.IsNotAnswered, Waits.IsOfLen, Waits.IsTailKept, Waits.LenWaitsForNobody, Within.is_step_of}
+use Rattle.queue_laws.specs.{Slot.SlotHolder.SlotHolder, Common.Stand.Stand, Ring.RingCells.Ring, Chain.ChainCells.Chain}
 use Rattle.queue_laws.specs.Slot.SlotRows as slot
-use Rattle.queue_laws.specs.Common.Stand.{Stand}
-use Rattle.machine_replay.proofs.Engine.StandOf.{running_of}
-use Rattle.queue_laws.specs.Ring.RingCells.{Ring}
+use Rattle.machine_replay.proofs.{Engine.StandOf.running_of, Progress.Beside.same_call, Chain.Stretch.chain_rules, Progress.Had.nearer, Ring.Stretch.ring_rules, Single.Stretch.single_rules, Progress.Standings.Agrees, Progress.Standings.in_call-next}
 use Rattle.queue_laws.specs.Ring.RingAt as ring
-use Rattle.queue_laws.specs.Chain.ChainCells.{Chain}
 use Rattle.queue_laws.specs.Chain.ChainAt as links
-use Rattle.machine_steps.specs.Left.{opening_world}
-use Rattle.machine_steps.specs.Machine.{event_of}
+use Rattle.machine_steps.specs.{Left.opening_world, Machine.event_of, Steps.step_of, Steps.running_after, World.World, World.call_at}
 use Rattle.machine_memory.specs.SharedMemory.{Shared}
-use Rattle.machine_steps.specs.Steps.{step_of, running_after}
-use Rattle.machine_steps.specs.World.{World, call_at}
-use Rattle.machine_replay.specs.Book.{Open}
-use Rattle.machine_replay.specs.Played.{told_of, world_after}
-use Rattle.machine_replay.specs.Progress.{Standing, Between, stands_by, stands_then, IsNotAnswered}
-use Rattle.machine_replay.specs.Waits.{IsOfLen, IsTailKept, LenWaitsForNobody}
-use Rattle.machine_replay.specs.Within.{is_step_of}
-use Rattle.machine_replay.proofs.Progress.Beside.{same_call}
-use Rattle.machine_replay.proofs.Chain.Stretch.{chain_rules}
-use Rattle.machine_replay.proofs.Progress.Had.{nearer}
-use Rattle.machine_replay.proofs.Ring.Stretch.{ring_rules}
-use Rattle.machine_replay.proofs.Single.Stretch.{single_rules}
-use Rattle.machine_replay.proofs.Progress.Standings.{Agrees, in_call-next}
 use Rattle.machine_replay.proofs.Progress.Stretch.{Rules, Here, next, reach, first, call-there, open-there, party-open, count-cons}
 
 -- how many steps more are before a call that has read another tail

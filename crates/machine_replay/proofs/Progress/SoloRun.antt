@@ -1,23 +1,11 @@
 -- A solo call replies within its bound, and a wait-free call by its second step.
 use Rattle.std.proofs.Common.{◌≡◌, ◌≢◌, ◌⊎◌, ◌∙◌, ℕ, ◌+◌, ◌<◌, ◌≤◌, nat_lt, Bool, true, false, cond, if◌then◌else◌, Option, Some, None, is_some, is_none, List, [], ◌∷◌, ◌++◌, length, refl, sym, ap, subst, arith, inl, inr, count_by, drop, slice_get, append-nil, append_assoc}
-use Rattle.std.proofs.lemmas.Bool.{lt-ltb}
-use Rattle.std.proofs.lemmas.Bool.Decides.{eqb_tells}
-use Rattle.std.proofs.lemmas.List.{drop-append-le, drop_all, take-append-le, take_all}
-use Rattle.std.proofs.lemmas.List.Elements.{Contains-push}
-use Rattle.std.proofs.lemmas.List.Sums.{sum_by-append}
+use Rattle.std.proofs.lemmas.{Bool.lt-ltb, Bool.Decides.eqb_tells, List.drop-append-le, List.drop_all, List.take-append-le, List.take_all, List.Elements.Contains-push, List.Sums.sum_by-append}
 use Rattle.queue_laws.proofs.Common.Tests.{none_if, is_none_true}
 use Rattle.machine_replay.specs.Vocabulary.{Call, Reply, SOLO_STEPS, WAIT_FREE_STEPS, Event, Told, Replay, Begin, Step, Skipped, Ran}
 use Rattle.machine_replay.specs.Book.{Book, Open, Happens, Run, fits, is_wait_free, opening, at_open, joined, watched, after_own, begun}
-use Rattle.machine_replay.specs.Conforms.{Conforms, party_of}
-use Rattle.machine_replay.specs.InCall.{IsInCall}
-use Rattle.machine_replay.specs.Within.{is_step_of, steps_between, IsAloneBetween, SoloCallsReply, WaitFreeCallsReply}
-use Rattle.machine_replay.proofs.Engine.Calls.{with_reply}
-use Rattle.machine_replay.proofs.Engine.Entries.{event-last, length-one}
-use Rattle.machine_replay.proofs.Progress.Solo.{Counts, counts-first, counts-happens, count-alone, put-same, and-right}
-use Rattle.machine_replay.proofs.Replays.Skips.{noted, earlier-now, earlier-before, there-before, was-there, last-or-earlier}
-use Rattle.machine_replay.proofs.Replays.SkipsRun.{Fair, is_skipped, reply_told}
-use Rattle.machine_replay.proofs.Replays.SkipsAll.{fair-first, fair-next, some-open}
-use Rattle.machine_replay.proofs.Traces.TraceSteps.{put-cases, at_open-cases}
+use Rattle.machine_replay.specs.{Conforms.Conforms, Conforms.party_of, InCall.IsInCall, Within.is_step_of, Within.steps_between, Within.IsAloneBetween, Within.SoloCallsReply, Within.WaitFreeCallsReply}
+use Rattle.machine_replay.proofs.{Engine.Calls.with_reply, Engine.Entries.event-last, Engine.Entries.length-one, Progress.Solo.Counts, Progress.Solo.counts-first, Progress.Solo.counts-happens, Progress.Solo.count-alone, Progress.Solo.put-same, Progress.Solo.and-right, Replays.Skips.noted, Replays.Skips.earlier-now, Replays.Skips.earlier-before, Replays.Skips.there-before, Replays.Skips.was-there, Replays.Skips.last-or-earlier, Replays.SkipsRun.Fair, Replays.SkipsRun.is_skipped, Replays.SkipsRun.reply_told, Replays.SkipsAll.fair-first, Replays.SkipsAll.fair-next, Replays.SkipsAll.some-open, Traces.TraceSteps.put-cases, Traces.TraceSteps.at_open-cases}
 
 -- how many steps of party p there are from the event `since` on
 abbrev taken : {T : Type 0} → ℕ → ℕ → List (Event T) → ℕ

@@ -5,9 +5,8 @@ use Rattle.queue_laws.proofs.Common.Tests.{is_none_true}
 use Rattle.queue_steps.specs.State.{State}
 use Rattle.machine_replay.specs.Vocabulary.{Reply, Effect, Event, Told, EffectKind, Begin, Step, Skipped, Ran}
 use Rattle.machine_replay.specs.Book.{Book, Open, Happens, Steps, Moves, at_open, put, joined, watched, begun, after_own}
-use Rattle.machine_replay.specs.Conforms.{party_of}
+use Rattle.machine_replay.specs.{Conforms.party_of, Progress.Standing, Progress.Between, Progress.Undone, Progress.HalfDone, Progress.stands_after, Progress.stands_then, Progress.effect_told, Progress.reply_told}
 use Rattle.machine_replay.proofs.Progress.Solo.{and-right, put-same, put-other}
-use Rattle.machine_replay.specs.Progress.{Standing, Between, Undone, HalfDone, stands_after, stands_then, effect_told, reply_told}
 
 -- the party's open call is as it stands
 abbrev pub Agrees : {T : Type 0} → Standing → Option (Open T) → Type 0

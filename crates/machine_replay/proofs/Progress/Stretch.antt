@@ -1,26 +1,15 @@
 -- A stretch of a run in which nobody hinders a call: each of its steps brings it nearer to its reply, and no other step takes it back. Nothing here knows a kind of queue.
 use Rattle.std.proofs.Common.{◌≡◌, ◌≢◌, ◌∙◌, ◌⊎◌, ℕ, ◌+◌, ◌<◌, ◌≤◌, ◌==◌, ◌&&◌, nat_lt, Bool, true, false, cond, if◌then◌else◌, Option, Some, None, is_none, List, [], ◌∷◌, length, set, get_or-set_same, get_or-set_other, count_by, refl, sym, ap, subst, arith, inl, inr}
-use Rattle.std.proofs.lemmas.List.{length-replicate}
-use Rattle.std.proofs.lemmas.Bool.{ltb-true}
-use Rattle.std.proofs.lemmas.List.Sums.{sum_by-append}
-use Rattle.std.proofs.lemmas.Bool.Decides.{eqb_tells}
+use Rattle.std.proofs.lemmas.{List.length-replicate, Bool.ltb-true, List.Sums.sum_by-append, Bool.Decides.eqb_tells}
 use Rattle.queue_steps.specs.State.{State, start}
 use Rattle.machine_replay.specs.Vocabulary.{Call, Reply, Kind, Event, Told, Begin, Step, Skipped, Ran, Running}
-use Rattle.machine_replay.specs.Book.{Book, Open, Happens, opening}
-use Rattle.machine_replay.specs.Conforms.{capacity_of, party_of}
-use Rattle.machine_memory.specs.Opening.{opening_shared}
-use Rattle.machine_steps.specs.Left.{opening_world}
-use Rattle.machine_steps.specs.Machine.{event_of}
-use Rattle.machine_replay.specs.Played.{told_of, world_after}
-use Rattle.machine_memory.specs.SharedMemory.{Shared}
-use Rattle.machine_steps.specs.Steps.{CanStep, step_of, start_of}
-use Rattle.machine_replay.specs.Within.{is_step_of}
-use Rattle.machine_steps.specs.World.{World, call_at, can_begin, began, stepped_if}
+use Rattle.machine_replay.specs.{Book.Book, Book.Open, Book.Happens, Book.opening, Conforms.capacity_of, Conforms.party_of, Played.told_of, Played.world_after, Within.is_step_of}
+use Rattle.machine_memory.specs.{Opening.opening_shared, SharedMemory.Shared}
+use Rattle.machine_steps.specs.{Left.opening_world, Machine.event_of, Steps.CanStep, Steps.step_of, Steps.start_of, World.World, World.call_at, World.can_begin, World.began, World.stepped_if}
 use Rattle.machine_memory.proofs.Busy.{nobody_calls, none_are_busy}
 use Rattle.machine_replay.proofs.Engine.Events as engine
-use Rattle.machine_replay.proofs.Engine.KindLaws.{LawsOf, SimulatesOf}
+use Rattle.machine_replay.proofs.{Engine.KindLaws.LawsOf, Engine.KindLaws.SimulatesOf, Progress.Standings.Agrees, Progress.Standings.agrees-next, Progress.Standings.in_call-next, Progress.Standings.not_half-next}
 use Rattle.machine_replay.specs.Progress.{Standing, Between, Undone, HalfDone, stands_after, stands_by, stands_then, effect_told, reply_told, IsLeftToIt, NobodyShows, IsSilent, HalfDoneTakesNone, UnhinderedWithin, NeverWaits}
-use Rattle.machine_replay.proofs.Progress.Standings.{Agrees, agrees-next, in_call-next, not_half-next}
 
 -- what is used of the laws of a kind of queue: what its proof keeps, that each step is right, and the opening
 pub record Rules (T : Type 0) (k : Kind) : Type 1 where

@@ -1,19 +1,8 @@
 -- A call that nobody hinders replies soon, on a queue of any kind.
 use Rattle.std.proofs.Common.{◌≡◌, ℕ, false, IsSome, List, ◌∷◌}
 use Rattle.std.proofs.lemmas.Bool.{ltb-false}
-use Rattle.machine_replay.specs.Vocabulary.{Kind, MAX_CAPACITY, Event, Told}
-use Rattle.machine_replay.specs.Conforms.{capacity_of}
-use Rattle.machine_replay.specs.Replays.{CanReplay, is_too_large}
-use Rattle.machine_replay.specs.Progress.{AppendsReply, HalfDoneNeverWaits, HalfDoneTakesNone, TakesReply, IsLeftToIt, IsSilent, SilenceIsShort, UnhinderedCallsReply}
-use Rattle.machine_replay.specs.Waits.{CallsWait}
-use Rattle.machine_replay.proofs.Chain.Waits.{chain_waits}
-use Rattle.machine_replay.proofs.Ring.Waits.{ring_waits}
-use Rattle.machine_replay.proofs.Single.Waits.{slot_waits}
-use Rattle.machine_replay.proofs.Single.Stretch.{single_appends, single_takes, single_never_waits, single_takes_none, single_unhindered}
-use Rattle.machine_replay.proofs.Ring.Stretch.{ring_appends, ring_takes, ring_never_waits, ring_takes_none, ring_unhindered}
-use Rattle.machine_replay.proofs.Chain.Taken.{chain_takes}
-use Rattle.machine_replay.proofs.Chain.Appended.{chain_appends}
-use Rattle.machine_replay.proofs.Chain.Early.{chain_unhindered}
+use Rattle.machine_replay.specs.{Vocabulary.Kind, Vocabulary.MAX_CAPACITY, Vocabulary.Event, Vocabulary.Told, Conforms.capacity_of, Replays.CanReplay, Replays.is_too_large, Progress.AppendsReply, Progress.HalfDoneNeverWaits, Progress.HalfDoneTakesNone, Progress.TakesReply, Progress.IsLeftToIt, Progress.IsSilent, Progress.SilenceIsShort, Progress.UnhinderedCallsReply, Waits.CallsWait}
+use Rattle.machine_replay.proofs.{Chain.Waits.chain_waits, Ring.Waits.ring_waits, Single.Waits.slot_waits, Single.Stretch.single_appends, Single.Stretch.single_takes, Single.Stretch.single_never_waits, Single.Stretch.single_takes_none, Single.Stretch.single_unhindered, Ring.Stretch.ring_appends, Ring.Stretch.ring_takes, Ring.Stretch.ring_never_waits, Ring.Stretch.ring_takes_none, Ring.Stretch.ring_unhindered, Chain.Taken.chain_takes, Chain.Appended.chain_appends, Chain.Early.chain_unhindered}
 
 pub unhindered_calls : {T : Type 0} → UnhinderedCallsReply T
 unhindered_calls {T} Kind.Single can small = single_unhindered T

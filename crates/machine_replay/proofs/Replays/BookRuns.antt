@@ -1,16 +1,9 @@
 -- At each point of a run there is a reader's book.
 use Rattle.std.proofs.Common.{ℕ, true, List, [], ◌∷◌, ◌++◌, append_assoc, append-nil}
-use Rattle.machine_replay.specs.Vocabulary.{Kind, Event, Told, Peak, Running}
-use Rattle.machine_steps.specs.Left.{opening_world}
-use Rattle.machine_steps.specs.Machine.{event_of, world_of}
+use Rattle.machine_replay.specs.{Vocabulary.Kind, Vocabulary.Event, Vocabulary.Told, Vocabulary.Peak, Vocabulary.Running, Peaks.opening_peak, Peaks.peaked, Played.told_of, Played.world_after, BookRuns.EventsHaveBooks, BookRuns.HasBook, BookRuns.RunsHaveBooks}
+use Rattle.machine_steps.specs.{Left.opening_world, Machine.event_of, Machine.world_of, World.World}
 use Rattle.machine_memory.specs.SharedMemory.{Shared}
-use Rattle.machine_steps.specs.World.{World}
-use Rattle.machine_replay.specs.Peaks.{opening_peak, peaked}
-use Rattle.machine_replay.specs.Played.{told_of, world_after}
-use Rattle.machine_replay.specs.BookRuns.{EventsHaveBooks, HasBook, RunsHaveBooks}
-use Rattle.machine_replay.proofs.Engine.AllKinds.{KnownAfter, has_machine, known-first, known-more}
-use Rattle.machine_replay.proofs.Engine.MachineRuns.{machine_run-known}
-use Rattle.machine_replay.proofs.Engine.SoFar.{so_far-left}
+use Rattle.machine_replay.proofs.Engine.{AllKinds.KnownAfter, AllKinds.has_machine, AllKinds.known-first, AllKinds.known-more, MachineRuns.machine_run-known, SoFar.so_far-left}
 
 has_book : {T : Type 0} (k : Kind) (parties : ℕ) (past : List (Event T)) (told : List (Told T)) (w : World (Shared T) (Running T)) (peak : Peak) → KnownAfter k parties past told w peak → HasBook k parties past told w
 has_book k parties past told w peak known = record { last = known.so_far.book; run = known.so_far.run; left = so_far-left _ parties past told w peak known.so_far }

@@ -1,13 +1,8 @@
 -- The calls that the machine has are those that the events, and what was told of them, tell of.
 use Rattle.std.proofs.Common.{◌≡◌, ◌∙◌, ◌↔◌, ℕ, Bool, IsTrue, Option, Some, None, is_some, is_none, refl, sym}
-use Rattle.machine_replay.specs.declared.machine_run.MachineRun.{MachineRun}
-use Rattle.machine_replay.specs.Conforms.{capacity_of}
-use Rattle.machine_replay.specs.MachineRuns.{TellsCall}
-use Rattle.machine_steps.specs.Machine.{world_of}
-use Rattle.machine_steps.specs.World.{call_at}
-use Rattle.machine_replay.proofs.Engine.AllKinds.{known-none}
-use Rattle.machine_replay.proofs.Engine.MachineRuns.{machine_run-known}
-use Rattle.machine_replay.proofs.Replays.SkipsAll.{run-whole}
+use Rattle.machine_replay.specs.{declared.machine_run.MachineRun.MachineRun, Conforms.capacity_of, MachineRuns.TellsCall}
+use Rattle.machine_steps.specs.{Machine.world_of, World.call_at}
+use Rattle.machine_replay.proofs.{Engine.AllKinds.known-none, Engine.MachineRuns.machine_run-known, Replays.SkipsAll.run-whole}
 
 none-same : {X Y : Type 0} (o : Option X) (r : Option Y) → is_none o ≡ is_none r → is_some o ≡ is_some r
 none-same None (Some y) e = cc

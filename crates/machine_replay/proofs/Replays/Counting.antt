@@ -1,10 +1,7 @@
 -- How many items a run accepted and how many are left: what is told of the events fixes both.
 use Rattle.std.proofs.Common.{◌≡◌, ◌∙◌, ℕ, ◌+◌, ◌-◌, Option, Some, None, List, [], ◌∷◌, length, refl, sym, ap, arith, length-append}
-use Rattle.queue_steps.specs.State.{State}
-use Rattle.queue_steps.specs.Effect.{Fits, made, rest, with_coming}
-use Rattle.queue_steps.specs.Sequential.{blocks_of, spanned}
-use Rattle.machine_replay.specs.Vocabulary.{Effect, Event, Told, EffectKind, Begin, Step, Skipped, Ran}
-use Rattle.machine_replay.specs.Book.{Book, Open, Moves, Happens, Run, kind_of, opening}
+use Rattle.queue_steps.specs.{State.State, Effect.Fits, Effect.made, Effect.rest, Effect.with_coming, Sequential.blocks_of, Sequential.spanned}
+use Rattle.machine_replay.specs.{Vocabulary.Effect, Vocabulary.Event, Vocabulary.Told, Vocabulary.EffectKind, Vocabulary.Begin, Vocabulary.Step, Vocabulary.Skipped, Vocabulary.Ran, Book.Book, Book.Open, Book.Moves, Book.Happens, Book.Run, Book.kind_of, Book.opening}
 use Rattle.machine_replay.proofs.Replays.Growing.{run-cap}
 
 -- how many items are accepted, and how many are there, after an effect of this kind

@@ -1,10 +1,8 @@
 -- The list grows by one item an event at most, and the capacity stays.
 use Rattle.std.proofs.Common.{◌≡◌, ◌∙◌, ℕ, ◌+◌, ◌≤◌, Option, Some, None, List, [], ◌∷◌, length, ap, arith, length-append}
-use Rattle.queue_steps.specs.State.{State}
-use Rattle.queue_steps.specs.Effect.{made, rest, with_coming}
-use Rattle.machine_replay.specs.Vocabulary.{Effect, Event, Told, EffectKind, Begin, Step, Skipped, Ran}
+use Rattle.queue_steps.specs.{State.State, Effect.made, Effect.rest, Effect.with_coming}
+use Rattle.machine_replay.specs.{Vocabulary.Effect, Vocabulary.Event, Vocabulary.Told, Vocabulary.EffectKind, Vocabulary.Begin, Vocabulary.Step, Vocabulary.Skipped, Vocabulary.Ran, Book.Book, Book.Open, Book.Moves, Book.Happens, Book.Run}
 use Rattle.queue_laws.proofs.Common.Runs.{cap_made}
-use Rattle.machine_replay.specs.Book.{Book, Open, Moves, Happens, Run}
 
 length-rest : {T : Type 0} (xs : List T) → length (rest xs) ≤ length xs
 length-rest [] = omega arith

@@ -1,19 +1,8 @@
 -- What is noted of a run, one event after another.
 use Rattle.std.proofs.Common.{◌≡◌, ◌∙◌, ℕ, List, [], ◌∷◌, ◌++◌, length, ap}
-use Rattle.machine_replay.specs.Vocabulary.{Kind, Event, Told, Replay}
-use Rattle.machine_replay.specs.declared.machine_run.MachineRun.{MachineRun}
-use Rattle.machine_replay.specs.declared.machine_run.RunEnd.{RunEnd}
-use Rattle.machine_replay.specs.declared.run.Lists.{Lists}
-use Rattle.machine_replay.specs.Conforms.{Conforms, capacity_of, party_of, entries_from, reply_entry, effect_entry, skipped_entry}
-use Rattle.machine_replay.specs.Peaks.{peak_of}
-use Rattle.machine_replay.specs.Played.{IsPlayed, as_told}
-use Rattle.machine_steps.specs.Left.{left_of}
-use Rattle.machine_replay.specs.MachineRuns.{Continues, IsMachineRun, IsSomeMachineRun, Leaves}
-use Rattle.machine_steps.specs.Machine.{world_of}
-use Rattle.machine_replay.proofs.Engine.AllKinds.{known-length}
-use Rattle.machine_replay.proofs.Engine.MachineRuns.{machine_run-known}
-use Rattle.machine_replay.proofs.Replays.Played.{run-made}
-use Rattle.machine_replay.proofs.Engine.SoFar.{noted}
+use Rattle.machine_replay.specs.{Vocabulary.Kind, Vocabulary.Event, Vocabulary.Told, Vocabulary.Replay, declared.machine_run.MachineRun.MachineRun, declared.machine_run.RunEnd.RunEnd, declared.run.Lists.Lists, Conforms.Conforms, Conforms.capacity_of, Conforms.party_of, Conforms.entries_from, Conforms.reply_entry, Conforms.effect_entry, Conforms.skipped_entry, Peaks.peak_of, Played.IsPlayed, Played.as_told, MachineRuns.Continues, MachineRuns.IsMachineRun, MachineRuns.IsSomeMachineRun, MachineRuns.Leaves}
+use Rattle.machine_steps.specs.{Left.left_of, Machine.world_of}
+use Rattle.machine_replay.proofs.{Engine.AllKinds.known-length, Engine.MachineRuns.machine_run-known, Replays.Played.run-made, Engine.SoFar.noted}
 
 -- the lists have what is told of the events of the run
 pub record Notes {T A B : Type 0} (k : Kind) (parties : ℕ) (past : List (Event T)) (l : Lists T A) (c : MachineRun T B) : Type 0 where

@@ -2,18 +2,11 @@
 use Rattle.std.proofs.Common.{ℕ, ◌+◌, ◌<◌, ◌≡◌, ◌&&◌, ◌∙◌, nat_lt, Bool, true, false, Option, Some, None, is_some, is_none, List, [], ◌∷◌, ◌++◌, length, map, refl, sym, ap, subst, arith, inr}
 use Rattle.std.specs.Option.{option_to_list}
 use Rattle.std.proofs.lemmas.Bool.{ltb-true}
-use Rattle.queue_laws.proofs.Common.Tests.{is_none_true}
-use Rattle.queue_steps.specs.State.{start}
-use Rattle.queue_steps.specs.Legal.{IsShown}
-use Rattle.queue_steps.specs.Sequential.{Owned, SequentialRun, fresh}
+use Rattle.queue_laws.proofs.{Common.Tests.is_none_true, Common.Alone.alone_first, Moment.Table.Agrees}
+use Rattle.queue_steps.specs.{State.start, Legal.IsShown, Sequential.Owned, Sequential.SequentialRun, Sequential.fresh}
 use Rattle.machine_replay.specs.Vocabulary.{Call, Reply, Event, Told, Replay, Begin, Step, Skipped, Ran}
-use Rattle.machine_replay.specs.Book.{Book, Open, Run, begun, after_own, opening}
-use Rattle.machine_replay.specs.Conforms.{Conforms, entries_from, reply_entry}
-use Rattle.machine_replay.specs.OneOwner.{begun_calls, reply_in, IsSequentialRun}
-use Rattle.queue_laws.proofs.Common.Alone.{alone_first}
-use Rattle.queue_laws.proofs.Moment.Table.{Agrees}
-use Rattle.machine_replay.proofs.Replays.OneOwner.{Ready, Midway, midway-more, midway-ends, at_once}
-use Rattle.machine_replay.proofs.Replays.Peaking.{Run-length}
+use Rattle.machine_replay.specs.{Book.Book, Book.Open, Book.Run, Book.begun, Book.after_own, Book.opening, Conforms.Conforms, Conforms.entries_from, Conforms.reply_entry, OneOwner.begun_calls, OneOwner.reply_in, OneOwner.IsSequentialRun}
+use Rattle.machine_replay.proofs.Replays.{OneOwner.Ready, OneOwner.Midway, OneOwner.midway-more, OneOwner.midway-ends, OneOwner.at_once, Peaking.Run-length}
 
 abbrev pending : {T : Type 0} → Option (Open T) → List (Call T) → List (Call T)
 pending None ks = ks

@@ -1,14 +1,9 @@
 -- The greatest number of blocks of a run, one event more at a time.
 use Rattle.std.proofs.Common.{◌≡◌, ◌∙◌, ◌⊎◌, inl, inr, ℕ, ◌+◌, ◌<◌, ◌≤◌, nat_lt, true, false, if◌then◌else◌, Option, List, [], ◌∷◌, ◌++◌, length, refl, sym, ap, subst, arith, append_assoc, append-nil, length-append, suc}
-use Rattle.std.proofs.lemmas.List.{length_push}
-use Rattle.std.proofs.lemmas.Bool.{ltb-true, ltb-false, le-ltb}
+use Rattle.std.proofs.lemmas.{List.length_push, Bool.ltb-true, Bool.ltb-false, Bool.le-ltb}
 use Rattle.queue_steps.specs.Sequential.{blocks_of}
-use Rattle.machine_replay.specs.Vocabulary.{Event, Told, Peak, Running}
-use Rattle.machine_replay.specs.Book.{Book, Run, opening}
-use Rattle.machine_replay.specs.Conforms.{ComesBy, IsPeak, share}
-use Rattle.machine_replay.specs.Peaks.{bound_of, opening_peak, peaked}
-use Rattle.machine_memory.specs.Present.{present}
-use Rattle.machine_memory.specs.SharedMemory.{Shared}
+use Rattle.machine_replay.specs.{Vocabulary.Event, Vocabulary.Told, Vocabulary.Peak, Vocabulary.Running, Book.Book, Book.Run, Book.opening, Conforms.ComesBy, Conforms.IsPeak, Conforms.share, Peaks.bound_of, Peaks.opening_peak, Peaks.peaked}
+use Rattle.machine_memory.specs.{Present.present, SharedMemory.Shared}
 use Rattle.machine_steps.specs.World.{World}
 use Rattle.machine_replay.proofs.Replays.Counting.{same-accepted, same-blocks}
 use Rattle.machine_memory.proofs.Presence.{Sparing}

@@ -1,19 +1,10 @@
 -- What a run told is what its events make, where the steps that tell of want of memory were refused their request.
 use Rattle.std.proofs.Common.{◌≡◌, ◌∙◌, ◌&&◌, not, ℕ, Bool, true, false, Option, Some, None, List, [], ◌∷◌, ◌++◌, length, refl, sym, ap, subst}
-use Rattle.queue_steps.specs.BoundedNext.{FitsRing}
-use Rattle.queue_steps.specs.Next.{CanNext, next_of}
+use Rattle.queue_steps.specs.{BoundedNext.FitsRing, Next.CanNext, Next.next_of, declared.steps.bounded.BoundedLocal.BoundedLocal as ring, declared.steps.unbounded.UnboundedLocal.UnboundedLocal as chain}
 use Rattle.machine_replay.specs.Vocabulary.{Kind, Op, Answer, Local, PushKind, BoundedLocal, Event, Told, EffectKind, Peak, Begin, Step, Ran, Running}
-use Rattle.queue_steps.specs.declared.steps.bounded.BoundedLocal.TheVariants as ring
-use Rattle.queue_steps.specs.declared.steps.unbounded.UnboundedLocal.TheVariants as chain
-use Rattle.machine_replay.specs.declared.machine_run.MachineRun.{MachineRun}
-use Rattle.machine_steps.specs.Left.{opening_world}
-use Rattle.machine_steps.specs.Machine.{CanHandle, event_of, world_of}
-use Rattle.machine_replay.specs.MachineRuns.{Comes, IsMachineRun}
-use Rattle.machine_replay.specs.Peaks.{opening_peak, peak_after, peaked}
-use Rattle.machine_replay.specs.Played.{as_told, asks, event_told, is_request, lacks_memory, told_of, world_after}
+use Rattle.machine_replay.specs.{declared.machine_run.MachineRun.MachineRun, MachineRuns.Comes, MachineRuns.IsMachineRun, Peaks.opening_peak, Peaks.peak_after, Peaks.peaked, Played.as_told, Played.asks, Played.event_told, Played.is_request, Played.lacks_memory, Played.told_of, Played.world_after}
+use Rattle.machine_steps.specs.{Left.opening_world, Machine.CanHandle, Machine.event_of, Machine.world_of, Steps.CanReply, Steps.CanStep, Steps.after_touch, Steps.answer_to, Steps.carried_then, Steps.reply_after, Steps.step_of, World.World, World.call_at, World.stepped, World.stepped_if}
 use Rattle.machine_memory.specs.SharedMemory.{Shared, answered, asked, operated}
-use Rattle.machine_steps.specs.Steps.{CanReply, CanStep, after_touch, answer_to, carried_then, reply_after, step_of}
-use Rattle.machine_steps.specs.World.{World, call_at, stepped, stepped_if}
 use Rattle.machine_replay.proofs.Engine.AllKinds.{KnownAfter, has_machine, known-can, known-first, known-more}
 
 -- only a request looks at what the allocator grants

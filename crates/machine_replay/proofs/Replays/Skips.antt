@@ -2,11 +2,8 @@
 use Rattle.std.proofs.Common.{◌≡◌, ◌≢◌, ◌⊎◌, ℕ, zero, suc, ◌+◌, ◌<◌, ◌≤◌, Bool, true, false, Option, Some, None, List, [], ◌∷◌, ◌++◌, length, refl, subst, arith, inl, inr, slice_get, Contains}
 use Rattle.std.specs.List.{AllByRecursion}
 use Rattle.std.proofs.lemmas.List.Elements.{All-contains, All-from_recursion, Contains-append_left, Contains-push_cases}
-use Rattle.machine_replay.specs.Vocabulary.{Reply, Event, Begin, Step}
-use Rattle.machine_replay.specs.InCall.{HasRun, IsUnanswered, IsInCall}
-use Rattle.machine_replay.specs.Skips.{IsExact}
-use Rattle.machine_replay.proofs.Engine.Calls.{with_reply, in-call-late, in-call-on}
-use Rattle.machine_replay.proofs.Engine.Entries.{each-all}
+use Rattle.machine_replay.specs.{Vocabulary.Reply, Vocabulary.Event, Vocabulary.Begin, Vocabulary.Step, InCall.HasRun, InCall.IsUnanswered, InCall.IsInCall, Skips.IsExact}
+use Rattle.machine_replay.proofs.Engine.{Calls.with_reply, Calls.in-call-late, Calls.in-call-on, Entries.each-all}
 
 pub last-or-earlier : (m n : ℕ) → m < n + 1 → (m ≡ n) ⊎ (m < n)
 last-or-earlier m n lt = grind arith

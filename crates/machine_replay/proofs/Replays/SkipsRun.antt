@@ -1,20 +1,11 @@
 -- A whole run skips exactly the events that do not fit.
 use Rattle.std.proofs.Common.{◌≡◌, ◌≢◌, ◌∙◌, ℕ, ◌+◌, ◌<◌, ◌&&◌, nat_lt, Bool, true, false, Option, Some, None, is_some, is_none, List, [], ◌∷◌, ◌++◌, length, refl, sym, ap, subst, arith, inl, inr, append-nil, slice_get, Contains}
 use Rattle.std.specs.List.{AllByRecursion}
-use Rattle.std.proofs.lemmas.List.Elements.{Contains-push}
-use Rattle.std.proofs.lemmas.Option.{slice_get_within}
-use Rattle.std.proofs.lemmas.Bool.{ltb-true, lt-ltb}
-use Rattle.std.proofs.lemmas.Bool.Decides.{eqb_tells}
+use Rattle.std.proofs.lemmas.{List.Elements.Contains-push, Option.slice_get_within, Bool.ltb-true, Bool.lt-ltb, Bool.Decides.eqb_tells}
 use Rattle.queue_laws.proofs.Common.Tests.{is_none_true}
 use Rattle.machine_replay.specs.Vocabulary.{Call, Reply, Event, Told, EffectKind, Begin, Step, Skipped, Ran}
-use Rattle.machine_replay.specs.Book.{Book, Open, fits, joined, watched, at_open}
-use Rattle.machine_replay.specs.Conforms.{party_of, entries_from, reply_entry, skipped_entry}
-use Rattle.machine_replay.specs.InCall.{IsInCall}
-use Rattle.machine_replay.specs.Skips.{ShouldRun, IsExact}
-use Rattle.machine_replay.proofs.Engine.Calls.{with_reply, early-with_reply}
-use Rattle.machine_replay.proofs.Engine.Entries.{each-more, each-all, event-last, length-one}
-use Rattle.machine_replay.proofs.Progress.Solo.{and-left, and-right}
-use Rattle.machine_replay.proofs.Engine.SoFar.{entries-more}
+use Rattle.machine_replay.specs.{Book.Book, Book.Open, Book.fits, Book.joined, Book.watched, Book.at_open, Conforms.party_of, Conforms.entries_from, Conforms.reply_entry, Conforms.skipped_entry, InCall.IsInCall, Skips.ShouldRun, Skips.IsExact}
+use Rattle.machine_replay.proofs.{Engine.Calls.with_reply, Engine.Calls.early-with_reply, Engine.Entries.each-more, Engine.Entries.each-all, Engine.Entries.event-last, Engine.Entries.length-one, Progress.Solo.and-left, Progress.Solo.and-right, Engine.SoFar.entries-more}
 use Rattle.machine_replay.proofs.Replays.Skips.{noted, event-less, not-in-later, earlier-now, earlier-before, exact-now, goes-on, there-before, was-there, is-over, last-or-earlier}
 
 -- what is known of the skipped events so far

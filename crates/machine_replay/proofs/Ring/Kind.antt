@@ -2,13 +2,8 @@
 use Rattle.std.proofs.Common.{ℕ, ap}
 use Rattle.queue_steps.specs.Words.{IsRing}
 use Rattle.machine_replay.specs.Vocabulary.{Kind}
-use Rattle.machine_replay.proofs.Engine.KindLaws.{KindLaws}
-use Rattle.machine_replay.proofs.Engine.Counted.{counted-none}
-use Rattle.queue_laws.specs.Ring.RingCells.{Ring}
-use Rattle.machine_replay.proofs.Ring.Laws.{RingHolds, RingIdle, RingFits, ring_steps}
-use Rattle.queue_laws.specs.Ring.RingOpening.{opening_ring}
-use Rattle.machine_replay.proofs.Ring.Opening.{ring_opens, ring_all_idle}
-use Rattle.machine_replay.proofs.Ring.Left.{ring_leaves}
+use Rattle.machine_replay.proofs.{Engine.KindLaws.KindLaws, Engine.Counted.counted-none, Ring.Laws.RingHolds, Ring.Laws.RingIdle, Ring.Laws.RingFits, Ring.Laws.ring_steps, Ring.Opening.ring_opens, Ring.Opening.ring_all_idle, Ring.Left.ring_leaves}
+use Rattle.queue_laws.specs.Ring.{RingCells.Ring, RingOpening.opening_ring}
 
 -- a ring of n slots keeps the laws of the machine
 pub ring_laws : (T : Type 0) (n : ℕ) → IsRing n → KindLaws T (Kind.Bounded n)

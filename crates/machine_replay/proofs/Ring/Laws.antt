@@ -1,34 +1,15 @@
 -- A ring keeps the laws of the engine.
 use Rattle.std.proofs.Common.{ℕ, ◌≤◌, ◌≡◌, ◌≢◌, ◌||◌, not, ◌∙◌, inl, Bool, true, false, Option, Some, List, [], ◌∷◌, refl, sym, ap, subst, arith}
-use Rattle.queue_steps.specs.State.{State}
-use Rattle.queue_steps.specs.Next.{CanNext, next_of}
-use Rattle.queue_steps.specs.WaitFree.{is_wait_free}
-use Rattle.queue_steps.specs.Replies.{IsRightAt}
-use Rattle.machine_replay.specs.Vocabulary.{Call, Reply, Effect, Kind, Next, Running}
-use Rattle.queue_laws.specs.Common.Effects.{Leads, with_effect}
-use Rattle.machine_replay.proofs.Engine.StandOf.{stand_of}
+use Rattle.queue_steps.specs.{State.State, Next.CanNext, Next.next_of, WaitFree.is_wait_free, Replies.IsRightAt}
+use Rattle.machine_replay.specs.{Vocabulary.Call, Vocabulary.Reply, Vocabulary.Effect, Vocabulary.Kind, Vocabulary.Next, Vocabulary.Running, Book.Open, Book.Allows, Book.after_own, Book.begun, Book.joined}
+use Rattle.queue_laws.specs.{Common.Effects.Leads, Common.Effects.with_effect, Ring.RingCells.Ring, Ring.RingCells.queue_of, Ring.RingCells.RingOk, Ring.RingCells.HoldsNone, Ring.RingPasses.Passes, Ring.RingAt.At, Ring.RingWords.Codes}
+use Rattle.machine_replay.proofs.{Engine.StandOf.stand_of, Engine.Moments.any_in, Engine.Moments.same_moments, Progress.FewSteps.FewSteps, Progress.FewSteps.few_begun, Progress.FewSteps.few_joined, Progress.FewSteps.few_watched, Progress.FewSteps.few_own, Progress.FewSteps.few_stays, Engine.KindLaws.LawsOf, Engine.Plain.IsPlain, Engine.Plain.plain-can, Engine.Plain.plain-step, Engine.Plain.plain-blocks, Ring.Coded.part, Ring.Coded.same_step, Ring.Moments.ring_begun, Ring.Moments.ring_moves}
 use Rattle.queue_laws.specs.Ring.RingShared as ring
-use Rattle.queue_laws.specs.Ring.RingCells.{Ring, queue_of, RingOk, HoldsNone}
-use Rattle.queue_laws.specs.Ring.RingPasses.{Passes}
-use Rattle.queue_laws.proofs.Ring.RingPasses.{none_stays}
-use Rattle.queue_laws.specs.Ring.RingAt.{At}
-use Rattle.queue_laws.proofs.Ring.RingAt.{at_stays}
-use Rattle.queue_laws.specs.Ring.RingWords.{Codes}
-use Rattle.queue_laws.proofs.Ring.RingRanks.{rank, rank_small, rank_some, longest, wait_free_rank}
-use Rattle.queue_laws.proofs.Ring.RingStepOk.{IsQuiet, NextOk, IsEffect}
-use Rattle.queue_laws.proofs.Ring.RingStep.{step_good}
-use Rattle.queue_laws.proofs.Ring.RingStart.{at_first}
-use Rattle.machine_replay.specs.Book.{Open, Allows, after_own, begun, joined}
+use Rattle.queue_laws.proofs.Ring.{RingPasses.none_stays, RingAt.at_stays, RingRanks.rank, RingRanks.rank_small, RingRanks.rank_some, RingRanks.longest, RingRanks.wait_free_rank, RingStepOk.IsQuiet, RingStepOk.NextOk, RingStepOk.IsEffect, RingStep.step_good, RingStart.at_first}
 use Rattle.machine_steps.specs.World.{Made}
 use Rattle.machine_memory.specs.SharedMemory.{Shared, CanTouch, CanOperate, slots_there, block_touched}
 use Rattle.machine_steps.specs.Steps.{CanStep, CanReply, after_touch, answer_to, step_of, start_of, next_after, carried_then, running_after, reply_after, after_operation}
 use Rattle.machine_replay.proofs.Engine.Events as engine
-use Rattle.machine_replay.proofs.Engine.Moments.{any_in, same_moments}
-use Rattle.machine_replay.proofs.Progress.FewSteps.{FewSteps, few_begun, few_joined, few_watched, few_own, few_stays}
-use Rattle.machine_replay.proofs.Engine.KindLaws.{LawsOf}
-use Rattle.machine_replay.proofs.Engine.Plain.{IsPlain, plain-can, plain-step, plain-blocks}
-use Rattle.machine_replay.proofs.Ring.Coded.{part, same_step}
-use Rattle.machine_replay.proofs.Ring.Moments.{ring_begun, ring_moves}
 
 -- the ring stands for the state, and the words and slots for the ring
 pub record RingHolds {A : Type 0} (cap : ℕ) (s : Shared A) (Q : State A) (g : Ring A) : Type 0 where

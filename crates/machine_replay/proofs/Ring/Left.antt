@@ -1,28 +1,15 @@
 -- The list that a ring holds, once each call that is about to write has written, is that of the queue.
 use Rattle.std.proofs.Common.{ℕ, suc, ◌+◌, ◌-◌, ◌%◌, ◌<◌, ◌≤◌, ◌≡◌, ◌==◌, ◌∙◌, inl, inr, Bool, true, false, Option, Some, None, List, ◌∷◌, length, refl, sym, ap, subst, arith, get_or, slice_get}
-use Rattle.std.proofs.lemmas.Bool.{eq-eqb}
-use Rattle.std.proofs.lemmas.Bool.Decides.{eqb_tells}
-use Rattle.queue_steps.specs.State.{State}
-use Rattle.queue_steps.specs.Words.{position_of, slot_at}
-use Rattle.machine_replay.specs.Vocabulary.{Kind, Touch, Running}
-use Rattle.queue_laws.proofs.Common.Tails.{position_tail}
-use Rattle.machine_replay.specs.Book.{Book, Open}
-use Rattle.machine_steps.specs.World.{World}
+use Rattle.std.proofs.lemmas.Bool.{eq-eqb, Decides.eqb_tells}
+use Rattle.queue_steps.specs.{State.State, Words.position_of, Words.slot_at}
+use Rattle.machine_replay.specs.{Vocabulary.Kind, Vocabulary.Touch, Vocabulary.Running, Book.Book, Book.Open}
+use Rattle.queue_laws.proofs.{Common.Tails.position_tail, Ring.RingCells.wraps, Ring.RingCells.apart, Ring.RingIdle.same_position, Ring.RingTransitions.in_ring, Ring.RingStart.holds_none}
+use Rattle.machine_steps.specs.{World.World, Steps.CanStep, Steps.step_of, Steps.start_of, Left.left_of, Left.all_written, Left.gathered}
 use Rattle.machine_memory.specs.SharedMemory.{Shared}
-use Rattle.machine_steps.specs.Steps.{CanStep, step_of, start_of}
-use Rattle.machine_steps.specs.Left.{left_of, all_written, gathered}
 use Rattle.machine_replay.proofs.Engine.Events as engine
-use Rattle.machine_replay.proofs.Engine.KindLaws.{SimulatesOf}
-use Rattle.machine_replay.proofs.Engine.AllWritten.{writes, writes_slot, all_written-none, all_written-one, nth, gathered-items}
-use Rattle.queue_laws.specs.Common.Stand.{Stand}
+use Rattle.machine_replay.proofs.{Engine.KindLaws.SimulatesOf, Engine.AllWritten.writes, Engine.AllWritten.writes_slot, Engine.AllWritten.all_written-none, Engine.AllWritten.all_written-one, Engine.AllWritten.nth, Engine.AllWritten.gathered-items, Ring.Laws.RingHolds, Ring.Laws.RingIdle, Ring.Laws.RingFits}
+use Rattle.queue_laws.specs.{Common.Stand.Stand, Ring.RingWords.item_in, Ring.RingAt.At, Ring.RingAt.filling, Ring.RingAt.arriving, Ring.RingAt.swapping, Ring.RingAt.emptying}
 use Rattle.queue_laws.specs.Ring.RingCells.{Cell, Free, Written, Full, Read, Coming, Swapped, Ring, CellOk, RingOk, owner}
-use Rattle.queue_laws.proofs.Ring.RingCells.{wraps, apart}
-use Rattle.queue_laws.proofs.Ring.RingIdle.{same_position}
-use Rattle.queue_laws.proofs.Ring.RingTransitions.{in_ring}
-use Rattle.queue_laws.specs.Ring.RingWords.{item_in}
-use Rattle.queue_laws.specs.Ring.RingAt.{At, filling, arriving, swapping, emptying}
-use Rattle.queue_laws.proofs.Ring.RingStart.{holds_none}
-use Rattle.machine_replay.proofs.Ring.Laws.{RingHolds, RingIdle, RingFits}
 
 -- what a slot will hold that its holder has written: the item of its push
 abbrev pub content : {A : Type 0} → Cell A → Option A

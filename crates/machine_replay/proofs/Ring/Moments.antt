@@ -1,18 +1,11 @@
 -- What a step of a call on a ring is in the book: its effects begin those of a reply, and its effect moves the queue.
 use Rattle.std.proofs.Common.{ℕ, ◌+◌, ◌≡◌, ◌==◌, inr, Bool, true, false, if◌then◌else◌, Option, Some, None, Ok, List, [], ◌∷◌, refl}
-use Rattle.queue_steps.specs.State.{State}
-use Rattle.queue_steps.specs.Words.{position_of, is_shut}
-use Rattle.machine_replay.specs.Vocabulary.{Reply, Effect, Kind, Answer, Local, EffectKind}
-use Rattle.queue_steps.specs.declared.steps.bounded.BoundedLocal.TheVariants as ring
-use Rattle.queue_laws.specs.Common.Effects.{Leads, Whether, with_effect}
-use Rattle.queue_laws.specs.Common.Stand.{Stand}
-use Rattle.queue_laws.specs.Ring.RingCells.{Ring}
-use Rattle.queue_laws.specs.Ring.RingAt.{At, filling, arriving, swapping, emptying}
+use Rattle.queue_steps.specs.{State.State, Words.position_of, Words.is_shut, declared.steps.bounded.BoundedLocal.BoundedLocal as ring}
+use Rattle.machine_replay.specs.{Vocabulary.Reply, Vocabulary.Effect, Vocabulary.Kind, Vocabulary.Answer, Vocabulary.Local, Vocabulary.EffectKind, Book.IsBegun, Book.Open, Book.Moves}
+use Rattle.queue_laws.specs.{Common.Effects.Leads, Common.Effects.Whether, Common.Effects.with_effect, Common.Stand.Stand, Ring.RingCells.Ring, Ring.RingAt.At, Ring.RingAt.filling, Ring.RingAt.arriving, Ring.RingAt.swapping, Ring.RingAt.emptying}
 use Rattle.queue_laws.proofs.Ring.RingStepOk.{IsEffect}
-use Rattle.machine_replay.specs.Book.{IsBegun, Open, Moves}
 use Rattle.machine_memory.specs.EffectOf.{effect_of}
-use Rattle.machine_replay.proofs.Engine.Moments.{begun_none, begun_append}
-use Rattle.machine_replay.proofs.Engine.Moving.{no_move, moved, won, marked, appends, takes}
+use Rattle.machine_replay.proofs.Engine.{Moments.begun_none, Moments.begun_append, Moving.no_move, Moving.moved, Moving.won, Moving.marked, Moving.appends, Moving.takes}
 
 -- the effects of a call in progress begin those of some reply
 pub ring_begun : {A : Type 0} {cap : ℕ} {r : Ring A} {who : ℕ} {ms : List (State A)} {was : Bool} {c : Stand A}

@@ -1,7 +1,6 @@
 -- The machine of a ring at its beginning.
 use Rattle.std.proofs.Common.{ℕ, Some, refl}
-use Rattle.queue_steps.specs.State.{start}
-use Rattle.queue_steps.specs.Words.{IsRing}
+use Rattle.queue_steps.specs.{State.start, Words.IsRing}
 use Rattle.machine_replay.specs.Vocabulary.{Kind}
 use Rattle.machine_memory.specs.Opening.{opening_shared}
 use Rattle.queue_laws.specs.Ring.RingOpening.{opening_ring}

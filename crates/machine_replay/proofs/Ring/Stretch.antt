@@ -1,41 +1,17 @@
 -- A ring: a call that nobody hinders replies by its sixth step.
 use Rattle.std.proofs.Common.{ℕ, ◌+◌, ◌%◌, ◌<◌, ◌≤◌, ◌≡◌, ◌≢◌, ◌==◌, ◌||◌, ◌⊎◌, inl, inr, if◌then◌else◌, min, not, ◌∙◌, Bool, true, false, Option, Some, None, List, [], ◌∷◌, length, refl, sym, ap, subst, arith}
-use Rattle.std.proofs.Math.Nat.{min-eq_left, min-eq_right}
-use Rattle.std.proofs.lemmas.Bool.{ne_eqb}
-use Rattle.std.proofs.lemmas.Bool.Decides.{eqb_tells}
-use Rattle.std.proofs.lemmas.Option.{none-some}
-use Rattle.queue_steps.specs.State.{State}
-use Rattle.queue_steps.specs.BoundedNext.{lap_found, loads, push_stamp_found}
-use Rattle.queue_steps.specs.Words.{IsRing, position_of, is_shut, slot_at, stamp_filled, stamp_free, tail_of}
-use Rattle.queue_steps.specs.Next.{next_of}
+use Rattle.std.proofs.{Math.Nat.min-eq_left, Math.Nat.min-eq_right, lemmas.Bool.ne_eqb, lemmas.Bool.Decides.eqb_tells, lemmas.Option.none-some}
+use Rattle.queue_steps.specs.{State.State, BoundedNext.lap_found, BoundedNext.loads, BoundedNext.push_stamp_found, Words.IsRing, Words.position_of, Words.is_shut, Words.slot_at, Words.stamp_filled, Words.stamp_free, Words.tail_of, Next.next_of}
 use Rattle.machine_replay.specs.Vocabulary.{Call, Effect, Kind, Word, Op, Touch, Local, Next, PushKind, BoundedLocal, TAIL_STEP, Running}
-use Rattle.queue_laws.specs.Common.Effects.{with_effect}
-use Rattle.queue_laws.proofs.Common.Ranks.{either_small}
-use Rattle.queue_laws.proofs.Common.Tails.{position_tail, shut_tail}
-use Rattle.queue_laws.specs.Common.Stand.{Stand}
-use Rattle.machine_replay.proofs.Engine.StandOf.{running_of}
+use Rattle.queue_laws.specs.{Common.Effects.with_effect, Common.Stand.Stand, Ring.RingOpening.opening_ring, Ring.RingWords.Codes, Ring.RingWords.stamp_in}
+use Rattle.queue_laws.proofs.{Common.Ranks.either_small, Common.Tails.position_tail, Common.Tails.shut_tail, Ring.RingStart.holds_none, Ring.RingStepOk.NextOk, Ring.RingStepOk.IsQuiet, Ring.RingRanks.rank, Ring.RingRanks.rank_some, Ring.RingSlots.nobody, Ring.RingTransitions.in_ring, Ring.RingStep.step_good}
+use Rattle.machine_replay.proofs.{Engine.StandOf.running_of, Engine.Plain.plain-step, Ring.Coded.part, Ring.Coded.same_step, Ring.Laws.RingHolds, Ring.Laws.RingIdle, Ring.Laws.RingFits, Ring.Laws.ring_steps, Ring.Opening.ring_opens, Ring.Opening.ring_all_idle, Progress.Appended.HasAppend, Progress.Appended.appends_reply, Progress.Taken.HasTake, Progress.Taken.takes_reply, Progress.Stretch.Rules, Progress.Stretch.Paces, Progress.Stretch.unhindered, Progress.Stretch.never_waits, Progress.Stretch.waits_take_none}
 use Rattle.queue_laws.specs.Ring.RingShared as ring
 use Rattle.queue_laws.specs.Ring.RingCells.{Cell, Free, Written, Read, Coming, Swapped, Ring, RingOk, CellOk, owner, queue_of}
 use Rattle.queue_laws.specs.Ring.RingAt.{At, push_stamp, claiming, filling, push_head, displacing, arriving, swapping, pop_stamp, taking, emptying, pop_tail, count_head, count_again}
-use Rattle.queue_laws.proofs.Ring.RingStart.{holds_none}
-use Rattle.queue_laws.specs.Ring.RingOpening.{opening_ring}
-use Rattle.queue_laws.specs.Ring.RingWords.{Codes, stamp_in}
-use Rattle.queue_laws.proofs.Ring.RingStepOk.{NextOk, IsQuiet}
-use Rattle.queue_laws.proofs.Ring.RingRanks.{rank, rank_some}
-use Rattle.queue_laws.proofs.Ring.RingSlots.{nobody}
-use Rattle.queue_laws.proofs.Ring.RingTransitions.{in_ring}
-use Rattle.queue_laws.proofs.Ring.RingStep.{step_good}
-use Rattle.machine_replay.specs.Book.{Open}
+use Rattle.machine_replay.specs.{Book.Open, Progress.AppendsReplyWithin, Progress.TakesReplyWithin, Progress.HalfDoneTakesNone, Progress.UnhinderedWithin, Progress.NeverWaits}
 use Rattle.machine_memory.specs.SharedMemory.{Shared, word_at}
 use Rattle.machine_steps.specs.Steps.{step_of, running_after, carried_then, after_operation}
-use Rattle.machine_replay.proofs.Engine.Plain.{plain-step}
-use Rattle.machine_replay.proofs.Ring.Coded.{part, same_step}
-use Rattle.machine_replay.proofs.Ring.Laws.{RingHolds, RingIdle, RingFits, ring_steps}
-use Rattle.machine_replay.proofs.Ring.Opening.{ring_opens, ring_all_idle}
-use Rattle.machine_replay.specs.Progress.{AppendsReplyWithin, TakesReplyWithin, HalfDoneTakesNone, UnhinderedWithin, NeverWaits}
-use Rattle.machine_replay.proofs.Progress.Appended.{HasAppend, appends_reply}
-use Rattle.machine_replay.proofs.Progress.Taken.{HasTake, takes_reply}
-use Rattle.machine_replay.proofs.Progress.Stretch.{Rules, Paces, unhindered, never_waits, waits_take_none}
 
 -- a ring with these words
 ring_by : (A : Type 0) → ℕ → ℕ → Bool → Ring A

@@ -1,31 +1,15 @@
 -- A ring: who waits for whom, step by step.
 use Rattle.std.proofs.Common.{ℕ, ◌+◌, ◌%◌, ◌<◌, ◌≤◌, ◌≡◌, ◌≢◌, ◌==◌, ◌⊎◌, inl, inr, ◌∙◌, if◌then◌else◌, Bool, true, false, Option, Some, None, List, length, refl, sym, ap, subst, arith}
-use Rattle.std.proofs.lemmas.Bool.{eq-eqb}
-use Rattle.std.proofs.lemmas.Bool.Decides.{eqb_tells}
-use Rattle.std.proofs.lemmas.Option.{none-some}
-use Rattle.queue_steps.specs.State.{State}
-use Rattle.queue_steps.specs.BoundedNext.{push_stamp_found, pop_stamp_found}
-use Rattle.queue_steps.specs.Words.{IsRing, position_of, slot_at}
+use Rattle.std.proofs.lemmas.{Bool.eq-eqb, Bool.Decides.eqb_tells, Option.none-some}
+use Rattle.queue_steps.specs.{State.State, BoundedNext.push_stamp_found, BoundedNext.pop_stamp_found, Words.IsRing, Words.position_of, Words.slot_at}
 use Rattle.machine_replay.specs.Vocabulary.{Kind, Word, Op, Touch, Local, Next, PushKind, BoundedLocal, Running}
-use Rattle.queue_laws.proofs.Common.Tails.{position_tail}
-use Rattle.queue_laws.specs.Common.Stand.{Stand}
+use Rattle.queue_laws.proofs.{Common.Tails.position_tail, Ring.RingStart.holds_none, Ring.RingCells.together, Ring.RingCells.wraps, Ring.RingTransitions.in_ring}
+use Rattle.queue_laws.specs.{Common.Stand.Stand, Ring.RingAt.At, Ring.RingAt.push_stamp, Ring.RingAt.filling, Ring.RingAt.arriving, Ring.RingAt.swapping, Ring.RingAt.pop_stamp, Ring.RingAt.emptying, Ring.RingWords.stamp_in}
 use Rattle.queue_laws.specs.Ring.RingCells.{Cell, Free, Written, Full, Read, Coming, Swapped, Ring, CellOk, owner}
-use Rattle.queue_laws.specs.Ring.RingAt.{At, push_stamp, filling, arriving, swapping, pop_stamp, emptying}
-use Rattle.queue_laws.proofs.Ring.RingStart.{holds_none}
-use Rattle.queue_laws.specs.Ring.RingWords.{stamp_in}
-use Rattle.queue_laws.proofs.Ring.RingCells.{together, wraps}
-use Rattle.queue_laws.proofs.Ring.RingTransitions.{in_ring}
-use Rattle.machine_steps.specs.Left.{opening_world}
+use Rattle.machine_steps.specs.{Left.opening_world, Steps.step_of, Steps.running_after, World.World, World.call_at}
 use Rattle.machine_memory.specs.SharedMemory.{Shared, word_at}
-use Rattle.machine_steps.specs.Steps.{step_of, running_after}
-use Rattle.machine_steps.specs.World.{World, call_at}
-use Rattle.machine_replay.specs.Book.{Open}
-use Rattle.machine_replay.specs.Played.{told_of, world_after}
-use Rattle.machine_replay.specs.Progress.{Standing, Between, stands_by}
-use Rattle.machine_replay.specs.Waits.{RingCallsWait, IsBeside, GoesOn, GoesOnTwice, IsPushToStamp, HasFront, HasLastLap, IsToFill}
-use Rattle.machine_replay.proofs.Progress.Beside.{apart, beside, not_back, same_call}
-use Rattle.machine_replay.proofs.Ring.Stretch.{ring_rules}
-use Rattle.machine_replay.proofs.Progress.Stretch.{Here, Party, reach, first, party-open}
+use Rattle.machine_replay.specs.{Book.Open, Played.told_of, Played.world_after, Progress.Standing, Progress.Between, Progress.stands_by, Waits.RingCallsWait, Waits.IsBeside, Waits.GoesOn, Waits.GoesOnTwice, Waits.IsPushToStamp, Waits.HasFront, Waits.HasLastLap, Waits.IsToFill}
+use Rattle.machine_replay.proofs.{Progress.Beside.apart, Progress.Beside.beside, Progress.Beside.not_back, Progress.Beside.same_call, Ring.Stretch.ring_rules, Progress.Stretch.Here, Progress.Stretch.Party, Progress.Stretch.reach, Progress.Stretch.first, Progress.Stretch.party-open}
 
 -- where a call stands that has a slot
 abbrev HolderAt : {A : Type 0} → Cell A → Local ℕ → Type 0

@@ -1,15 +1,11 @@
 -- The machine's word and slot at each step of a call on one slot: what the laws of the slot say of them.
 use Rattle.std.proofs.Common.{ℕ, ◌≡◌, ◌∙◌, Bool, Option, None, [], ◌∷◌, refl, ap}
 use Rattle.machine_replay.specs.Vocabulary.{Kind, Touch, Running}
-use Rattle.queue_laws.specs.Common.Stand.{Stand}
-use Rattle.machine_replay.proofs.Engine.StandOf.{running_of}
+use Rattle.queue_laws.specs.{Common.Stand.Stand, Slot.SlotHolder.SlotHolder, Slot.SlotRows.At, Slot.SlotRows.push_try, Slot.SlotRows.force_try_empty, Slot.SlotRows.force_try_full, Slot.SlotRows.pop_try, Slot.SlotRows.close_try, Slot.SlotRows.look_at}
+use Rattle.machine_replay.proofs.Engine.{StandOf.running_of, Plain.without-none}
 use Rattle.queue_laws.specs.Slot.SlotShared as slot
-use Rattle.queue_laws.specs.Slot.SlotHolder.{SlotHolder}
-use Rattle.queue_laws.specs.Slot.SlotRows.{At, push_try, force_try_empty, force_try_full, pop_try, close_try, look_at}
-use Rattle.machine_memory.specs.Blocks.{without}
-use Rattle.machine_memory.specs.SharedMemory.{Shared, CanTouch, CanOperate, slots_there, block_touched}
+use Rattle.machine_memory.specs.{Blocks.without, SharedMemory.Shared, SharedMemory.CanTouch, SharedMemory.CanOperate, SharedMemory.slots_there, SharedMemory.block_touched}
 use Rattle.machine_steps.specs.Steps.{after_touch, after_operation, answer_to, carried_then, shared_then, spare_in, next_after}
-use Rattle.machine_replay.proofs.Engine.Plain.{without-none}
 
 module _ {T : Type 0} where
   -- the shared memory of a queue of one slot

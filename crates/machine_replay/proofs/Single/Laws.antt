@@ -1,27 +1,16 @@
 -- One slot keeps the laws of the engine.
 use Rattle.std.proofs.Common.{ℕ, ◌<◌, ◌≤◌, ◌≡◌, ◌≢◌, ◌==◌, ◌∙◌, inl, Bool, true, false, Option, Some, List, [], ◌∷◌, refl, sym, ap, subst, arith}
-use Rattle.queue_steps.specs.State.{State}
-use Rattle.queue_steps.specs.Next.{next_of, CanNext}
-use Rattle.queue_steps.specs.WaitFree.{is_wait_free}
-use Rattle.queue_steps.specs.Replies.{IsRightAt}
-use Rattle.machine_replay.specs.Vocabulary.{Call, Reply, Effect, Kind, Next, Running}
-use Rattle.queue_laws.specs.Common.Effects.{with_effect}
-use Rattle.machine_replay.proofs.Engine.StandOf.{stand_of}
+use Rattle.queue_steps.specs.{State.State, Next.next_of, Next.CanNext, WaitFree.is_wait_free, Replies.IsRightAt}
+use Rattle.machine_replay.specs.{Vocabulary.Call, Vocabulary.Reply, Vocabulary.Effect, Vocabulary.Kind, Vocabulary.Next, Vocabulary.Running, Book.Open, Book.Allows, Book.after_own, Book.begun}
+use Rattle.queue_laws.specs.{Common.Effects.with_effect, Slot.SlotHolder.SlotHolder, Slot.SlotHolder.Nobody, Slot.SlotHolder.Keeps, Slot.SlotHolder.Idle, Slot.SlotHolder.own_of}
+use Rattle.machine_replay.proofs.{Engine.StandOf.stand_of, Engine.Moments.any_in, Progress.FewSteps.FewSteps, Progress.FewSteps.few_begun, Progress.FewSteps.few_joined, Progress.FewSteps.few_watched, Progress.FewSteps.few_own, Progress.FewSteps.few_stays, Engine.KindLaws.LawsOf, Single.Coded.one_slot, Single.Coded.same_step, Single.Coded.shared_same, Single.Moments.single_begun, Single.Moments.single_moves}
 use Rattle.queue_laws.specs.Slot.SlotShared as slot
-use Rattle.queue_laws.specs.Slot.SlotHolder.{SlotHolder, Nobody, Keeps, Idle, own_of}
 use Rattle.queue_laws.specs.Slot.SlotRows.{Codes, At, push_try, force_try_empty, pop_try, close_try, look_at, single, NextOk, IsEffect}
-use Rattle.queue_laws.proofs.Slot.SlotSteps.{step_good}
+use Rattle.queue_laws.proofs.Slot.{SlotSteps.step_good, SlotHolder.share_of, SlotHolder.next_who, SlotHolder.own_self, SlotHolder.own_other, SlotHolder.own_alone}
 use Rattle.queue_laws.proofs.Slot.SlotRanks.{rank, rank_small, rank_some, Falls, step_falls, IsReplying, wait_free_ends, wait_free_one, can_operate}
-use Rattle.queue_laws.proofs.Slot.SlotHolder.{share_of, next_who, own_self, own_other, own_alone}
-use Rattle.machine_replay.specs.Book.{Open, Allows, after_own, begun}
 use Rattle.machine_memory.specs.SharedMemory.{Shared}
 use Rattle.machine_steps.specs.Steps.{CanStep, CanReply, answer_to, step_of, start_of, running_after, reply_after, next_after, carried_then, shared_then}
 use Rattle.machine_replay.proofs.Engine.Events as engine
-use Rattle.machine_replay.proofs.Engine.Moments.{any_in}
-use Rattle.machine_replay.proofs.Progress.FewSteps.{FewSteps, few_begun, few_joined, few_watched, few_own, few_stays}
-use Rattle.machine_replay.proofs.Engine.KindLaws.{LawsOf}
-use Rattle.machine_replay.proofs.Single.Coded.{one_slot, same_step, shared_same}
-use Rattle.machine_replay.proofs.Single.Moments.{single_begun, single_moves}
 
 pub record SingleHolds {T : Type 0} (s : Shared T) (Q : State T) (g : Keeps T) : Type 0 where
   pub word : ℕ

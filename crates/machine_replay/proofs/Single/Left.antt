@@ -1,24 +1,15 @@
 -- One slot: the list that is left, and all that a queue of one slot owes.
 use Rattle.std.proofs.Common.{ℕ, ◌<◌, ◌≡◌, ◌≢◌, ◌==◌, ◌⊎◌, ◌∙◌, inl, inr, Bool, true, false, if◌then◌else◌, Option, Some, None, List, [], ◌∷◌, length, refl, sym, ap, arith, get_or}
 use Rattle.std.specs.Option.{option_to_list}
-use Rattle.std.proofs.lemmas.Bool.{eq-eqb}
-use Rattle.std.proofs.lemmas.Bool.Decides.{eqb_tells}
-use Rattle.queue_steps.specs.SingleNext.{is_pushed}
-use Rattle.queue_steps.specs.State.{State}
-use Rattle.machine_replay.specs.Vocabulary.{Kind, Running}
-use Rattle.queue_laws.specs.Common.Stand.{Stand}
-use Rattle.queue_laws.specs.Slot.SlotHolder.{SlotHolder, Nobody, Filling, Swapping, Keeps, Idle, own_of}
+use Rattle.std.proofs.lemmas.Bool.{eq-eqb, Decides.eqb_tells}
+use Rattle.queue_steps.specs.{SingleNext.is_pushed, State.State}
+use Rattle.machine_replay.specs.{Vocabulary.Kind, Vocabulary.Running, Book.Book, Book.Open}
+use Rattle.queue_laws.specs.{Common.Stand.Stand, Slot.SlotHolder.SlotHolder, Slot.SlotHolder.Nobody, Slot.SlotHolder.Filling, Slot.SlotHolder.Swapping, Slot.SlotHolder.Keeps, Slot.SlotHolder.Idle, Slot.SlotHolder.own_of}
 use Rattle.queue_laws.specs.Slot.SlotRows.{Codes, free_empty, free_full, filling, swapping, taking, At, push_put, force_put_empty, force_put_full}
-use Rattle.machine_replay.specs.Book.{Book, Open}
 use Rattle.machine_memory.specs.SharedMemory.{Shared}
-use Rattle.machine_steps.specs.Steps.{CanStep, step_of, start_of}
-use Rattle.machine_steps.specs.Left.{left_of, all_written}
-use Rattle.machine_steps.specs.World.{World, call_at}
+use Rattle.machine_steps.specs.{Steps.CanStep, Steps.step_of, Steps.start_of, Left.left_of, Left.all_written, World.World, World.call_at}
 use Rattle.machine_replay.proofs.Engine.Events as engine
-use Rattle.machine_replay.proofs.Engine.KindLaws.{SimulatesOf, KindLaws}
-use Rattle.machine_replay.proofs.Engine.Counted.{counted-none}
-use Rattle.machine_replay.proofs.Engine.AllWritten.{writes, writes_slot, all_written-none, all_written-one}
-use Rattle.machine_replay.proofs.Single.Laws.{SingleHolds, FitsIn, single_engine}
+use Rattle.machine_replay.proofs.{Engine.KindLaws.SimulatesOf, Engine.KindLaws.KindLaws, Engine.Counted.counted-none, Engine.AllWritten.writes, Engine.AllWritten.writes_slot, Engine.AllWritten.all_written-none, Engine.AllWritten.all_written-one, Single.Laws.SingleHolds, Single.Laws.FitsIn, Single.Laws.single_engine}
 
 -- what the lock's holder is about to write
 abbrev wait_of : {T : Type 0} → SlotHolder T → Option T

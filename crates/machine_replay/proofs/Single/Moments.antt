@@ -1,17 +1,10 @@
 -- What a step of a call on one slot is in the book: its effects begin those of a reply, and its effect moves the queue.
 use Rattle.std.proofs.Common.{ℕ, ◌≡◌, ◌==◌, inl, Bool, true, false, if◌then◌else◌, Option, Some, None, Ok, [], refl}
-use Rattle.queue_steps.specs.State.{State}
-use Rattle.queue_steps.specs.SingleNext.{is_marked}
-use Rattle.machine_replay.specs.Vocabulary.{Reply, Effect, Kind, Answer, Local, PushKind, EffectKind}
-use Rattle.queue_steps.specs.declared.steps.single.SingleLocal.TheVariants.{Pushing, Forcing, Popping, Closing}
-use Rattle.queue_laws.specs.Common.Effects.{Leads, with_effect, Whether}
-use Rattle.queue_laws.specs.Common.Stand.{Stand}
-use Rattle.queue_laws.specs.Slot.SlotHolder.{SlotHolder}
-use Rattle.queue_laws.specs.Slot.SlotRows.{At, push_put, force_put_empty, force_put_full, pop_take, IsEffect}
-use Rattle.machine_replay.specs.Book.{IsBegun, Open, Moves}
+use Rattle.queue_steps.specs.{State.State, SingleNext.is_marked, declared.steps.single.SingleLocal.TheVariants.Pushing, declared.steps.single.SingleLocal.TheVariants.Forcing, declared.steps.single.SingleLocal.TheVariants.Popping, declared.steps.single.SingleLocal.TheVariants.Closing}
+use Rattle.machine_replay.specs.{Vocabulary.Reply, Vocabulary.Effect, Vocabulary.Kind, Vocabulary.Answer, Vocabulary.Local, Vocabulary.PushKind, Vocabulary.EffectKind, Book.IsBegun, Book.Open, Book.Moves}
+use Rattle.queue_laws.specs.{Common.Effects.Leads, Common.Effects.with_effect, Common.Effects.Whether, Common.Stand.Stand, Slot.SlotHolder.SlotHolder, Slot.SlotRows.At, Slot.SlotRows.push_put, Slot.SlotRows.force_put_empty, Slot.SlotRows.force_put_full, Slot.SlotRows.pop_take, Slot.SlotRows.IsEffect}
 use Rattle.machine_memory.specs.EffectOf.{effect_of}
-use Rattle.machine_replay.proofs.Engine.Moments.{begun_none, begun_append}
-use Rattle.machine_replay.proofs.Engine.Moving.{no_move, moved, won, marked, appends, takes}
+use Rattle.machine_replay.proofs.Engine.{Moments.begun_none, Moments.begun_append, Moving.no_move, Moving.moved, Moving.won, Moving.marked, Moving.appends, Moving.takes}
 
 -- the effects of a call in progress begin those of some reply
 pub single_begun : {T : Type 0} {c : Stand T} {own : SlotHolder T} → At c own → IsBegun c.call c.effects

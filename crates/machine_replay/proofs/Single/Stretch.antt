@@ -1,26 +1,15 @@
 -- One slot: a call that nobody hinders replies by its third step.
 use Rattle.std.proofs.Common.{ℕ, ◌==◌, if◌then◌else◌, ◌<◌, ◌≡◌, ◌≢◌, ◌∙◌, Bool, true, false, Option, Some, None, List, [], ◌∷◌, refl, sym, ap, subst, arith}
 use Rattle.std.proofs.lemmas.Option.{none-some}
-use Rattle.queue_steps.specs.State.{State}
-use Rattle.machine_replay.specs.Vocabulary.{Kind, Local, Next, Running}
-use Rattle.queue_steps.specs.Next.{next_of}
-use Rattle.queue_steps.specs.declared.steps.single.SingleLocal.TheVariants.{Pushed, Forced, Popped}
-use Rattle.queue_laws.specs.Common.Stand.{Stand}
-use Rattle.machine_replay.proofs.Engine.StandOf.{running_of}
+use Rattle.queue_steps.specs.{State.State, Next.next_of, declared.steps.single.SingleLocal.TheVariants.Pushed, declared.steps.single.SingleLocal.TheVariants.Forced, declared.steps.single.SingleLocal.TheVariants.Popped}
+use Rattle.machine_replay.specs.{Vocabulary.Kind, Vocabulary.Local, Vocabulary.Next, Vocabulary.Running, Book.Open, Progress.AppendsReplyWithin, Progress.TakesReplyWithin, Progress.HalfDoneTakesNone, Progress.UnhinderedWithin, Progress.NeverWaits}
+use Rattle.queue_laws.specs.{Common.Stand.Stand, Slot.SlotHolder.SlotHolder, Slot.SlotHolder.Nobody, Slot.SlotHolder.Taking, Slot.SlotHolder.Keeps, Slot.SlotHolder.Idle}
+use Rattle.machine_replay.proofs.{Engine.StandOf.running_of, Single.Coded.one_slot, Single.Coded.same_step, Single.Coded.shared_same, Single.Laws.SingleHolds, Single.Laws.FitsIn, Single.Laws.single_engine, Progress.Appended.HasAppend, Progress.Appended.appends_reply, Progress.Taken.HasTake, Progress.Taken.takes_reply, Progress.Stretch.Rules, Progress.Stretch.Paces, Progress.Stretch.unhindered, Progress.Stretch.never_waits, Progress.Stretch.waits_take_none}
 use Rattle.queue_laws.specs.Slot.SlotShared as slot
-use Rattle.queue_laws.specs.Slot.SlotHolder.{SlotHolder, Nobody, Taking, Keeps, Idle}
 use Rattle.queue_laws.specs.Slot.SlotRows.{Codes, free_empty, At, push_try, push_put, force_put_empty, force_put_full, pop_take, code}
-use Rattle.queue_laws.proofs.Slot.SlotHolder.{own_alone}
-use Rattle.queue_laws.proofs.Slot.SlotRanks.{rank, rank_small, rank_some, Falls, step_falls}
-use Rattle.machine_replay.specs.Book.{Open}
+use Rattle.queue_laws.proofs.Slot.{SlotHolder.own_alone, SlotRanks.rank, SlotRanks.rank_small, SlotRanks.rank_some, SlotRanks.Falls, SlotRanks.step_falls}
 use Rattle.machine_memory.specs.SharedMemory.{Shared}
 use Rattle.machine_steps.specs.Steps.{step_of, running_after, next_after, carried_then, shared_then}
-use Rattle.machine_replay.proofs.Single.Coded.{one_slot, same_step, shared_same}
-use Rattle.machine_replay.proofs.Single.Laws.{SingleHolds, FitsIn, single_engine}
-use Rattle.machine_replay.specs.Progress.{AppendsReplyWithin, TakesReplyWithin, HalfDoneTakesNone, UnhinderedWithin, NeverWaits}
-use Rattle.machine_replay.proofs.Progress.Appended.{HasAppend, appends_reply}
-use Rattle.machine_replay.proofs.Progress.Taken.{HasTake, takes_reply}
-use Rattle.machine_replay.proofs.Progress.Stretch.{Rules, Paces, unhindered, never_waits, waits_take_none}
 
 -- a call that has had no effect has nothing of the lock
 own_none : {T : Type 0} {c : Stand T} {own : SlotHolder T} → At c own → c.effects ≡ [] → own ≡ Nobody

@@ -1,27 +1,14 @@
 -- One slot: who waits for whom, step by step.
 use Rattle.std.proofs.Common.{ℕ, ◌≡◌, ◌≢◌, ◌∙◌, Bool, true, false, Option, Some, None, List, refl, sym, ap, subst}
 use Rattle.std.proofs.lemmas.Bool.{eq-eqb}
-use Rattle.queue_steps.specs.Next.{next_of}
-use Rattle.queue_steps.specs.SingleNext.{unlocked}
-use Rattle.machine_replay.specs.Vocabulary.{Kind, Answer, Local, Running}
-use Rattle.queue_steps.specs.declared.steps.single.SingleLocal.TheVariants.{Pushing, Pushed, Forcing, Forced, Popping, Popped}
-use Rattle.queue_laws.specs.Common.Stand.{Stand}
-use Rattle.machine_replay.proofs.Engine.StandOf.{stand_of}
+use Rattle.queue_steps.specs.{Next.next_of, SingleNext.unlocked, declared.steps.single.SingleLocal.TheVariants.Pushing, declared.steps.single.SingleLocal.TheVariants.Pushed, declared.steps.single.SingleLocal.TheVariants.Forcing, declared.steps.single.SingleLocal.TheVariants.Forced, declared.steps.single.SingleLocal.TheVariants.Popping, declared.steps.single.SingleLocal.TheVariants.Popped}
+use Rattle.machine_replay.specs.{Vocabulary.Kind, Vocabulary.Answer, Vocabulary.Local, Vocabulary.Running, Book.Open, Played.told_of, Played.world_after, Progress.Standing, Progress.Between, Progress.stands_by, Waits.SlotWaits, Waits.SlotCallsWait, Waits.IsBeside, Waits.GoesOn, Waits.IsToUnlock, Waits.IsPushToUnlock, Waits.IsPopToUnlock}
+use Rattle.queue_laws.specs.{Common.Stand.Stand, Slot.SlotHolder.SlotHolder, Slot.SlotHolder.Nobody, Slot.SlotHolder.Taking, Slot.SlotHolder.Keeps}
+use Rattle.machine_replay.proofs.{Engine.StandOf.stand_of, Progress.Beside.beside, Progress.Beside.not_back, Single.Coded.one_slot, Single.Coded.same_step, Single.Stretch.single_rules, Progress.Stretch.Here, Progress.Stretch.Party, Progress.Stretch.reach, Progress.Stretch.first, Progress.Stretch.party-open}
 use Rattle.queue_laws.specs.Slot.SlotShared as slot
-use Rattle.queue_laws.specs.Slot.SlotHolder.{SlotHolder, Nobody, Taking, Keeps}
 use Rattle.queue_laws.specs.Slot.SlotRows.{Codes, free_empty, free_full, filling, swapping, taking, At, push_try, push_put, force_put_empty, force_put_full, pop_take}
-use Rattle.machine_steps.specs.Left.{opening_world}
+use Rattle.machine_steps.specs.{Left.opening_world, Steps.step_of, Steps.running_after, Steps.carried_then, World.World, World.call_at}
 use Rattle.machine_memory.specs.SharedMemory.{Shared}
-use Rattle.machine_steps.specs.Steps.{step_of, running_after, carried_then}
-use Rattle.machine_steps.specs.World.{World, call_at}
-use Rattle.machine_replay.specs.Book.{Open}
-use Rattle.machine_replay.specs.Played.{told_of, world_after}
-use Rattle.machine_replay.specs.Progress.{Standing, Between, stands_by}
-use Rattle.machine_replay.specs.Waits.{SlotWaits, SlotCallsWait, IsBeside, GoesOn, IsToUnlock, IsPushToUnlock, IsPopToUnlock}
-use Rattle.machine_replay.proofs.Progress.Beside.{beside, not_back}
-use Rattle.machine_replay.proofs.Single.Coded.{one_slot, same_step}
-use Rattle.machine_replay.proofs.Single.Stretch.{single_rules}
-use Rattle.machine_replay.proofs.Progress.Stretch.{Here, Party, reach, first, party-open}
 
 -- where a call stands that has the lock
 abbrev HolderAt : {T : Type 0} → SlotHolder T → Local ℕ → Type 0

@@ -1,28 +1,12 @@
 -- The history of a replay settles into one whose displacements are moments.
 use Rattle.std.proofs.Common.{◌≡◌, ◌⊎◌, ℕ, ◌+◌, ◌<◌, ◌≤◌, ◌==◌, ◌&&◌, nat_lt, Bool, true, false, Option, Some, None, List, [], ◌∷◌, length, refl, ap, sym, ◌∙◌, subst, inl, inr, arith, slice_get}
 use Rattle.std.specs.List.{AllByRecursion}
-use Rattle.std.proofs.lemmas.Bool.Decides.{eqb_tells}
-use Rattle.std.proofs.lemmas.Option.{slice_get_within}
-use Rattle.queue_steps.specs.State.{State, start}
-use Rattle.queue_steps.specs.Effect.{IsHistory}
-use Rattle.queue_steps.specs.Replies.{IsRightAt, Allows, Tells}
-use Rattle.machine_replay.specs.Vocabulary.{Call, Reply, Effect, Event, Begin, Step}
-use Rattle.queue_laws.proofs.Common.Runs.{cap_after}
+use Rattle.std.proofs.lemmas.{Bool.Decides.eqb_tells, Option.slice_get_within}
+use Rattle.queue_steps.specs.{State.State, State.start, Effect.IsHistory, Replies.IsRightAt, Replies.Allows, Replies.Tells}
+use Rattle.machine_replay.specs.{Vocabulary.Call, Vocabulary.Reply, Vocabulary.Effect, Vocabulary.Event, Vocabulary.Begin, Vocabulary.Step, Book.IsBegun, Book.has_steps, InCall.IsStepOf, InCall.IsUnanswered, InCall.IsInCall, Meaning.state_after, Meaning.own_effects, Meaning.SawOpen, Meaning.IsOwn, Meaning.EndsCall, Meaning.RepliesAtOnce, Meaning.IsAnswer, AtOnce.IsWithinCall, AtOnce.IsGlanced, AtOnce.IsWhole, AtOnce.RunsDisplaceAtOnce, Skips.IsExact, Skips.SkippedIsExact}
+use Rattle.queue_laws.proofs.{Common.Runs.cap_after, Moment.Naming.Rising, Moment.Choosing.before, Moment.Choosing.both_parts, Moment.Glances.cases_before, Moment.Glances.middle_or, Moment.Shut.In, Moment.Shut.each_with, Moment.Shut.each_in, Moment.Shut.each_append, Moment.Shut.closed_by, Moment.Settling.sound_start, Moment.Settling.sound_after, Moment.Histories.rising, Moment.Histories.histories_settle, Moment.Owning.is_few, Moment.Together.settle_paired, Moment.Together.stands_together}
 use Rattle.queue_laws.specs.Moment.Moments.{IsGlance}
 use Rattle.queue_laws.specs.Moment.Entries.{Entry, effects_in, state_before, front_first, fronts_at, other_first, other_entries, settle_first, settle, SeesNoMove, KeepsFronts, own_of, SettlesInto}
-use Rattle.queue_laws.proofs.Moment.Naming.{Rising}
-use Rattle.queue_laws.proofs.Moment.Choosing.{before, both_parts}
-use Rattle.queue_laws.proofs.Moment.Glances.{cases_before, middle_or}
-use Rattle.queue_laws.proofs.Moment.Shut.{In, each_with, each_in, each_append, closed_by}
-use Rattle.queue_laws.proofs.Moment.Settling.{sound_start, sound_after}
-use Rattle.queue_laws.proofs.Moment.Histories.{rising, histories_settle}
-use Rattle.queue_laws.proofs.Moment.Owning.{is_few}
-use Rattle.queue_laws.proofs.Moment.Together.{settle_paired, stands_together}
-use Rattle.machine_replay.specs.Book.{IsBegun, has_steps}
-use Rattle.machine_replay.specs.InCall.{IsStepOf, IsUnanswered, IsInCall}
-use Rattle.machine_replay.specs.Meaning.{state_after, own_effects, SawOpen, IsOwn, EndsCall, RepliesAtOnce, IsAnswer}
-use Rattle.machine_replay.specs.AtOnce.{IsWithinCall, IsGlanced, IsWhole, RunsDisplaceAtOnce}
-use Rattle.machine_replay.specs.Skips.{IsExact, SkippedIsExact}
 
 -- an effect at the event k, before the event n, is within a call from `first` to `last` exactly where one at n is
 window_same : (first last k n : ℕ) → k < n → (first < n → n ≤ last → first < k) → (last < n → last < k) → (nat_lt first k && nat_lt k (last + 1)) ≡ (nat_lt first n && nat_lt n (last + 1))

@@ -1,12 +1,9 @@
 -- The front whose item is on its way in, and the arrive that belongs to it.
 use Rattle.std.proofs.Common.{◌≡◌, ℕ, ◌<◌, Option, Some, None, is_some, List, [], ◌∷◌, ◌++◌, refl, arith}
 use Rattle.std.specs.List.{AllByRecursion}
-use Rattle.queue_steps.specs.State.{State}
-use Rattle.queue_steps.specs.Effect.{made, after_from}
+use Rattle.queue_steps.specs.{State.State, Effect.made, Effect.after_from}
 use Rattle.queue_laws.proofs.Common.TellsAs.{TellsAs, displace, tells_as}
-use Rattle.machine_replay.specs.Vocabulary.{Call, Reply, Effect}
-use Rattle.machine_replay.specs.Book.{IsBegun}
-use Rattle.machine_replay.specs.Meaning.{Entry, effects_in, displacing, IsArrivalOf, FrontsArrive}
+use Rattle.machine_replay.specs.{Vocabulary.Call, Vocabulary.Reply, Vocabulary.Effect, Book.IsBegun, Meaning.Entry, Meaning.effects_in, Meaning.displacing, Meaning.IsArrivalOf, Meaning.FrontsArrive}
 use Rattle.machine_replay.proofs.Engine.Calls.{with_reply, unanswered-late}
 
 -- the front whose item is on its way in after the history H

@@ -1,20 +1,13 @@
 -- What is known of a run so far: its history, with the event and the party of each effect, and where each call stands in it.
 use Rattle.std.proofs.Common.{◌≡◌, ◌∙◌, ℕ, ◌+◌, ◌<◌, ◌≤◌, true, Option, Some, None, List, [], ◌∷◌, ◌++◌, length, refl, sym, ap, arith, inl, inr, append-nil}
 use Rattle.std.specs.List.{AllByRecursion, AllPairs}
-use Rattle.std.proofs.lemmas.List.Elements.{All-from_recursion}
-use Rattle.std.proofs.lemmas.List.Quantifiers.{all_pairs_push}
-use Rattle.queue_steps.specs.State.{State, start}
-use Rattle.queue_steps.specs.Effect.{Fits, made, Runs, after_from}
+use Rattle.std.proofs.lemmas.List.{Elements.All-from_recursion, Quantifiers.all_pairs_push}
+use Rattle.queue_steps.specs.{State.State, State.start, Effect.Fits, Effect.made, Effect.Runs, Effect.after_from}
 use Rattle.queue_laws.proofs.Common.Runs.{after_snoc, runs_snoc}
-use Rattle.machine_replay.specs.Vocabulary.{Reply, Effect, Event, Told, Begin}
-use Rattle.machine_replay.specs.Book.{Book, Open, IsBegun, kind_of}
-use Rattle.machine_replay.specs.Conforms.{party_of, entries_from, reply_entry, effect_entry}
-use Rattle.machine_replay.specs.InCall.{IsInCall}
+use Rattle.machine_replay.specs.{Vocabulary.Reply, Vocabulary.Effect, Vocabulary.Event, Vocabulary.Told, Vocabulary.Begin, Book.Book, Book.Open, Book.IsBegun, Book.kind_of, Conforms.party_of, Conforms.entries_from, Conforms.reply_entry, Conforms.effect_entry, InCall.IsInCall}
 use Rattle.machine_replay.specs.Meaning.{Entry, effects_in, kinds_in, own_effects, IsMoment, SawOpen, EndsCall, RepliesAtOnce, IsAnswer, IsOwn, IsArrivalOf, FrontsArrive}
-use Rattle.machine_replay.proofs.Engine.Calls.{with_reply, early-with_reply, ran-more, step-more, in-call-late}
-use Rattle.machine_replay.proofs.Traces.Displacing.{pending, arrivals-late, arrivals-append}
+use Rattle.machine_replay.proofs.{Engine.Calls.with_reply, Engine.Calls.early-with_reply, Engine.Calls.ran-more, Engine.Calls.step-more, Engine.Calls.in-call-late, Traces.Displacing.pending, Traces.Displacing.arrivals-late, Traces.Displacing.arrivals-append, Engine.SoFar.entries-more}
 use Rattle.machine_replay.proofs.Engine.Entries.{each-more, each-all, each-both, length-one, Extends, quiet, loud, state-late, own-late, effects-append}
-use Rattle.machine_replay.proofs.Engine.SoFar.{entries-more}
 
 -- the item of this front of party p is on its way in; the front was taken off after the event `first`
 pub record IsDisplacing {T : Type 0} (H : List (Entry T)) (p first : ℕ) : Type 0 where

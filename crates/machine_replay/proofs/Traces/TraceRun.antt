@@ -6,17 +6,8 @@ use Rattle.queue_laws.proofs.Common.Tests.{is_none_true}
 use Rattle.queue_steps.specs.Replies.{IsRightAt}
 use Rattle.machine_replay.specs.Vocabulary.{Call, Reply, Effect, Event, Told, EffectKind, Begin, Step, Skipped, Ran}
 use Rattle.machine_replay.specs.Book.{Book, Open, IsBegun, Steps, GoesOn, Happens, Run, has_steps, begun, joined, watched, after_own, put, at_open, opening}
-use Rattle.machine_replay.specs.Conforms.{entries_from, reply_entry, skipped_entry}
-use Rattle.machine_replay.specs.InCall.{IsInCall}
-use Rattle.machine_replay.specs.Meaning.{Entry, state_after, own_effects, RepliesAtOnce, ConformingHasHistory}
-use Rattle.machine_replay.proofs.Engine.Calls.{with_reply}
-use Rattle.machine_replay.proofs.Traces.Displacing.{pending}
-use Rattle.machine_replay.proofs.Engine.Moments.{begun_none}
-use Rattle.machine_replay.proofs.Engine.Entries.{each-all, each-more, event-last, state-last, own-none}
-use Rattle.machine_replay.proofs.Progress.Solo.{and-right}
-use Rattle.machine_replay.proofs.Replays.Rising.{replies-rise, skipped-late, skipped-rise}
-use Rattle.machine_replay.proofs.Replays.SkipsAll.{in-call-at-end}
-use Rattle.machine_replay.proofs.Traces.Trace.{Since, Trace, ReplyOwes, FitsIf, trace-more, added, leads-added}
+use Rattle.machine_replay.specs.{Conforms.entries_from, Conforms.reply_entry, Conforms.skipped_entry, InCall.IsInCall, Meaning.Entry, Meaning.state_after, Meaning.own_effects, Meaning.RepliesAtOnce, Meaning.ConformingHasHistory}
+use Rattle.machine_replay.proofs.{Engine.Calls.with_reply, Traces.Displacing.pending, Engine.Moments.begun_none, Engine.Entries.each-all, Engine.Entries.each-more, Engine.Entries.event-last, Engine.Entries.state-last, Engine.Entries.own-none, Progress.Solo.and-right, Replays.Rising.replies-rise, Replays.Rising.skipped-late, Replays.Rising.skipped-rise, Replays.SkipsAll.in-call-at-end, Traces.Trace.Since, Traces.Trace.Trace, Traces.Trace.ReplyOwes, Traces.Trace.FitsIf, Traces.Trace.trace-more, Traces.Trace.added, Traces.Trace.leads-added}
 use Rattle.machine_replay.proofs.Traces.TraceSteps.{put-cases, at_open-cases, since-other, since-joined, since-watched, moves-does, Does, since-own, answer-own, entry-owes, others-wait}
 
 -- the trace after one event more

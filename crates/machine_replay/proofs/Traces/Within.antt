@@ -1,10 +1,8 @@
 -- Nothing is appended within a displacement.
 use Rattle.std.proofs.Common.{◌≡◌, Some, List, [], ◌∷◌, refl}
 use Rattle.std.specs.List.{AllByRecursion}
-use Rattle.queue_steps.specs.State.{State}
-use Rattle.queue_steps.specs.Effect.{made, Runs}
-use Rattle.machine_replay.specs.Vocabulary.{Effect}
-use Rattle.machine_replay.specs.Within.{IsNotArrive, IsNotAppend, NothingAppendedWithin}
+use Rattle.queue_steps.specs.{State.State, Effect.made, Effect.Runs}
+use Rattle.machine_replay.specs.{Vocabulary.Effect, Within.IsNotArrive, Within.IsNotAppend, Within.NothingAppendedWithin}
 
 -- while an item is on its way in
 coming-within : {T : Type 0} (Q : State T) (v : T) (es : List (Effect T)) → Q.coming ≡ Some v → Runs Q es → AllByRecursion IsNotArrive es → AllByRecursion IsNotAppend es

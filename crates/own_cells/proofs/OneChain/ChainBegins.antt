@@ -1,15 +1,8 @@
 -- How a chain with one owner begins where it was shared: its words tell how many blocks there are.
 use Rattle.std.proofs.Common.{◌≡◌, ◌⊎◌, ℕ, ◌+◌, ◌-◌, ◌/◌, ◌<◌, ◌≤◌, ◌^◌, List, length, Option, Some, None, arith, sym, ap, ◌∙◌, inl, inr}
-use Rattle.queue_steps.specs.declared.sizes.TheConstants.{BLOCK_SLOTS}
-use Rattle.queue_steps.specs.Words.{position_of}
-use Rattle.queue_steps.specs.ChainWords.{offset_at, block_at, items_before}
-use Rattle.mem_blocks.specs.Web.{Block}
-use Rattle.mem_blocks.specs.declared.block.BlockPtr.{BlockPtr}
-use Rattle.own_cells.specs.declared.chain.unbounded.Name.{Name}
-use Rattle.own_cells.specs.OneChain.OwnChainCells.{OwnChain, piece_at}
-use Rattle.own_cells.specs.OneChain.LinkedBlocks.{pieces_of}
-use Rattle.own_cells.specs.OneChain.OwnChainOwned.{taken, accepted, IsBare, IsLaid, IsIdle}
-use Rattle.own_cells.specs.OneChain.ChainMemory.{block_of, named_by, own_chain_in}
+use Rattle.queue_steps.specs.{declared.sizes.TheConstants.BLOCK_SLOTS, Words.position_of, ChainWords.offset_at, ChainWords.block_at, ChainWords.items_before}
+use Rattle.mem_blocks.specs.{Web.Block, declared.block.BlockPtr.BlockPtr}
+use Rattle.own_cells.specs.{declared.chain.unbounded.Name.Name, OneChain.OwnChainCells.OwnChain, OneChain.OwnChainCells.piece_at, OneChain.LinkedBlocks.pieces_of, OneChain.OwnChainOwned.taken, OneChain.OwnChainOwned.accepted, OneChain.OwnChainOwned.IsBare, OneChain.OwnChainOwned.IsLaid, OneChain.OwnChainOwned.IsIdle, OneChain.ChainMemory.block_of, OneChain.ChainMemory.named_by, OneChain.ChainMemory.own_chain_in}
 use Rattle.own_cells.proofs.OneChain.Pieces.{length-pieces_of}
 
 -- at no block's end the items before a position tell its block

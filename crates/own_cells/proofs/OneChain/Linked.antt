@@ -1,22 +1,14 @@
 -- Raw blocks under the names that a call has of them, and what each step on one does to what a contract sees.
 use Rattle.std.proofs.Common.{◌≡◌, ◌≢◌, ◌⊎◌, ℕ, ◌+◌, ◌-◌, ◌<◌, ◌≤◌, true, false, List, [], length, Option, Some, None, IsSome, refl, arith, sym, ap, ◌∙◌, subst, inl, inr, set, bit_or, eqb}
-use Rattle.std.proofs.lemmas.List.{get_or-set_same, get_or-set_other, length-set, set-set}
-use Rattle.std.proofs.lemmas.Bool.Decides.{eqb_tells}
+use Rattle.std.proofs.lemmas.{List.get_or-set_same, List.get_or-set_other, List.length-set, List.set-set, Bool.Decides.eqb_tells}
 use Rattle.atomic_table.proofs.Lists.{set_here}
 use mathlib.Core.Option.{some}
 use lib.ListN.{get_elem?}
 use denote.RawPtr.{Ptr, block_ptr, null_ptr, InBlock}
 use Rattle.mem_blocks.specs.Web.{Block, Home, Content, vacant, full, block, Lives, Rests, word_of, with_word, with_next, with_home, worded, linked, homed}
-use Rattle.mem_blocks.specs.declared.sizes.TheConstants.{SLOTS}
-use Rattle.mem_blocks.specs.declared.chain.Chain.{Chain}
-use Rattle.mem_blocks.specs.declared.block.BlockPtr.{BlockPtr as Place}
-use Rattle.queue_steps.specs.declared.steps.types.Answer.{Answer}
-use Rattle.queue_steps.specs.declared.steps.types.Answer.TheVariants as answer
-use Rattle.queue_steps.specs.declared.steps.types.Link.TheVariants as link
-use Rattle.queue_steps.specs.declared.steps.types.Op.TheVariants as op
-use Rattle.queue_steps.specs.declared.steps.types.Word.TheVariants as word
-use Rattle.own_cells.specs.declared.chain.unbounded.Name.{Name}
-use Rattle.own_cells.specs.declared.chain.unbounded.LinkedBlocks.TheInside.{Inside}
+use Rattle.mem_blocks.specs.declared.{sizes.TheConstants.SLOTS, chain.Chain.Chain, block.BlockPtr.BlockPtr as Place}
+use Rattle.queue_steps.specs.declared.steps.types.{Answer.Answer, Answer.Answer as answer, Link.Link as link, Op.Op as op, Word.Word as word}
+use Rattle.own_cells.specs.declared.chain.unbounded.{Name.Name, LinkedBlocks.TheInside.Inside}
 use Rattle.own_cells.specs.OneChain.OwnChainCells.{Piece, OwnChain, Named, CanFollow, piece_of, with_piece, item_in, state_in, exchanged, own_chain_performed}
 use Rattle.own_cells.specs.OneChain.LinkedBlocks.{IsHeld, IsLinked, own_chain_view, name_at, linked_name, piece, pieces_of, contents, at_home}
 use Rattle.own_cells.proofs.OneChain.Pieces.{length-pieces_of, at-pieces_of, set-pieces_of, length-contents, set-contents, set-at_home, get-at_home}

@@ -5,8 +5,7 @@ use mathlib.Core.Option.{some}
 use lib.ListN.{get_elem?}
 use Rattle.mem_blocks.specs.Web.{Block, Home, Content, AllVacant, block}
 use Rattle.queue_steps.specs.Effect.{rest}
-use Rattle.own_cells.specs.OneChain.OwnChainCells.{Piece, piece_at, IsEmptied, fresh_piece, no_name}
-use Rattle.own_cells.specs.OneChain.LinkedBlocks.{piece, pieces_from, pieces_of, content_of, contents, at_home}
+use Rattle.own_cells.specs.OneChain.{OwnChainCells.Piece, OwnChainCells.piece_at, OwnChainCells.IsEmptied, OwnChainCells.fresh_piece, OwnChainCells.no_name, LinkedBlocks.piece, LinkedBlocks.pieces_from, LinkedBlocks.pieces_of, LinkedBlocks.content_of, LinkedBlocks.contents, LinkedBlocks.at_home}
 
 module _ {T : Type 0} where
   length-pieces_from : (f : ℕ) (xs : List (Block T)) → length (pieces_from f xs) ≡ length xs

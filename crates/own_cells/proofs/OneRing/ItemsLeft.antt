@@ -2,9 +2,7 @@
 use Rattle.std.proofs.Common.{◌≡◌, ℕ, suc, ◌+◌, ◌-◌, ◌%◌, ◌<◌, ◌≤◌, List, ◌∷◌, length, Some, arith, sym, ap, ◌∙◌, mod-lt}
 use Rattle.std.proofs.Math.Nat.{suc-mod, mod-eq_of_lt, mod_self}
 use Rattle.queue_steps.specs.Words.{position_of, slot_at}
-use Rattle.own_cells.specs.OneRing.RingCells.{RingState, item_at}
-use Rattle.own_cells.specs.OneRing.RingOwned.{put_in, at_position, items_of, ring_queue, IsIdle}
-use Rattle.own_cells.specs.OneRing.ItemsLeft.{next_position, items_left, Reads}
+use Rattle.own_cells.specs.OneRing.{RingCells.RingState, RingCells.item_at, RingOwned.put_in, RingOwned.at_position, RingOwned.items_of, RingOwned.ring_queue, RingOwned.IsIdle, ItemsLeft.next_position, ItemsLeft.items_left, ItemsLeft.Reads}
 
 -- an item that comes leaves one fewer
 pub one_fewer : {T : Type 0} (old new : List T) (x : T) → old ≡ x ∷ new → length new < length old

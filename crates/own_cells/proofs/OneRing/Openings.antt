@@ -5,14 +5,9 @@ use Rattle.std.proofs.lemmas.List.{get_or_append_left, get_or-append_right}
 use mathlib.Core.Option.{some}
 use lib.ListN.{get_elem?}
 use Rattle.atomic_table.specs.Table.{Final}
-use Rattle.queue_steps.specs.declared.sizes.TheConstants.{LIMIT}
-use Rattle.queue_steps.specs.Words.{IsRing, position_of, is_shut, slot_at}
-use Rattle.own_cells.specs.OneRing.RingOwned.{HoldsItems, items_of}
+use Rattle.queue_steps.specs.{declared.sizes.TheConstants.LIMIT, Words.IsRing, Words.position_of, Words.is_shut, Words.slot_at}
+use Rattle.own_cells.specs.{OneRing.RingOwned.HoldsItems, OneRing.RingOwned.items_of, OneRing.RingWords.words_behind, OneRing.RingOpening.Opened, OneRing.RingOpening.IsOpening, OneRing.RingOpening.IsUntouched, OneRing.RingNew.IsNew, declared.ring.ring_words.TheConstants.STAMPS}
 use Rattle.queue_laws.proofs.Ring.RingIdle.{same_position}
-use Rattle.own_cells.specs.OneRing.RingWords.{words_behind}
-use Rattle.own_cells.specs.OneRing.RingOpening.{Opened, IsOpening, IsUntouched}
-use Rattle.own_cells.specs.OneRing.RingNew.{IsNew}
-use Rattle.own_cells.specs.declared.ring.ring_words.TheConstants.{STAMPS}
 use Rattle.own_cells.proofs.OneRing.RingWrites.{elem_or}
 
 pub Opened-none : (n cap : ℕ) → Opened n cap 0 []

@@ -2,9 +2,7 @@
 use Rattle.std.proofs.Common.{◌≡◌, ℕ, ◌+◌, ◌<◌, List, length, get_or, set, Option, ap, sym, ◌∙◌, arith}
 use mathlib.Core.Option.{some}
 use lib.ListN.{get_elem?}
-use Rattle.own_cells.specs.OneRing.RingCells.{RingState, stamp_at, item_at}
-use Rattle.own_cells.specs.OneRing.RingMemory.{ring_in}
-use Rattle.own_cells.specs.declared.ring.ring_words.TheConstants.{TAIL, HEAD, STAMPS}
+use Rattle.own_cells.specs.{OneRing.RingCells.RingState, OneRing.RingCells.stamp_at, OneRing.RingCells.item_at, OneRing.RingMemory.ring_in, declared.ring.ring_words.TheConstants.TAIL, declared.ring.ring_words.TheConstants.HEAD, declared.ring.ring_words.TheConstants.STAMPS}
 use Rattle.own_cells.proofs.OneRing.RingWrites.{stamps_count, stamp_or, item_or, head_set, tail_set, stamp_set}
 
 module _ {T : Type 0} (cap : ℕ) (ws : List ℕ) (xs : List (Option T)) {words slots : ℕ} (ws_counted : words ≡ length ws) (xs_counted : slots ≡ length xs) (sized : (words ≡ cap + STAMPS) × (slots ≡ cap)) {s : RingState T} (is : ring_in cap ws xs ≡ s) where

@@ -3,9 +3,7 @@ use Rattle.std.proofs.Common.{◌≡◌, ℕ, zero, suc, ◌+◌, ◌<◌, List,
 use Rattle.std.proofs.lemmas.List.{get_or_default, get_or-drop, get_or-set_same, get_or-set_other, drop-set-lt, drop-set-add, length-drop}
 use mathlib.Core.Option.{some, some-injective, some-ne-none}
 use lib.ListN.{get_elem?}
-use Rattle.own_cells.specs.OneRing.RingCells.{stamp_at, item_at}
-use Rattle.own_cells.specs.OneRing.RingMemory.{ring_in}
-use Rattle.own_cells.specs.declared.ring.ring_words.TheConstants.{TAIL, HEAD, STAMPS}
+use Rattle.own_cells.specs.{OneRing.RingCells.stamp_at, OneRing.RingCells.item_at, OneRing.RingMemory.ring_in, declared.ring.ring_words.TheConstants.TAIL, declared.ring.ring_words.TheConstants.HEAD, declared.ring.ring_words.TheConstants.STAMPS}
 
 -- an element that is there
 pub elem_or : {A : Type 0} (d : A) (xs : List A) (i : ℕ) (x : A) → get_elem? xs i ≡ some x → get_or xs i d ≡ x

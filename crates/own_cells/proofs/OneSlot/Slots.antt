@@ -1,8 +1,6 @@
 -- What operations do to the word of a slot.
 use Rattle.std.proofs.Common.{◌≡◌, ℕ, refl}
-use Rattle.queue_steps.specs.declared.steps.types.Op.{Op}
-use Rattle.queue_steps.specs.declared.steps.types.Op.TheVariants as op
-use Rattle.queue_steps.specs.LookNext.{IsLoad}
+use Rattle.queue_steps.specs.{declared.steps.types.Op.Op, declared.steps.types.Op.Op as op, LookNext.IsLoad}
 use Rattle.own_cells.specs.OneSlot.SingleCells.{after_op}
 
 -- a load leaves the word

@@ -1,12 +1,8 @@
 -- A chain of blocks that is no longer shared, as one with one owner.
 use Rattle.std.specs.Prelude.{ℕ, ◌-◌, ◌<◌, List, length, Option, Some, None}
-use Rattle.mem_blocks.specs.Web.{Block, block}
-use Rattle.mem_blocks.specs.declared.block.BlockPtr.{BlockPtr}
-use Rattle.queue_steps.specs.Words.{position_of}
-use Rattle.queue_steps.specs.ChainWords.{block_at}
-use Rattle.own_cells.specs.declared.chain.unbounded.Name.{Name}
-use Rattle.own_cells.specs.OneChain.OwnChainCells.{OwnChain}
-use Rattle.own_cells.specs.OneChain.LinkedBlocks.{IsHeld, pieces_of}
+use Rattle.mem_blocks.specs.{Web.Block, Web.block, declared.block.BlockPtr.BlockPtr}
+use Rattle.queue_steps.specs.{Words.position_of, ChainWords.block_at}
+use Rattle.own_cells.specs.{declared.chain.unbounded.Name.Name, OneChain.OwnChainCells.OwnChain, OneChain.LinkedBlocks.IsHeld, OneChain.LinkedBlocks.pieces_of}
 
 -- the number of the block that a word's position is in
 abbrev pub block_of : ℕ → ℕ

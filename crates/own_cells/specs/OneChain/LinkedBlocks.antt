@@ -1,12 +1,8 @@
 -- What a chain of raw blocks with one owner shows.
 use Rattle.std.specs.Prelude.{◌≡◌, ℕ, ◌+◌, ◌-◌, ◌^◌, ◌<◌, ◌≤◌, true, List, [], ◌∷◌, length, drop, replicate, Option, Some, None}
 use denote.RawPtr.{Ptr, block_ptr, null_ptr, InBlock}
-use Rattle.mem_blocks.specs.Web.{Block, Home, Content, block, vacant}
-use Rattle.mem_blocks.specs.declared.sizes.TheConstants.{SLOTS}
-use Rattle.own_cells.specs.OneChain.OwnChainCells.{Piece, OwnChain}
-use Rattle.own_cells.specs.declared.chain.unbounded.Name.{Name}
-use Rattle.own_cells.specs.declared.chain.unbounded.Spare.{Spare}
-use Rattle.own_cells.specs.declared.chain.unbounded.LinkedBlocks.TheInside.{Inside}
+use Rattle.mem_blocks.specs.{Web.Block, Web.Home, Web.Content, Web.block, Web.vacant, declared.sizes.TheConstants.SLOTS}
+use Rattle.own_cells.specs.{OneChain.OwnChainCells.Piece, OneChain.OwnChainCells.OwnChain, declared.chain.unbounded.Name.Name, declared.chain.unbounded.Spare.Spare, declared.chain.unbounded.LinkedBlocks.TheInside.Inside}
 
 abbrev pub name_at : {T : Type 0} → ℕ → Ptr → Name T
 name_at k p = record { number = k; link = record { ptr = p } }

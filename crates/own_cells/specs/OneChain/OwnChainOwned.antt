@@ -1,14 +1,7 @@
 -- The queue that a chain of blocks holds. The item of number n, counted from the first that was ever accepted, is in the block n / BLOCK_SLOTS at the slot n % BLOCK_SLOTS.
 use Rattle.std.specs.Prelude.{◌≡◌, ◌⊎◌, ℕ, zero, suc, ◌+◌, ◌-◌, ◌*◌, ◌/◌, ◌%◌, ◌<◌, ◌≤◌, bit_or, List, [], length, Option, Some, None}
-use Rattle.queue_steps.specs.declared.sizes.TheConstants.{LIMIT, BLOCK_SLOTS}
-use Rattle.queue_steps.specs.declared.steps.unbounded.TheConstants.{WRITE, READ}
-use Rattle.queue_steps.specs.State.{State}
-use Rattle.queue_steps.specs.Sequential.{Owned}
-use Rattle.queue_steps.specs.Words.{position_of, is_shut}
-use Rattle.queue_steps.specs.ChainWords.{offset_of, items_before}
-use Rattle.own_cells.specs.declared.chain.unbounded.Name.{Name}
-use Rattle.own_cells.specs.OneRing.RingOwned.{put_in}
-use Rattle.own_cells.specs.OneChain.OwnChainCells.{Piece, OwnChain, piece_at, state_in, item_in}
+use Rattle.queue_steps.specs.{declared.sizes.TheConstants.LIMIT, declared.sizes.TheConstants.BLOCK_SLOTS, declared.steps.unbounded.TheConstants.WRITE, declared.steps.unbounded.TheConstants.READ, State.State, Sequential.Owned, Words.position_of, Words.is_shut, ChainWords.offset_of, ChainWords.items_before}
+use Rattle.own_cells.specs.{declared.chain.unbounded.Name.Name, OneRing.RingOwned.put_in, OneChain.OwnChainCells.Piece, OneChain.OwnChainCells.OwnChain, OneChain.OwnChainCells.piece_at, OneChain.OwnChainCells.state_in, OneChain.OwnChainCells.item_in}
 
 -- how many items were taken, and how many were accepted
 abbrev pub taken : {T : Type 0} → OwnChain T → ℕ

@@ -1,8 +1,7 @@
 -- What is left to read of a ring.
 use Rattle.std.specs.Prelude.{◌≡◌, ℕ, ◌-◌, ◌≤◌, List}
 use Rattle.queue_steps.specs.Words.{position_of, slot_at}
-use Rattle.own_cells.specs.OneRing.RingCells.{RingState}
-use Rattle.own_cells.specs.OneRing.RingOwned.{items_of, IsIdle}
+use Rattle.own_cells.specs.OneRing.{RingCells.RingState, RingOwned.items_of, RingOwned.IsIdle}
 
 module _ {T : Type 0} (r : RingState T) where
   -- the position of the next item, where so many are left

@@ -1,14 +1,6 @@
 -- What the steps of a call do on a ring.
 use Rattle.std.specs.Prelude.{◌≡◌, ℕ, ◌+◌, ◌^◌, Bool, true, false, ◌==◌, bit_or, List, length, slice_set, get_or, Option, None, if◌then◌else◌, nat_lt}
-use Rattle.queue_steps.specs.declared.steps.types.Kind.{Kind}
-use Rattle.queue_steps.specs.declared.steps.types.Kind.TheVariants as kind
-use Rattle.queue_steps.specs.declared.steps.types.Answer.{Answer}
-use Rattle.queue_steps.specs.declared.steps.types.Answer.TheVariants as answer
-use Rattle.queue_steps.specs.declared.steps.types.Op.{Op}
-use Rattle.queue_steps.specs.declared.steps.types.Op.TheVariants as op
-use Rattle.queue_steps.specs.declared.steps.types.Word.TheVariants as word
-use Rattle.queue_steps.specs.declared.steps.types.Touch.{Touch}
-use Rattle.queue_steps.specs.declared.steps.types.Touch.TheVariants as touch
+use Rattle.queue_steps.specs.declared.steps.types.{Kind.Kind, Kind.Kind as kind, Answer.Answer, Answer.Answer as answer, Op.Op, Op.Op as op, Word.Word as word, Touch.Touch, Touch.Touch as touch}
 use Rattle.own_cells.specs.OneSlot.ComputedSteps.{CanTouch, Touches, CanPerform, Performs}
 
 -- what is in a ring: how many slots, the two positions in their words, the stamps, each of which says for which position its slot is free or filled, and the slots

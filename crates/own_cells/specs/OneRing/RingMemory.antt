@@ -1,7 +1,6 @@
 -- A ring in the words and slots of a table.
 use Rattle.std.specs.Prelude.{ℕ, List, get_or, drop, Option}
-use Rattle.own_cells.specs.OneRing.RingCells.{RingState}
-use Rattle.own_cells.specs.declared.ring.ring_words.TheConstants.{TAIL, HEAD, STAMPS}
+use Rattle.own_cells.specs.{OneRing.RingCells.RingState, declared.ring.ring_words.TheConstants.TAIL, declared.ring.ring_words.TheConstants.HEAD, declared.ring.ring_words.TheConstants.STAMPS}
 
 -- the ring in a table's words, which are the count of parties, the tail, the head and the stamps, and in its slots
 abbrev pub ring_in : {T : Type 0} → ℕ → List ℕ → List (Option T) → RingState T

@@ -1,9 +1,6 @@
 -- The queue that a ring holds.
 use Rattle.std.specs.Prelude.{◌-◌, ◌≤◌, Some, None}
-use Rattle.queue_steps.specs.declared.sizes.TheConstants.{LIMIT}
-use Rattle.queue_steps.specs.State.{State}
-use Rattle.queue_steps.specs.Sequential.{Owned}
-use Rattle.queue_steps.specs.Words.{IsRing, position_of, is_shut, slot_at, stamp_free, stamp_filled}
+use Rattle.queue_steps.specs.{declared.sizes.TheConstants.LIMIT, State.State, Sequential.Owned, Words.IsRing, Words.position_of, Words.is_shut, Words.slot_at, Words.stamp_free, Words.stamp_filled}
 use Rattle.own_cells.specs.OneRing.RingCells.{RingState}
 use Rattle.std.proofs.Common.{◌≡◌, ℕ, zero, suc, ◌+◌, ◌<◌, List, [], ◌∷◌, length, get_or, Option}
 

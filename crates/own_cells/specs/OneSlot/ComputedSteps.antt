@@ -1,8 +1,6 @@
 -- What the steps of a call do on cells that leave no choice: functions compute what is touched and performed, and test whether it may be.
 use Rattle.std.specs.Prelude.{◌≡◌, Option, Bool, true}
-use Rattle.queue_steps.specs.declared.steps.types.Answer.{Answer}
-use Rattle.queue_steps.specs.declared.steps.types.Op.{Op}
-use Rattle.queue_steps.specs.declared.steps.types.Touch.{Touch}
+use Rattle.queue_steps.specs.declared.steps.types.{Answer.Answer, Op.Op, Touch.Touch}
 
 module _ {T B M : Type 0} (touchable : M → Touch → Op B → Bool) (touched : M → Touch → Op B → Option T → M × Option T) (operable : M → Op B → Bool) (performed : M → Op B → Answer B × M) where
   abbrev pub CanTouch : M → Touch → Op B → Type 0

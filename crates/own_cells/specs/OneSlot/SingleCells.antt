@@ -1,20 +1,7 @@
 -- What the steps of a call do on one slot.
 use Rattle.std.specs.Prelude.{◌≡◌, ℕ, Bool, true, false, bit_and, bit_or, ◌==◌, List, [], ◌∷◌, Option, Some, None, if◌then◌else◌}
-use Rattle.queue_steps.specs.declared.steps.types.Kind.{Kind}
-use Rattle.queue_steps.specs.declared.steps.types.Kind.TheVariants as kind
-use Rattle.queue_steps.specs.declared.steps.types.Answer.{Answer}
-use Rattle.queue_steps.specs.declared.steps.types.Answer.TheVariants as answer
-use Rattle.queue_steps.specs.declared.steps.types.Op.{Op}
-use Rattle.queue_steps.specs.declared.steps.types.Op.TheVariants as op
-use Rattle.queue_steps.specs.declared.steps.types.Touch.{Touch}
-use Rattle.queue_steps.specs.declared.steps.types.Touch.TheVariants as touch
-use Rattle.queue_steps.specs.declared.steps.types.Word.TheVariants.{Lock}
-use Rattle.queue_steps.specs.declared.steps.single.TheConstants.{PUSHED, CLOSED}
-use Rattle.queue_steps.specs.State.{State}
-use Rattle.queue_steps.specs.Sequential.{Owned}
-use Rattle.queue_steps.specs.SingleNext.{is_marked}
-use Rattle.own_cells.specs.declared.slot.single.Single.{Single}
-use Rattle.own_cells.specs.OneSlot.ComputedSteps.{CanTouch, Touches, CanPerform, Performs}
+use Rattle.queue_steps.specs.{declared.steps.types.Kind.Kind, declared.steps.types.Kind.Kind as kind, declared.steps.types.Answer.Answer, declared.steps.types.Answer.Answer as answer, declared.steps.types.Op.Op, declared.steps.types.Op.Op as op, declared.steps.types.Touch.Touch, declared.steps.types.Touch.Touch as touch, declared.steps.types.Word.TheVariants.Lock, declared.steps.single.TheConstants.PUSHED, declared.steps.single.TheConstants.CLOSED, State.State, Sequential.Owned, SingleNext.is_marked}
+use Rattle.own_cells.specs.{declared.slot.single.Single.Single, OneSlot.ComputedSteps.CanTouch, OneSlot.ComputedSteps.Touches, OneSlot.ComputedSteps.CanPerform, OneSlot.ComputedSteps.Performs}
 
 abbrev pub kind_of_single : {T : Type 0} → Single T → Kind
 kind_of_single s = kind.Single

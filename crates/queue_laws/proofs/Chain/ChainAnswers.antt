@@ -1,13 +1,9 @@
 -- What reading the words of a chain tells.
 use Rattle.std.proofs.Common.{ℕ, ◌*◌, ◌%◌, ◌≤◌, ◌≡◌, ◌≢◌, ◌∙◌, inl, inr, Bool, true, false, refl, sym, ap, arith}
-use Rattle.queue_laws.specs.Common.Vocabulary.{LIMIT, BLOCK_SLOTS}
-use Rattle.queue_steps.specs.Words.{IsWord, position_of, is_shut, tail_of}
-use Rattle.queue_steps.specs.ChainWords.{offset_at, offset_of, items_before}
-use Rattle.queue_laws.proofs.Common.Tails.{position_tail, shut_tail}
-use Rattle.queue_laws.specs.Chain.ChainFacts.{place, head_of, open_tail_of, HeadIs, TailIs}
-use Rattle.queue_laws.proofs.Chain.ChainPlaces.{place_offset}
+use Rattle.queue_laws.specs.{Common.Vocabulary.LIMIT, Common.Vocabulary.BLOCK_SLOTS, Chain.ChainFacts.place, Chain.ChainFacts.head_of, Chain.ChainFacts.open_tail_of, Chain.ChainFacts.HeadIs, Chain.ChainFacts.TailIs, Chain.ChainAnswers.tail_place, Chain.ChainAnswers.head_place, Chain.ChainAnswers.tail_word, Chain.ChainAnswers.head_word, Chain.ChainAnswers.is_done}
+use Rattle.queue_steps.specs.{Words.IsWord, Words.position_of, Words.is_shut, Words.tail_of, ChainWords.offset_at, ChainWords.offset_of, ChainWords.items_before}
+use Rattle.queue_laws.proofs.{Common.Tails.position_tail, Common.Tails.shut_tail, Chain.ChainPlaces.place_offset}
 use Rattle.queue_laws.specs.Chain.ChainCells.{Reader, Done, Mover, Rests, Passer, Stands, Passing, Entering, Chain, BlocksOk, FrontOk, ChainOk}
-use Rattle.queue_laws.specs.Chain.ChainAnswers.{tail_place, head_place, tail_word, head_word, is_done}
 
 pub done_is : (r : Reader) → is_done r ≡ true → r ≡ Done
 done_is Done e = refl

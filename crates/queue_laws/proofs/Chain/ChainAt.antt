@@ -1,13 +1,8 @@
 -- No step of another party takes away where a call on a chain stands, nor what it knows there.
 use Rattle.std.proofs.Common.{ℕ, ◌+◌, ◌/◌, ◌≡◌, ◌≢◌, ◌⊎◌, Bool, Option, Some, None, List, arith}
-use Rattle.queue_laws.specs.Common.Vocabulary.{BLOCK_SLOTS}
-use Rattle.queue_steps.specs.State.{State}
-use Rattle.queue_steps.specs.Words.{position_of}
-use Rattle.queue_steps.specs.ChainWords.{items_before}
-use Rattle.queue_laws.specs.Common.Moments.{seen_by}
-use Rattle.queue_laws.specs.Common.Stand.{Stand}
+use Rattle.queue_laws.specs.{Common.Vocabulary.BLOCK_SLOTS, Common.Moments.seen_by, Common.Stand.Stand, Chain.ChainPasses.Passes}
+use Rattle.queue_steps.specs.{State.State, Words.position_of, ChainWords.items_before}
 use Rattle.queue_laws.specs.Chain.ChainCells.{Chain, queue_of, ChainOk, Write, Read, Tail, Head, Next, First, Passed, Nothing}
-use Rattle.queue_laws.specs.Chain.ChainPasses.{Passes}
 use Rattle.queue_laws.proofs.Chain.ChainFacts.{tail_grows, head_is_stays, named_stays, tail_block_stays, head_block_stays, head_read_stays, more_stays, spare_stays, holds_stays, head_was_stays, saw_empty_stays, saw_stays, claimed_stays, got_stays, lays_stays, opens_stays, passing_stays, entering_stays, linking_stays, showing_stays, walker_stays}
 use Rattle.queue_laws.specs.Chain.ChainAt.{Only, Either, Asks, IsBehind, IsFurther, At, push_tail, push_block, asking, installing, showing, claiming, laying, opening, chaining, writing, spending, pop_head, pop_block, pop_tail, taking, following, peeking, passing, entering, awaiting, reading, beginning, walking, destroying, count_tail, count_head, count_again, empty_head, empty_tail, closing, closed_tail}
 

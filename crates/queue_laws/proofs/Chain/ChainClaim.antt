@@ -1,31 +1,13 @@
 -- The steps of a push that change the chain: the first block, the exchange of the tail, the next block, and the write.
 use Rattle.std.proofs.lemmas.Bool.Decides.{eqb_tells}
-use Rattle.queue_laws.specs.Common.Vocabulary.{Effect, Answer, PushKind, LIMIT, BLOCK_SLOTS}
-use Rattle.queue_steps.specs.State.{State}
-use Rattle.queue_steps.specs.ChainWords.{offset_of}
-use Rattle.queue_steps.specs.declared.steps.unbounded.UnboundedLocal.TheVariants as chain
-use Rattle.queue_laws.proofs.Chain.ChainStepOk.{NextOk, StepOk, still, silent, spare_gives}
+use Rattle.queue_laws.specs.{Common.Vocabulary.Effect, Common.Vocabulary.Answer, Common.Vocabulary.PushKind, Common.Vocabulary.LIMIT, Common.Vocabulary.BLOCK_SLOTS, Common.Pushes.pushes, Chain.ChainPasses.Passes, Chain.ChainFacts.open_tail_of, Chain.ChainFacts.TailBlockIs, Chain.ChainFacts.IsNamed, Chain.ChainFacts.HasSpare, Chain.ChainFacts.SawTail, Chain.ChainFacts.Claimed, Chain.ChainAnswers.tail_word, Chain.ChainAnswers.tail_place, Chain.ChainAnswers.last_of, Chain.ChainAfter.if_installed, Chain.ChainAfter.if_claimed, Chain.ChainAfter.claimed_if}
+use Rattle.queue_steps.specs.{State.State, ChainWords.offset_of, declared.steps.unbounded.UnboundedLocal.UnboundedLocal as chain, Words.IsWord, UnboundedNext.lays, UnboundedNext.writes}
+use Rattle.queue_laws.proofs.{Chain.ChainStepOk.NextOk, Chain.ChainStepOk.StepOk, Chain.ChainStepOk.still, Chain.ChainStepOk.silent, Chain.ChainStepOk.spare_gives, Common.Puts.put_ok, Common.Puts.put_same, Common.Tails.shut_tail, Common.Pushes.closed_push, Common.Pushes.appended_push, Chain.ChainPasses.passes_marked, Chain.ChainPasses.passes_appended, Chain.ChainPasses.passes_installed, Chain.ChainPasses.passes_displayed, Chain.ChainPassesLaying.passes_laid_out, Chain.ChainPassesLaying.passes_opened, Chain.ChainPassesLaying.passes_chained, Chain.ChainPassesLaying.passes_written, Chain.ChainFacts.named_stays, Chain.ChainAnswers.same_tail, Chain.ChainAnswers.tail_small, Chain.ChainHolds.after_install, Chain.ChainHolds.after_display, Chain.ChainHolds.after_append, Chain.ChainHolds.after_append_last, Chain.ChainHolds.after_lay, Chain.ChainHolds.after_open, Chain.ChainHolds.after_chain, Chain.ChainHolds.after_write, Chain.ChainPush.tail_goes, Chain.ChainPush.open_small}
 use Rattle.std.proofs.Common.{ℕ, ◌+◌, ◌-◌, ◌/◌, ◌<◌, ◌≤◌, ◌≡◌, ◌≢◌, ◌==◌, ◌⊎◌, inl, inr, zero, suc, Bool, true, false, Option, Some, None, IsSome, List, [], ◌∷◌, refl, sym, ap, subst, arith, ◌∙◌}
-use Rattle.queue_steps.specs.Words.{IsWord}
-use Rattle.queue_steps.specs.UnboundedNext.{lays, writes}
-use Rattle.queue_laws.proofs.Common.Puts.{put_ok, put_same}
-use Rattle.queue_laws.proofs.Common.Tails.{shut_tail}
-use Rattle.queue_laws.specs.Common.Pushes.{pushes}
-use Rattle.queue_laws.proofs.Common.Pushes.{closed_push, appended_push}
 use Rattle.queue_laws.specs.Chain.ChainCells.{Writing, Rests, Laying, Opening, LinkState, Unlinked, Linking, Showing, Spare, Chain, queue_of, BlocksOk, LinkOk, ChainOk, Write, Tail, Next, First, mover_of, HoldsOnly, Nothing}
 use Rattle.queue_laws.specs.Chain.ChainTransitions as moves
 use Rattle.queue_laws.proofs.Chain.ChainTransitions.{append_ok, append_within, append_last, install_ok, display_ok, lay_ok, open_ok, chain_ok, write_ok, mark_ok}
-use Rattle.queue_laws.specs.Chain.ChainPasses.{Passes}
-use Rattle.queue_laws.proofs.Chain.ChainPasses.{passes_marked, passes_appended, passes_installed, passes_displayed}
-use Rattle.queue_laws.proofs.Chain.ChainPassesLaying.{passes_laid_out, passes_opened, passes_chained, passes_written}
-use Rattle.queue_laws.specs.Chain.ChainFacts.{open_tail_of, TailBlockIs, IsNamed, HasSpare, SawTail, Claimed}
-use Rattle.queue_laws.proofs.Chain.ChainFacts.{named_stays}
 use Rattle.queue_laws.specs.Chain.ChainAt.{Only, Either, IsLast, push_tail, showing, claiming, laying, opening, chaining, writing}
-use Rattle.queue_laws.specs.Chain.ChainAnswers.{tail_word, tail_place, last_of}
-use Rattle.queue_laws.proofs.Chain.ChainAnswers.{same_tail, tail_small}
-use Rattle.queue_laws.specs.Chain.ChainAfter.{if_installed, if_claimed, claimed_if}
-use Rattle.queue_laws.proofs.Chain.ChainHolds.{after_install, after_display, after_append, after_append_last, after_lay, after_open, after_chain, after_write}
-use Rattle.queue_laws.proofs.Chain.ChainPush.{tail_goes, open_small}
 
 -- the first block is there, and has this name
 first_named : {A : Type 0} (c : Chain A) (who f : ℕ) → c.blocks ≡ 0 → IsNamed (moves.installed c who f) 0 f

@@ -2,10 +2,9 @@
 use Rattle.std.proofs.Common.{ℕ, ◌+◌, ◌-◌, ◌/◌, ◌<◌, ◌≤◌, ◌≡◌, ◌≢◌, ◌&&◌, not, nat_lt, ◌∙◌, ◌⊎◌, inl, inr, Bool, true, false, List, length, refl, sym, ap, arith}
 use Rattle.std.proofs.lemmas.Bool.{ltb-true, ltb-false}
 use Rattle.queue_laws.specs.Common.Vocabulary.{BLOCK_SLOTS}
-use Rattle.queue_laws.proofs.Common.Tests.{and_true, not_true}
+use Rattle.queue_laws.proofs.{Common.Tests.and_true, Common.Tests.not_true, Chain.Count.count, Chain.Count.count_all, Chain.Count.count_into, Chain.Count.count_split}
 use Rattle.queue_laws.specs.Chain.ChainCells.{Writer, Free, Reader, Unread, Reading, Done, Mover, Rests, Walk, Before, Walker, Waits, GivenUp, Use, Spare, Chained, Chain, ItemOk, BlocksOk, WalkOk, item_at, LAST, ChainOk}
 use Rattle.queue_laws.proofs.Chain.ChainHands.{Hand, Empty, OfSpare, OfBlock, InHand, HandOf, hand_of, hand_is, full_hand}
-use Rattle.queue_laws.proofs.Chain.Count.{count, count_all, count_into, count_split}
 
 -- whether the walk over a block has given it up
 abbrev pub is_given_up : Walk → Bool

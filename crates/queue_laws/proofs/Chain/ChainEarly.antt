@@ -1,14 +1,8 @@
 -- A call on a chain that has had no effect yet has no part of the chain but its spare, and still carries its own value: so its party may give it up.
 use Rattle.std.proofs.Common.{ℕ, ◌≡◌, inl, true, false, Some, List, [], refl, sym}
-use Rattle.queue_steps.specs.State.{State}
-use Rattle.queue_steps.specs.Kinds.{call_value}
+use Rattle.queue_steps.specs.{State.State, Kinds.call_value}
 use Rattle.queue_steps.proofs.LookLaws.{look_value}
-use Rattle.queue_laws.specs.Common.Vocabulary.{PushKind}
-use Rattle.queue_laws.specs.Common.Pushes.{pushes}
-use Rattle.queue_laws.specs.Common.Stand.{Stand}
-use Rattle.queue_laws.specs.Chain.ChainCells.{Chain, HoldsOnly, Nothing}
-use Rattle.queue_laws.specs.Chain.ChainPasses.{spare_in}
-use Rattle.queue_laws.specs.Chain.ChainEarly.{IsEarly, IsBound, IsPush}
+use Rattle.queue_laws.specs.{Common.Vocabulary.PushKind, Common.Pushes.pushes, Common.Stand.Stand, Chain.ChainCells.Chain, Chain.ChainCells.HoldsOnly, Chain.ChainCells.Nothing, Chain.ChainPasses.spare_in, Chain.ChainEarly.IsEarly, Chain.ChainEarly.IsBound, Chain.ChainEarly.IsPush}
 use Rattle.queue_laws.specs.Chain.ChainAt.{At, push_tail, push_block, asking, installing, showing, claiming, laying, opening, chaining, writing, spending, pop_head, pop_block, pop_tail, taking, count_tail, count_head, count_again, empty_head, empty_tail, closing, closed_tail}
 use Rattle.queue_laws.proofs.Chain.ChainStepOk.{GivesUp, spare_gives}
 

@@ -1,21 +1,10 @@
 -- The step by which a pop finds the queue empty, or that it is not.
 use Rattle.std.proofs.Common.{ℕ, ◌+◌, ◌<◌, ◌≡◌, ◌≢◌, ◌==◌, ◌∙◌, ◌⊎◌, inl, inr, Bool, true, false, if◌then◌else◌, Option, Some, None, Err, List, [], ◌∷◌, refl, sym, ap, subst, arith}
 use Rattle.std.proofs.lemmas.Bool.Decides.{eqb_tells}
-use Rattle.queue_steps.specs.State.{State}
-use Rattle.queue_steps.specs.Words.{position_of}
-use Rattle.queue_steps.specs.ChainWords.{block_at, items_before}
-use Rattle.queue_steps.specs.UnboundedNext.{ends, unbounded_next}
-use Rattle.queue_laws.specs.Common.Vocabulary.{Call, Reply, PopError, Answer, TAIL_STEP}
-use Rattle.queue_steps.specs.declared.steps.unbounded.UnboundedLocal.TheVariants as chain
-use Rattle.queue_laws.proofs.Common.Lists.{none_left}
-use Rattle.queue_laws.proofs.Common.Tails.{position_tail, shut_tail}
-use Rattle.queue_laws.specs.Chain.ChainFacts.{place, head_of, HeadIs, HeadBlockIs, HeadBlockRead}
+use Rattle.queue_steps.specs.{State.State, Words.position_of, ChainWords.block_at, ChainWords.items_before, UnboundedNext.ends, UnboundedNext.unbounded_next, declared.steps.unbounded.UnboundedLocal.UnboundedLocal as chain}
+use Rattle.queue_laws.specs.{Common.Vocabulary.Call, Common.Vocabulary.Reply, Common.Vocabulary.PopError, Common.Vocabulary.Answer, Common.Vocabulary.TAIL_STEP, Chain.ChainFacts.place, Chain.ChainFacts.head_of, Chain.ChainFacts.HeadIs, Chain.ChainFacts.HeadBlockIs, Chain.ChainFacts.HeadBlockRead, Chain.ChainAt.pop_head, Chain.ChainAt.taking, Chain.ChainAnswers.tail_word, Chain.ChainAnswers.tail_place}
+use Rattle.queue_laws.proofs.{Common.Lists.none_left, Common.Tails.position_tail, Common.Tails.shut_tail, Chain.ChainAnswers.tail_items, Chain.ChainStepOk.NextOk, Chain.ChainStepOk.StepOk, Chain.ChainStepOk.still, Chain.ChainPop.read_small, Chain.ChainPop.head_low}
 use Rattle.queue_laws.specs.Chain.ChainCells.{Mover, Rests, Laying, Opening, Stands, Seen, Chain, queue_of, BlocksOk, FrontOk, ShownOk, ChainOk, HoldsOnly, Nothing}
-use Rattle.queue_laws.specs.Chain.ChainAt.{pop_head, taking}
-use Rattle.queue_laws.specs.Chain.ChainAnswers.{tail_word, tail_place}
-use Rattle.queue_laws.proofs.Chain.ChainAnswers.{tail_items}
-use Rattle.queue_laws.proofs.Chain.ChainStepOk.{NextOk, StepOk, still}
-use Rattle.queue_laws.proofs.Chain.ChainPop.{read_small, head_low}
 
 -- a tail at another position than the head that was read is beyond it
 pub beyond : {A : Type 0} (c : Chain A) (n : ℕ) → ChainOk c → HeadIs c n → c.shown ≡ Seen → position_of (tail_word c) ≢ place n → n < c.tail

@@ -1,12 +1,10 @@
 -- No step of another party takes away what a call on a chain carries between its steps.
 use Rattle.std.proofs.Common.{ℕ, ◌+◌, ◌/◌, ◌<◌, ◌≤◌, ◌≡◌, ◌≢◌, ◌∙◌, ◌⊎◌, inl, inr, Bool, Option, Some, None, List, length, refl, sym, arith}
-use Rattle.queue_laws.specs.Common.Vocabulary.{BLOCK_SLOTS}
+use Rattle.queue_laws.specs.{Common.Vocabulary.BLOCK_SLOTS, Common.Moments.SeenIn, Common.Moments.seen_by, Common.Moments.HeadWas, Common.Moments.HasItems, Chain.ChainPasses.Passes}
 use Rattle.queue_steps.specs.State.{State}
-use Rattle.queue_laws.specs.Common.Moments.{SeenIn, seen_by, HeadWas, HasItems}
 use Rattle.queue_laws.proofs.Common.Moments.{seen_map, seen_later, seen_now, started_later}
 use Rattle.queue_laws.specs.Chain.ChainFacts.{HeadIs, TailIs, IsNamed, TailBlockIs, HeadBlockIs, HeadBlockRead, IsMore, HasSpare, WasOpenAt, SawEmpty, SawTail, Claimed, Got}
 use Rattle.queue_laws.specs.Chain.ChainCells.{Laying, Opening, Passing, Entering, Linking, Showing, Walker, Chain, queue_of, ChainOk, Part, Write, Read, Tail, Head, Next, First, Passed, HoldsOnly}
-use Rattle.queue_laws.specs.Chain.ChainPasses.{Passes}
 
 pub tail_grows : {A : Type 0} {r s : Chain A} (who : ℕ) → Passes who r s → r.tail ≤ s.tail
 tail_grows who pass = elim pass.tails [ inl e ↦ omega arith | inr e ↦ omega arith ]

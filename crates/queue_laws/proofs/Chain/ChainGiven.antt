@@ -1,14 +1,8 @@
 -- The block that a call gives up with its reply, and that the spares of the others stay.
 use Rattle.std.proofs.Common.{ℕ, ◌≡◌, ◌≢◌, ◌∙◌, inl, inr, Option, Some, None, sym, ap}
-use Rattle.queue_laws.specs.Common.Vocabulary.{Effect}
-use Rattle.queue_laws.proofs.Common.Puts.{put_ok}
-use Rattle.queue_laws.specs.Common.Effects.{Leads}
+use Rattle.queue_laws.specs.{Common.Vocabulary.Effect, Common.Effects.Leads, Chain.ChainTransitions.lost_of, Chain.ChainTransitions.given_up, Chain.ChainPasses.Passes, Chain.ChainPasses.Spares}
+use Rattle.queue_laws.proofs.{Common.Puts.put_ok, Chain.ChainTransitions.rename_ok, Chain.ChainPassesLaying.owner_renamed, Chain.ChainPassesLaying.passes_renamed, Chain.ChainStepOk.GivesUp}
 use Rattle.queue_laws.specs.Chain.ChainCells.{Use, Unused, Spare, Chained, Chain, queue_of, ChainOk, Part, HoldsOnly}
-use Rattle.queue_laws.specs.Chain.ChainTransitions.{lost_of, given_up}
-use Rattle.queue_laws.proofs.Chain.ChainTransitions.{rename_ok}
-use Rattle.queue_laws.specs.Chain.ChainPasses.{Passes, Spares}
-use Rattle.queue_laws.proofs.Chain.ChainPassesLaying.{owner_renamed, passes_renamed}
-use Rattle.queue_laws.proofs.Chain.ChainStepOk.{GivesUp}
 
 pub spares_stay : {A : Type 0} {r s : Chain A} (who other : ℕ) (spare : Option ℕ) → other ≢ who → Passes who r s → Spares r other spare → Spares s other spare
 spares_stay who other spare ne pass only = λ f e. only f (pass.spared f other ne e)

@@ -1,10 +1,9 @@
 -- What a party holds of a chain after each of its own steps.
 use Rattle.std.proofs.Common.{ℕ, ◌-◌, ◌/◌, ◌≡◌, ◌≢◌, ◌⊎◌, inl, inr, Bool, Some, None, refl, ap}
-use Rattle.queue_laws.specs.Common.Vocabulary.{BLOCK_SLOTS}
+use Rattle.queue_laws.specs.{Common.Vocabulary.BLOCK_SLOTS, Chain.ChainAt.Only, Chain.ChainAt.Either}
 use Rattle.queue_laws.proofs.Common.Puts.{put_ok}
 use Rattle.queue_laws.specs.Chain.ChainCells.{Writing, Wrote, Reading, Done, Rests, Laying, Stands, Passing, Linking, Linked, Walk, Chain, Part, Write, Read, Tail, Head, Next, First, Passed, writer_of, reader_of, linker_of, walker_of, HoldsOnly, Nothing}
 use Rattle.queue_laws.specs.Chain.ChainTransitions.{appended, installed, displayed, laid_out, opened, chained, written, taken, passed, entered, reads, walked}
-use Rattle.queue_laws.specs.Chain.ChainAt.{Only, Either}
 
 -- U4: the first block is installed
 pub after_install : {A : Type 0} (c : Chain A) (who : ℕ) (f : ℕ) → HoldsOnly c who Nothing → HoldsOnly (installed c who f) who (Only First)

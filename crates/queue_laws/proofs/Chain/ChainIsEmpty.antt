@@ -1,19 +1,9 @@
 -- The step by which `is_empty` replies.
 use Rattle.std.proofs.Common.{ℕ, ◌<◌, ◌≡◌, ◌≢◌, ◌==◌, ◌∙◌, ◌⊎◌, inl, inr, true, false, None, List, [], ◌∷◌, length, refl, sym, ap, arith}
 use Rattle.std.proofs.lemmas.Bool.Decides.{eqb_tells}
-use Rattle.queue_steps.specs.State.{State}
-use Rattle.queue_steps.specs.Replies.{is_empty}
-use Rattle.queue_steps.specs.Words.{IsWord, position_of}
-use Rattle.queue_steps.specs.ChainWords.{items_before, over_end, offset_at}
-use Rattle.queue_steps.specs.UnboundedNext.{unbounded_next}
-use Rattle.queue_laws.specs.Common.Vocabulary.{Call, Reply, Answer, BLOCK_SLOTS}
-use Rattle.queue_steps.specs.declared.steps.unbounded.UnboundedLocal.TheVariants as chain
-use Rattle.queue_laws.proofs.Common.Moments.{seen_map}
-use Rattle.queue_laws.specs.Chain.ChainFacts.{place, SawEmpty}
-use Rattle.queue_laws.specs.Chain.ChainCells.{Chain, queue_of, ChainOk, HoldsOnly, Nothing}
-use Rattle.queue_laws.specs.Chain.ChainAnswers.{tail_word}
-use Rattle.queue_laws.proofs.Chain.ChainAnswers.{tail_items, tail_small}
-use Rattle.queue_laws.proofs.Chain.ChainStepOk.{NextOk, StepOk, still}
+use Rattle.queue_steps.specs.{State.State, Replies.is_empty, Words.IsWord, Words.position_of, ChainWords.items_before, ChainWords.over_end, ChainWords.offset_at, UnboundedNext.unbounded_next, declared.steps.unbounded.UnboundedLocal.UnboundedLocal as chain}
+use Rattle.queue_laws.specs.{Common.Vocabulary.Call, Common.Vocabulary.Reply, Common.Vocabulary.Answer, Common.Vocabulary.BLOCK_SLOTS, Chain.ChainFacts.place, Chain.ChainFacts.SawEmpty, Chain.ChainCells.Chain, Chain.ChainCells.queue_of, Chain.ChainCells.ChainOk, Chain.ChainCells.HoldsOnly, Chain.ChainCells.Nothing, Chain.ChainAnswers.tail_word}
+use Rattle.queue_laws.proofs.{Common.Moments.seen_map, Chain.ChainAnswers.tail_items, Chain.ChainAnswers.tail_small, Chain.ChainStepOk.NextOk, Chain.ChainStepOk.StepOk, Chain.ChainStepOk.still}
 
 -- a settled position is that of its items
 settled_place : (p : ℕ) → over_end p ≡ place (items_before p)

@@ -1,26 +1,11 @@
 -- The step by which a pop finds the queue empty, and those of the calls that look at a chain, and of its close.
 use Rattle.std.proofs.Common.{ℕ, ◌+◌, ◌-◌, ◌*◌, ◌%◌, ◌≤◌, ◌≡◌, ◌≢◌, ◌==◌, ◌∙◌, ◌⊎◌, inl, inr, Bool, true, false, Some, None, List, [], ◌∷◌, length, refl, sym, ap, subst, arith}
-use Rattle.std.proofs.lemmas.Bool.{ne_eqb, eq-eqb}
-use Rattle.std.proofs.lemmas.Bool.Decides.{eqb_tells}
-use Rattle.queue_steps.specs.State.{State}
-use Rattle.queue_steps.specs.Words.{IsWord, position_of, is_shut, tail_of}
-use Rattle.queue_steps.specs.ChainWords.{items_before}
-use Rattle.queue_steps.specs.UnboundedNext.{unbounded_next}
-use Rattle.queue_steps.specs.Looks.{call_of_look, reply_of_look, IsCount}
+use Rattle.std.proofs.lemmas.Bool.{ne_eqb, eq-eqb, Decides.eqb_tells}
+use Rattle.queue_steps.specs.{State.State, Words.IsWord, Words.position_of, Words.is_shut, Words.tail_of, ChainWords.items_before, UnboundedNext.unbounded_next, Looks.call_of_look, Looks.reply_of_look, Looks.IsCount, declared.steps.unbounded.UnboundedLocal.UnboundedLocal as chain}
 use Rattle.queue_steps.proofs.LookLaws.{reply_filled, reply_tells, reply_right, count_waits}
-use Rattle.queue_laws.specs.Common.Vocabulary.{Call, Reply, Effect, Answer, Look}
-use Rattle.queue_steps.specs.declared.steps.unbounded.UnboundedLocal.TheVariants as chain
-use Rattle.queue_laws.proofs.Common.Tails.{shut_tail}
-use Rattle.queue_laws.specs.Common.Moments.{SeenIn, HeadWas, HasItems}
-use Rattle.queue_laws.proofs.Common.Moments.{seen_map}
-use Rattle.queue_laws.specs.Chain.ChainCells.{Chain, queue_of, ChainOk, HoldsOnly, Nothing}
+use Rattle.queue_laws.specs.{Common.Vocabulary.Call, Common.Vocabulary.Reply, Common.Vocabulary.Effect, Common.Vocabulary.Answer, Common.Vocabulary.Look, Common.Moments.SeenIn, Common.Moments.HeadWas, Common.Moments.HasItems, Chain.ChainCells.Chain, Chain.ChainCells.queue_of, Chain.ChainCells.ChainOk, Chain.ChainCells.HoldsOnly, Chain.ChainCells.Nothing, Chain.ChainAt.count_tail, Chain.ChainAt.count_head, Chain.ChainAt.count_again, Chain.ChainAt.empty_tail, Chain.ChainAnswers.tail_word, Chain.ChainAnswers.tail_place, Chain.ChainAnswers.head_word}
+use Rattle.queue_laws.proofs.{Common.Tails.shut_tail, Common.Moments.seen_map, Chain.ChainTransitions.mark_ok, Chain.ChainPasses.passes_marked, Chain.ChainAnswers.tail_items, Chain.ChainAnswers.tail_small, Chain.ChainAnswers.head_items, Chain.ChainAnswers.head_small, Chain.ChainStepOk.NextOk, Chain.ChainStepOk.StepOk, Chain.ChainStepOk.still}
 use Rattle.queue_laws.specs.Chain.ChainTransitions as moves
-use Rattle.queue_laws.proofs.Chain.ChainTransitions.{mark_ok}
-use Rattle.queue_laws.proofs.Chain.ChainPasses.{passes_marked}
-use Rattle.queue_laws.specs.Chain.ChainAt.{count_tail, count_head, count_again, empty_tail}
-use Rattle.queue_laws.specs.Chain.ChainAnswers.{tail_word, tail_place, head_word}
-use Rattle.queue_laws.proofs.Chain.ChainAnswers.{tail_items, tail_small, head_items, head_small}
-use Rattle.queue_laws.proofs.Chain.ChainStepOk.{NextOk, StepOk, still}
 
 pub good_closed_tail : {A : Type 0} (c : Chain A) (who : ℕ) (ms : List (State A)) → ChainOk c → HoldsOnly c who Nothing → StepOk c c who ms chain.ClosedTail None Call.IsClosed [] (Answer.Found (tail_word c))
 good_closed_tail c who ms ok none =

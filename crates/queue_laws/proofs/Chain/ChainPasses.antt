@@ -2,9 +2,8 @@
 use Rattle.std.proofs.Common.{ℕ, ◌≡◌, ◌≢◌, ◌⊎◌, inl, inr, Some, refl, sym, ap, subst, arith}
 use Rattle.queue_laws.specs.Chain.ChainCells.{Writer, Free, Writing, Reader, Mover, Rests, Laying, Passer, Stands, LinkState, Linked, Shown, Showing, Seen, Walk, Use, Spare, Chain, ChainOk, Part, Write, Read, Tail, Head, Next, First, Passed, reader_of, mover_of, passer_of, linker_of, shower_of, walker_of, owner}
 use Rattle.queue_laws.proofs.Chain.ChainTransitions.{next_free, no_front}
-use Rattle.queue_laws.specs.Chain.ChainTransitions.{appended, installed, displayed, marked}
+use Rattle.queue_laws.specs.Chain.{ChainTransitions.appended, ChainTransitions.installed, ChainTransitions.displayed, ChainTransitions.marked, ChainPasses.Kept, ChainPasses.Passes}
 use Rattle.queue_laws.proofs.Chain.ChainLeaves.{Leaves, leaves_same, IsFree, free_none, free_own, leaves_own, row_put, EndMoves, end_same, ItemKept, item_same, Once, once_same, Blocks, blocks_same, blocks_more, PushSide, PopSide}
-use Rattle.queue_laws.specs.Chain.ChainPasses.{Kept, Passes}
 
 -- what another party holds of any part stays, and it comes by none
 held_by : {A : Type 0} {r s : Chain A} (who : ℕ) → PushSide who r s → PopSide who r s → (x : Part) (other : ℕ) → other ≢ who → owner r x ≡ Some other → Kept r s x

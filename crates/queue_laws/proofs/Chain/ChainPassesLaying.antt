@@ -1,9 +1,8 @@
 -- What the laying of a block, and the writing of an item, leave of what other parties hold.
 use Rattle.std.proofs.Common.{ℕ, ◌-◌, ◌≡◌, ◌≢◌, ◌∙◌, inl, inr, refl, sym, ap}
 use Rattle.queue_laws.specs.Chain.ChainCells.{Writing, Wrote, Rests, Laying, Opening, Unlinked, Linking, Linked, Use, Spare, Chain, ChainOk, Part, Write, mover_of, linker_of, owner}
-use Rattle.queue_laws.specs.Chain.ChainTransitions.{laid_out, opened, chained, written, renamed}
+use Rattle.queue_laws.specs.Chain.{ChainTransitions.laid_out, ChainTransitions.opened, ChainTransitions.chained, ChainTransitions.written, ChainTransitions.renamed, ChainPasses.Kept, ChainPasses.Passes}
 use Rattle.queue_laws.proofs.Chain.ChainLeaves.{leaves_own, free_none, free_own, row_put, end_same, ItemKept, item_same, Once, once_same, spared_put, blocks_same, blocks_more}
-use Rattle.queue_laws.specs.Chain.ChainPasses.{Kept, Passes}
 use Rattle.queue_laws.proofs.Chain.ChainPasses.{passes_push}
 
 -- U6

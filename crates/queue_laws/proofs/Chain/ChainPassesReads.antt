@@ -1,11 +1,8 @@
 -- What a step of a pop leaves of a chain for the others.
 use Rattle.std.proofs.Common.{ℕ, ◌/◌, ◌≡◌, ◌≢◌, ◌∙◌, ◌⊎◌, inl, inr, Bool, Some, refl, sym, ap, arith}
-use Rattle.queue_laws.specs.Common.Vocabulary.{BLOCK_SLOTS}
+use Rattle.queue_laws.specs.{Common.Vocabulary.BLOCK_SLOTS, Chain.ChainTransitions.taken, Chain.ChainTransitions.passed, Chain.ChainTransitions.entered, Chain.ChainTransitions.reads, Chain.ChainTransitions.walked, Chain.ChainPasses.Passes}
 use Rattle.queue_laws.specs.Chain.ChainCells.{Unread, Reading, Done, Passer, Stands, Passing, Entering, Walk, Chain, reader_of, passer_of, walker_of}
-use Rattle.queue_laws.specs.Chain.ChainTransitions.{taken, passed, entered, reads, walked}
-use Rattle.queue_laws.proofs.Chain.ChainLeaves.{Leaves, leaves_same, IsFree, free_none, free_own, leaves_own, row_put, end_same}
-use Rattle.queue_laws.specs.Chain.ChainPasses.{Passes}
-use Rattle.queue_laws.proofs.Chain.ChainPasses.{passes_pop}
+use Rattle.queue_laws.proofs.Chain.{ChainLeaves.Leaves, ChainLeaves.leaves_same, ChainLeaves.IsFree, ChainLeaves.free_none, ChainLeaves.free_own, ChainLeaves.leaves_own, ChainLeaves.row_put, ChainLeaves.end_same, ChainPasses.passes_pop}
 
 -- V4
 pub passes_taken : {A : Type 0} (c : Chain A) (who : ℕ) (p : Passer) (more : Bool) → c.readers c.head ≡ Unread → c.passer ≡ Stands → (p ≡ Stands) ⊎ (p ≡ Passing who) → Passes who c (taken c who p more)

@@ -1,30 +1,11 @@
 -- The steps of a push that read: the tail and the pushers' block, and the request for a block.
 use Rattle.std.proofs.Common.{ℕ, ◌+◌, ◌-◌, ◌/◌, ◌%◌, ◌<◌, ◌≡◌, ◌≢◌, ◌==◌, ◌∙◌, ◌⊎◌, inl, inr, zero, suc, Bool, true, false, Option, Some, None, Err, List, [], ◌∷◌, refl, sym, ap, subst, arith}
-use Rattle.std.proofs.lemmas.Bool.{ne_eqb, eq-eqb}
-use Rattle.std.proofs.lemmas.Bool.Decides.{eqb_tells}
+use Rattle.std.proofs.lemmas.Bool.{ne_eqb, eq-eqb, Decides.eqb_tells}
 use Rattle.queue_laws.specs.Common.Vocabulary.{Reply, PushError, ForcePushError, Word, Link, Op, Touch, Answer, Next, PushKind, LIMIT, BLOCK_SLOTS, MARK}
-use Rattle.queue_steps.specs.State.{State}
-use Rattle.queue_steps.specs.Replies.{Tells, MayAsk, LacksMemory}
-use Rattle.queue_steps.specs.Kinds.{filled}
-use Rattle.queue_steps.specs.Words.{IsWord, position_of, is_shut, tail_of}
-use Rattle.queue_steps.specs.ChainWords.{offset_of, items_before}
-use Rattle.queue_steps.specs.BoundedNext.{closed_reply}
-use Rattle.queue_steps.specs.UnboundedNext.{at, loads, chain_tail_found, tail_block_found, gives_up, granted}
-use Rattle.queue_steps.specs.declared.steps.unbounded.UnboundedLocal.TheVariants as chain
-use Rattle.queue_laws.proofs.Common.Tails.{shut_tail}
-use Rattle.queue_laws.proofs.Common.Moments.{seen_map}
-use Rattle.queue_laws.specs.Common.Pushes.{pushes}
-use Rattle.queue_laws.proofs.Common.Pushes.{closed_push}
-use Rattle.queue_laws.specs.Chain.ChainFacts.{place, open_tail_of, TailIs, TailBlockIs, HasSpare, SawTail, WasOpenAt}
+use Rattle.queue_steps.specs.{State.State, Replies.Tells, Replies.MayAsk, Replies.LacksMemory, Kinds.filled, Words.IsWord, Words.position_of, Words.is_shut, Words.tail_of, ChainWords.offset_of, ChainWords.items_before, BoundedNext.closed_reply, UnboundedNext.at, UnboundedNext.loads, UnboundedNext.chain_tail_found, UnboundedNext.tail_block_found, UnboundedNext.gives_up, UnboundedNext.granted, declared.steps.unbounded.UnboundedLocal.UnboundedLocal as chain}
+use Rattle.queue_laws.proofs.{Common.Tails.shut_tail, Common.Moments.seen_map, Common.Pushes.closed_push, Chain.ChainTransitions.no_block, Chain.ChainTransitions.rename_ok, Chain.ChainPasses.passes_same, Chain.ChainPassesLaying.passes_renamed, Chain.ChainAnswers.tail_items, Chain.ChainAnswers.tail_small, Chain.ChainAnswers.tail_is_resting, Chain.ChainAnswers.resting_word, Chain.ChainStepOk.NextOk, Chain.ChainStepOk.StepOk, Chain.ChainStepOk.still, Chain.ChainStepOk.silent, Chain.ChainStepOk.spare_gives}
+use Rattle.queue_laws.specs.{Common.Pushes.pushes, Chain.ChainFacts.place, Chain.ChainFacts.open_tail_of, Chain.ChainFacts.TailIs, Chain.ChainFacts.TailBlockIs, Chain.ChainFacts.HasSpare, Chain.ChainFacts.SawTail, Chain.ChainFacts.WasOpenAt, Chain.ChainTransitions.renamed, Chain.ChainAt.IsLast, Chain.ChainAt.Asks, Chain.ChainAt.push_tail, Chain.ChainAt.push_block, Chain.ChainAt.asking, Chain.ChainAt.installing, Chain.ChainAt.claiming, Chain.ChainAt.spending, Chain.ChainAnswers.tail_word, Chain.ChainAnswers.tail_place, Chain.ChainAnswers.last_of}
 use Rattle.queue_laws.specs.Chain.ChainCells.{Rests, Spare, Unused, Chained, Chain, queue_of, BlocksOk, ChainOk, HoldsOnly, Nothing}
-use Rattle.queue_laws.proofs.Chain.ChainTransitions.{no_block, rename_ok}
-use Rattle.queue_laws.specs.Chain.ChainTransitions.{renamed}
-use Rattle.queue_laws.proofs.Chain.ChainPasses.{passes_same}
-use Rattle.queue_laws.proofs.Chain.ChainPassesLaying.{passes_renamed}
-use Rattle.queue_laws.specs.Chain.ChainAt.{IsLast, Asks, push_tail, push_block, asking, installing, claiming, spending}
-use Rattle.queue_laws.specs.Chain.ChainAnswers.{tail_word, tail_place, last_of}
-use Rattle.queue_laws.proofs.Chain.ChainAnswers.{tail_items, tail_small, tail_is_resting, resting_word}
-use Rattle.queue_laws.proofs.Chain.ChainStepOk.{NextOk, StepOk, still, silent, spare_gives}
 
 refused_push : {A : Type 0} (d : PushKind) (v : A) → (y : Reply A) × (filled (gives_up d) (Some v) ≡ Some y) × Tells (pushes d v) y [] × ((m : State A) → MayAsk m → LacksMemory m (pushes d v) y)
 refused_push PushKind.Push v = (Reply.Push (Err (PushError.NoMemory v)), refl, (refl, refl), λ m may. (refl, may))

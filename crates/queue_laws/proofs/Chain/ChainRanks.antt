@@ -1,12 +1,10 @@
 -- How many steps a call on a chain takes at most from where it stands, while no other party holds a part of the chain.
 use Rattle.std.proofs.Common.{ℕ, ◌+◌, ◌-◌, ◌<◌, ◌≤◌, ◌≡◌, ◌≢◌, ◌==◌, ◌∙◌, Bool, true, false, if◌then◌else◌, Option, Some, None, inl, inr, refl, ap, arith}
-use Rattle.std.proofs.lemmas.Bool.{eq-eqb}
-use Rattle.std.proofs.lemmas.Bool.Decides.{eqb_tells}
-use Rattle.queue_laws.specs.Common.Vocabulary.{Local, Next, BLOCK_SLOTS}
-use Rattle.queue_steps.specs.declared.steps.unbounded.UnboundedLocal.TheVariants as chain
+use Rattle.std.proofs.lemmas.Bool.{eq-eqb, Decides.eqb_tells}
+use Rattle.queue_laws.specs.{Common.Vocabulary.Local, Common.Vocabulary.Next, Common.Vocabulary.BLOCK_SLOTS, Chain.ChainAnswers.tail_word, Chain.ChainAnswers.head_word}
+use Rattle.queue_steps.specs.declared.steps.unbounded.UnboundedLocal.{UnboundedLocal as chain}
 use Rattle.queue_laws.proofs.Common.Ranks.{either_small, either_some}
 use Rattle.queue_laws.specs.Chain.ChainCells.{Mover, Rests, Laying, Opening, Passer, Stands, Passing, Entering, Shown, Seen, Chain, LAST, Part, owner, mover_of, passer_of, HoldsOnly, Nothing}
-use Rattle.queue_laws.specs.Chain.ChainAnswers.{tail_word, head_word}
 
 -- how many steps more are before a call that has read a word which is another one now
 abbrev pub lag : ℕ → ℕ → ℕ → ℕ

@@ -1,22 +1,11 @@
 -- The steps of a pop up to the read of its item have fewer steps before them, one after another, while no other party holds a part of the chain.
 use Rattle.std.proofs.Common.{ℕ, ◌+◌, ◌/◌, ◌%◌, ◌<◌, ◌≡◌, ◌≢◌, ◌==◌, ◌∙◌, ◌⊎◌, inl, inr, Bool, true, false, if◌then◌else◌, Option, Some, None, refl, sym, ap, subst, arith, bit_and}
-use Rattle.std.proofs.lemmas.Bool.{ne_eqb, eq-eqb}
-use Rattle.std.proofs.lemmas.Bool.Decides.{eqb_tells}
-use Rattle.queue_laws.specs.Common.Vocabulary.{BLOCK_SLOTS, TAIL_STEP, WRITE}
-use Rattle.queue_steps.specs.Words.{position_of}
-use Rattle.queue_steps.specs.ChainWords.{block_at, offset_at, offset_of}
+use Rattle.std.proofs.lemmas.Bool.{ne_eqb, eq-eqb, Decides.eqb_tells}
+use Rattle.queue_laws.specs.{Common.Vocabulary.BLOCK_SLOTS, Common.Vocabulary.TAIL_STEP, Common.Vocabulary.WRITE, Chain.ChainFacts.place, Chain.ChainFacts.head_of, Chain.ChainFacts.HeadIs, Chain.ChainFacts.IsMore, Chain.ChainAnswers.tail_word, Chain.ChainAnswers.head_word, Chain.ChainAnswers.shown_of, Chain.ChainAnswers.linked_of, Chain.ChainAnswers.is_wrote, Chain.ChainAfter.taken_if}
+use Rattle.queue_steps.specs.{Words.position_of, ChainWords.block_at, ChainWords.offset_at, ChainWords.offset_of, UnboundedNext.chain_head_found, UnboundedNext.head_block_found, UnboundedNext.chain_pop_tail_found, UnboundedNext.takes, UnboundedNext.followed, UnboundedNext.written_found, UnboundedNext.is_last_slot}
 use Rattle.queue_steps.specs.UnboundedNext as steps
-use Rattle.queue_steps.specs.UnboundedNext.{chain_head_found, head_block_found, chain_pop_tail_found, takes, followed, written_found, is_last_slot}
-use Rattle.queue_laws.proofs.Common.Tails.{position_tail}
-use Rattle.queue_laws.specs.Chain.ChainFacts.{place, head_of, HeadIs, IsMore}
-use Rattle.queue_laws.proofs.Chain.ChainPlaces.{place_offset}
+use Rattle.queue_laws.proofs.{Common.Tails.position_tail, Chain.ChainPlaces.place_offset, Chain.ChainTransitions.no_block, Chain.ChainAnswers.resting_word, Chain.ChainAnswers.standing_word, Chain.ChainPop.head_low, Chain.ChainRanks.lag, Chain.ChainRanks.is_seen, Chain.ChainRanks.tail_rank, Chain.ChainRanks.Falls, Chain.ChainRanks.lag_none, Chain.ChainRanks.IsQuiet, Chain.ChainRanks.unowned, Chain.ChainRanks.stands_if}
 use Rattle.queue_laws.specs.Chain.ChainCells.{Writer, Free, Writing, Wrote, Reading, Rests, Stands, Passing, LinkState, Unlinked, Linking, Linked, Shown, Hidden, Showing, Seen, Chain, ItemOk, BlocksOk, LinkOk, FrontOk, ShownOk, ChainOk, Part, Head, linker_of, shower_of, writer_of, HoldsOnly}
-use Rattle.queue_laws.proofs.Chain.ChainTransitions.{no_block}
-use Rattle.queue_laws.specs.Chain.ChainAnswers.{tail_word, head_word, shown_of, linked_of, is_wrote}
-use Rattle.queue_laws.proofs.Chain.ChainAnswers.{resting_word, standing_word}
-use Rattle.queue_laws.specs.Chain.ChainAfter.{taken_if}
-use Rattle.queue_laws.proofs.Chain.ChainPop.{head_low}
-use Rattle.queue_laws.proofs.Chain.ChainRanks.{lag, is_seen, tail_rank, Falls, lag_none, IsQuiet, unowned, stands_if}
 
 -- nobody moves the head
 pub stands : {A : Type 0} (c : Chain A) (who : ℕ) (P : Part → Type 0) → IsQuiet c who → HoldsOnly c who P → (P Head → ⊥) → c.passer ≡ Stands

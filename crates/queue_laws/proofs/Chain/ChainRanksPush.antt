@@ -1,22 +1,10 @@
 -- The steps of a push have fewer steps before them, one after another, while no other party holds a part of the chain.
 use Rattle.std.proofs.Common.{ℕ, ◌+◌, ◌%◌, ◌<◌, ◌≡◌, ◌≢◌, ◌==◌, ◌∙◌, zero, suc, true, false, if◌then◌else◌, Option, Some, None, refl, sym, ap, arith}
 use Rattle.std.proofs.lemmas.Bool.{ne_eqb, eq-eqb}
-use Rattle.queue_laws.specs.Common.Vocabulary.{Local, PushKind, BLOCK_SLOTS}
-use Rattle.queue_steps.specs.Words.{position_of}
-use Rattle.queue_steps.specs.ChainWords.{offset_at, offset_of}
+use Rattle.queue_laws.specs.{Common.Vocabulary.Local, Common.Vocabulary.PushKind, Common.Vocabulary.BLOCK_SLOTS, Chain.ChainFacts.place, Chain.ChainCells.Rests, Chain.ChainCells.Spare, Chain.ChainCells.Chain, Chain.ChainCells.Part, Chain.ChainCells.Tail, Chain.ChainCells.HoldsOnly, Chain.ChainTransitions.displayed, Chain.ChainTransitions.renamed, Chain.ChainAnswers.tail_word, Chain.ChainAnswers.last_of, Chain.ChainAfter.if_installed, Chain.ChainAfter.claimed_if}
+use Rattle.queue_steps.specs.{Words.position_of, ChainWords.offset_at, ChainWords.offset_of, UnboundedNext.chain_tail_found, UnboundedNext.tail_block_found, UnboundedNext.asks, UnboundedNext.claims, UnboundedNext.lays, UnboundedNext.writes, UnboundedNext.is_last_slot, declared.steps.unbounded.UnboundedLocal.UnboundedLocal as chain}
 use Rattle.queue_steps.specs.UnboundedNext as steps
-use Rattle.queue_steps.specs.UnboundedNext.{chain_tail_found, tail_block_found, asks, claims, lays, writes, is_last_slot}
-use Rattle.queue_steps.specs.declared.steps.unbounded.UnboundedLocal.TheVariants as chain
-use Rattle.queue_laws.proofs.Common.Tails.{position_tail}
-use Rattle.queue_laws.specs.Chain.ChainFacts.{place}
-use Rattle.queue_laws.proofs.Chain.ChainPlaces.{place_offset}
-use Rattle.queue_laws.specs.Chain.ChainCells.{Rests, Spare, Chain, Part, Tail, HoldsOnly}
-use Rattle.queue_laws.specs.Chain.ChainTransitions.{displayed, renamed}
-use Rattle.queue_laws.specs.Chain.ChainAnswers.{tail_word, last_of}
-use Rattle.queue_laws.proofs.Chain.ChainAnswers.{resting_word}
-use Rattle.queue_laws.specs.Chain.ChainAfter.{if_installed, claimed_if}
-use Rattle.queue_laws.proofs.Chain.ChainPush.{tail_ways}
-use Rattle.queue_laws.proofs.Chain.ChainRanks.{lag, asking_rank, rank, Falls, lag_none, IsQuiet, unowned, rests_if}
+use Rattle.queue_laws.proofs.{Common.Tails.position_tail, Chain.ChainPlaces.place_offset, Chain.ChainAnswers.resting_word, Chain.ChainPush.tail_ways, Chain.ChainRanks.lag, Chain.ChainRanks.asking_rank, Chain.ChainRanks.rank, Chain.ChainRanks.Falls, Chain.ChainRanks.lag_none, Chain.ChainRanks.IsQuiet, Chain.ChainRanks.unowned, Chain.ChainRanks.rests_if}
 
 -- nobody moves the tail
 pub rests : {A : Type 0} (c : Chain A) (who : ℕ) (P : Part → Type 0) → IsQuiet c who → HoldsOnly c who P → (P Tail → ⊥) → c.mover ≡ Rests

@@ -1,23 +1,10 @@
 -- Each step of a call on a chain leaves fewer steps before it while no other party holds a part of the chain, and each step of a wait-free call always.
 use Rattle.std.proofs.Common.{true, ℕ, ◌+◌, ◌/◌, ◌%◌, ◌<◌, ◌≤◌, ◌≡◌, ◌==◌, not, ◌∙◌, inl, inr, List, refl, sym, ap, subst, arith, bit_and, false}
-use Rattle.queue_laws.specs.Common.Vocabulary.{Answer, BLOCK_SLOTS, READ, DESTROY}
-use Rattle.queue_steps.specs.WaitFree.{is_wait_free}
-use Rattle.queue_steps.specs.State.{State}
-use Rattle.queue_steps.specs.ChainWords.{offset_of}
-use Rattle.queue_steps.specs.UnboundedNext.{unbounded_next}
-use Rattle.queue_laws.proofs.Common.Pushes.{never_push}
-use Rattle.queue_laws.specs.Common.Stand.{Stand}
+use Rattle.queue_laws.specs.{Common.Vocabulary.Answer, Common.Vocabulary.BLOCK_SLOTS, Common.Vocabulary.READ, Common.Vocabulary.DESTROY, Common.Stand.Stand, Chain.ChainFacts.head_of, Chain.ChainFacts.open_tail_of, Chain.ChainAnswers.Answers, Chain.ChainAnswers.IsState, Chain.ChainAnswers.tail_word, Chain.ChainAnswers.is_wrote, Chain.ChainAfter.if_read, Chain.ChainAfter.if_walked, Chain.ChainAfter.if_begun, Chain.ChainAfter.if_destroyed, Chain.ChainAfter.chain_of, Chain.ChainAfter.after_of}
+use Rattle.queue_steps.specs.{WaitFree.is_wait_free, State.State, ChainWords.offset_of, UnboundedNext.unbounded_next}
+use Rattle.queue_laws.proofs.{Common.Pushes.never_push, Chain.ChainReads.own_item, Chain.ChainAnswers.head_offset, Chain.ChainRanks.rank, Chain.ChainRanks.Falls, Chain.ChainRanks.lag_none, Chain.ChainRanks.IsQuiet, Chain.ChainRanks.unowned, Chain.ChainRanksPush.rests, Chain.ChainRanksPush.push_tail_falls, Chain.ChainRanksPush.push_block_falls, Chain.ChainRanksPush.granted_falls, Chain.ChainRanksPush.installing_falls, Chain.ChainRanksPush.showing_falls, Chain.ChainRanksPush.claiming_falls, Chain.ChainRanksPop.stands, Chain.ChainRanksPop.head_falls, Chain.ChainRanksPop.pop_block_falls, Chain.ChainRanksPop.pop_tail_falls, Chain.ChainRanksPop.taking_falls, Chain.ChainRanksPop.following_falls, Chain.ChainRanksPop.wrote_then, Chain.ChainRanksPop.awaiting_falls, Chain.ChainRanksWalk.maybe_on_falls, Chain.ChainRanksWalk.walking_falls, Chain.ChainRanksWalk.done_then, Chain.ChainRanksWalk.last_claimed, Chain.ChainRanksWalk.count_again_falls}
 use Rattle.queue_laws.specs.Chain.ChainCells.{Reading, Unread, Chain, ChainOk, item_at, LAST, Write, Read, Head, Next, First, Passed, Nothing}
-use Rattle.queue_laws.proofs.Chain.ChainReads.{own_item}
-use Rattle.queue_laws.specs.Chain.ChainFacts.{head_of, open_tail_of}
 use Rattle.queue_laws.specs.Chain.ChainAt.{Only, Either, At, push_tail, push_block, asking, installing, showing, claiming, laying, opening, chaining, writing, spending, pop_head, pop_block, pop_tail, taking, following, peeking, passing, entering, awaiting, reading, beginning, walking, destroying, count_tail, count_head, count_again, empty_head, empty_tail, closing, closed_tail}
-use Rattle.queue_laws.specs.Chain.ChainAnswers.{Answers, IsState, tail_word, is_wrote}
-use Rattle.queue_laws.proofs.Chain.ChainAnswers.{head_offset}
-use Rattle.queue_laws.specs.Chain.ChainAfter.{if_read, if_walked, if_begun, if_destroyed, chain_of, after_of}
-use Rattle.queue_laws.proofs.Chain.ChainRanks.{rank, Falls, lag_none, IsQuiet, unowned}
-use Rattle.queue_laws.proofs.Chain.ChainRanksPush.{rests, push_tail_falls, push_block_falls, granted_falls, installing_falls, showing_falls, claiming_falls}
-use Rattle.queue_laws.proofs.Chain.ChainRanksPop.{stands, head_falls, pop_block_falls, pop_tail_falls, taking_falls, following_falls, wrote_then, awaiting_falls}
-use Rattle.queue_laws.proofs.Chain.ChainRanksWalk.{maybe_on_falls, walking_falls, done_then, last_claimed, count_again_falls}
 
 -- each step of a call that is alone leaves fewer steps before it
 pub step_falls : {A : Type 0} {c : Chain A} {who : ℕ} {ms : List (State A)} {k : Stand A} (at : At c who ms k) (a : Answer ℕ)

@@ -1,14 +1,9 @@
 -- The steps of the walk over a passed block, and of the calls that look, have fewer steps before them while no other party holds a part of the chain.
 use Rattle.std.proofs.Common.{ℕ, ◌+◌, ◌-◌, ◌<◌, ◌≤◌, ◌≡◌, ◌≢◌, ◌==◌, ◌∙◌, Bool, true, false, if◌then◌else◌, nat_lt, Some, None, Ok, List, refl, sym, ap, subst, arith, bit_and}
 use Rattle.std.proofs.lemmas.Bool.{cond_both, ltb-true}
-use Rattle.queue_laws.specs.Common.Vocabulary.{Look, Reply, Word, Touch, Answer, Next, BLOCK_SLOTS, READ}
-use Rattle.queue_steps.specs.declared.steps.unbounded.UnboundedLocal.TheVariants as chain
-use Rattle.queue_steps.specs.Words.{position_of, is_shut}
-use Rattle.queue_steps.specs.ChainWords.{items_before}
-use Rattle.queue_steps.specs.Looks.{reply_of_look}
-use Rattle.queue_steps.specs.UnboundedNext.{ends, loads, walks, walks_on, unbounded_next}
+use Rattle.queue_laws.specs.{Common.Vocabulary.Look, Common.Vocabulary.Reply, Common.Vocabulary.Word, Common.Vocabulary.Touch, Common.Vocabulary.Answer, Common.Vocabulary.Next, Common.Vocabulary.BLOCK_SLOTS, Common.Vocabulary.READ, Chain.ChainAnswers.tail_word, Chain.ChainAnswers.is_done}
+use Rattle.queue_steps.specs.{declared.steps.unbounded.UnboundedLocal.UnboundedLocal as chain, Words.position_of, Words.is_shut, ChainWords.items_before, Looks.reply_of_look, UnboundedNext.ends, UnboundedNext.loads, UnboundedNext.walks, UnboundedNext.walks_on, UnboundedNext.unbounded_next}
 use Rattle.queue_laws.specs.Chain.ChainCells.{Writer, Free, Writing, Reader, Unread, Reading, Done, Walker, Chain, ItemOk, WalkOk, item_at, LAST, ChainOk, reader_of}
-use Rattle.queue_laws.specs.Chain.ChainAnswers.{tail_word, is_done}
 use Rattle.queue_laws.proofs.Chain.ChainRanks.{lag, walk_rank, Falls}
 
 -- the walk goes on after a slot

@@ -1,26 +1,11 @@
 -- The steps of a pop that waits for its item and reads it.
-use Rattle.queue_laws.specs.Common.Vocabulary.{Call, Reply, Effect, Answer, BLOCK_SLOTS}
+use Rattle.queue_laws.specs.{Common.Vocabulary.Call, Common.Vocabulary.Reply, Common.Vocabulary.Effect, Common.Vocabulary.Answer, Common.Vocabulary.BLOCK_SLOTS, Chain.ChainTransitions.walk_after, Chain.ChainAnswers.IsState, Chain.ChainAnswers.is_wrote, Chain.ChainAnswers.waits_at, Chain.ChainAfter.if_read, Common.Puts.put, Chain.ChainFacts.head_of, Chain.ChainFacts.Got, Chain.ChainAt.Only, Chain.ChainAt.IsLast, Chain.ChainAt.awaiting, Chain.ChainAt.reading, Chain.ChainAt.beginning}
 use Rattle.std.proofs.lemmas.Bool.Decides.{eqb_tells}
-use Rattle.queue_steps.specs.State.{State}
-use Rattle.queue_steps.specs.declared.steps.unbounded.UnboundedLocal.TheVariants as chain
-use Rattle.queue_laws.proofs.Chain.ChainStepOk.{NextOk, StepOk, still, silent}
+use Rattle.queue_steps.specs.{State.State, declared.steps.unbounded.UnboundedLocal.UnboundedLocal as chain, UnboundedNext.written_found, ChainWords.offset_of}
+use Rattle.queue_laws.proofs.{Chain.ChainStepOk.NextOk, Chain.ChainStepOk.StepOk, Chain.ChainStepOk.still, Chain.ChainStepOk.silent, Chain.ChainReads.read_ok, Chain.ChainReads.walk_read, Chain.ChainReads.own_item, Chain.ChainReads.walk_after_ok, Chain.ChainReads.walked_same, Chain.ChainPassesReads.passes_reads, Chain.ChainHolds.after_read, Chain.ChainHolds.after_read_on, Common.Puts.put_ok, Common.Puts.put_same, Chain.ChainAnswers.head_offset, Chain.ChainWalk.after_mine, Chain.ChainWalk.on_goes}
 use Rattle.std.proofs.Common.{ℕ, ◌+◌, ◌/◌, ◌%◌, ◌<◌, ◌≡◌, ◌≢◌, ◌==◌, not, ◌∙◌, ◌⊎◌, inl, inr, Bool, true, false, if◌then◌else◌, Some, None, Ok, List, [], ◌∷◌, refl, sym, ap, subst, arith, bit_and}
 use Rattle.queue_laws.specs.Chain.ChainCells.{Writer, Wrote, Reading, Done, Walk, Waits, Chain, queue_of, value, WalkOk, item_at, LAST, ChainOk, Read, Passed, walker_of, HoldsOnly}
 use Rattle.queue_laws.specs.Chain.ChainTransitions as moves
-use Rattle.queue_laws.proofs.Chain.ChainReads.{read_ok, walk_read, own_item, walk_after_ok, walked_same}
-use Rattle.queue_laws.specs.Chain.ChainTransitions.{walk_after}
-use Rattle.queue_laws.proofs.Chain.ChainPassesReads.{passes_reads}
-use Rattle.queue_laws.specs.Chain.ChainAnswers.{IsState, is_wrote, waits_at}
-use Rattle.queue_laws.specs.Chain.ChainAfter.{if_read}
-use Rattle.queue_laws.proofs.Chain.ChainHolds.{after_read, after_read_on}
-use Rattle.queue_steps.specs.UnboundedNext.{written_found}
-use Rattle.queue_steps.specs.ChainWords.{offset_of}
-use Rattle.queue_laws.specs.Common.Puts.{put}
-use Rattle.queue_laws.proofs.Common.Puts.{put_ok, put_same}
-use Rattle.queue_laws.specs.Chain.ChainFacts.{head_of, Got}
-use Rattle.queue_laws.specs.Chain.ChainAt.{Only, IsLast, awaiting, reading, beginning}
-use Rattle.queue_laws.proofs.Chain.ChainAnswers.{head_offset}
-use Rattle.queue_laws.proofs.Chain.ChainWalk.{after_mine, on_goes}
 
 wrote_is : {A : Type 0} (w : Writer A) (x : A) → value w ≡ Some x → is_wrote w ≡ true → w ≡ Wrote x
 wrote_is (Wrote v) x e t = ap (λ y. Wrote y) (cc)

@@ -1,22 +1,8 @@
 -- A step of a call on a chain with all that follows it: the block that is given up with a reply, and the spare that is left.
 use Rattle.std.proofs.Common.{ℕ, ◌≡◌, Option, Some, None, List, [], ◌∷◌}
-use Rattle.queue_steps.specs.State.{State}
-use Rattle.queue_steps.specs.Kinds.{filled}
-use Rattle.queue_steps.specs.Replies.{Tells, Allows}
-use Rattle.queue_steps.specs.UnboundedNext.{FitsChain, unbounded_next}
-use Rattle.queue_laws.specs.Common.Vocabulary.{Call, Reply, Effect, Answer, Next, UnboundedLocal}
-use Rattle.queue_laws.specs.Common.Moments.{SeenIn}
-use Rattle.queue_laws.specs.Common.Effects.{Leads, with_effect}
-use Rattle.queue_laws.specs.Common.Stand.{Stand, stand}
-use Rattle.queue_laws.specs.Chain.ChainCells.{Chain, queue_of, ChainOk, HoldsOnly, Nothing}
-use Rattle.queue_laws.specs.Chain.ChainPasses.{Passes, spare_in, Spares}
-use Rattle.queue_laws.specs.Chain.ChainAt.{At}
-use Rattle.queue_laws.specs.Chain.ChainAnswers.{Answers}
-use Rattle.queue_laws.proofs.Chain.ChainStepOk.{GivesUp, NextOk, IsEffect}
-use Rattle.queue_laws.specs.Chain.ChainAfter.{chain_of, carried_of, after_of, left_by}
-use Rattle.queue_laws.proofs.Chain.ChainStep.{step_good}
-use Rattle.queue_laws.proofs.Chain.ChainGiven.{given_ok, passes_given, makes_given, holds_given}
-use Rattle.queue_laws.proofs.Chain.ChainSpares.{SparesAfter, step_spares}
+use Rattle.queue_steps.specs.{State.State, Kinds.filled, Replies.Tells, Replies.Allows, UnboundedNext.FitsChain, UnboundedNext.unbounded_next}
+use Rattle.queue_laws.specs.{Common.Vocabulary.Call, Common.Vocabulary.Reply, Common.Vocabulary.Effect, Common.Vocabulary.Answer, Common.Vocabulary.Next, Common.Vocabulary.UnboundedLocal, Common.Moments.SeenIn, Common.Effects.Leads, Common.Effects.with_effect, Common.Stand.Stand, Common.Stand.stand, Chain.ChainCells.Chain, Chain.ChainCells.queue_of, Chain.ChainCells.ChainOk, Chain.ChainCells.HoldsOnly, Chain.ChainCells.Nothing, Chain.ChainPasses.Passes, Chain.ChainPasses.spare_in, Chain.ChainPasses.Spares, Chain.ChainAt.At, Chain.ChainAnswers.Answers, Chain.ChainAfter.chain_of, Chain.ChainAfter.carried_of, Chain.ChainAfter.after_of, Chain.ChainAfter.left_by}
+use Rattle.queue_laws.proofs.Chain.{ChainStepOk.GivesUp, ChainStepOk.NextOk, ChainStepOk.IsEffect, ChainStep.step_good, ChainGiven.given_ok, ChainGiven.passes_given, ChainGiven.makes_given, ChainGiven.holds_given, ChainSpares.SparesAfter, ChainSpares.step_spares}
 
 -- what is given up with a reply is the call's to give
 abbrev pub Gives : {A : Type 0} → Chain A → ℕ → Next ℕ → Type 0

@@ -1,17 +1,9 @@
 -- At least the blocks that the items of a chain span are alive.
 use Rattle.std.proofs.Common.{ℕ, ◌+◌, ◌-◌, ◌/◌, ◌<◌, ◌≤◌, ◌≡◌, ◌≢◌, not, ◌∙◌, inl, inr, Bool, true, false, List, length, refl, ap, arith}
-use Rattle.queue_laws.specs.Common.Vocabulary.{BLOCK_SLOTS}
-use Rattle.queue_steps.specs.Sequential.{blocks_of}
-use Rattle.queue_steps.specs.Words.{position_of}
-use Rattle.queue_steps.specs.ChainWords.{items_before}
-use Rattle.queue_laws.specs.Common.Puts.{put}
-use Rattle.queue_laws.proofs.Common.Puts.{put_ok}
+use Rattle.queue_laws.specs.{Common.Vocabulary.BLOCK_SLOTS, Common.Puts.put, Chain.ChainAnswers.tail_word, Chain.ChainAnswers.head_word}
+use Rattle.queue_steps.specs.{Sequential.blocks_of, Words.position_of, ChainWords.items_before}
+use Rattle.queue_laws.proofs.{Common.Puts.put_ok, Chain.ChainAnswers.tail_items, Chain.ChainAnswers.head_items, Chain.ChainHands.HandOf, Chain.ChainHands.hand_is, Chain.ChainCount.is_given_up, Chain.ChainCount.is_alive, Chain.ChainCount.alive, Chain.Count.count, Chain.Count.count_all, Chain.Count.count_into}
 use Rattle.queue_laws.specs.Chain.ChainCells.{Writer, Wrote, Reader, Unread, Reading, Done, Mover, Rests, Laying, Opening, Walk, GivenUp, Use, Spare, Chained, Chain, queue_of, ItemOk, BlocksOk, WalkOk, item_at, LAST, ChainOk}
-use Rattle.queue_laws.specs.Chain.ChainAnswers.{tail_word, head_word}
-use Rattle.queue_laws.proofs.Chain.ChainAnswers.{tail_items, head_items}
-use Rattle.queue_laws.proofs.Chain.ChainHands.{HandOf, hand_is}
-use Rattle.queue_laws.proofs.Chain.ChainCount.{is_given_up, is_alive, alive}
-use Rattle.queue_laws.proofs.Chain.Count.{count, count_all, count_into}
 
 -- the place of a block among the chain's: a spare is the next one
 abbrev place_of : ℕ → Use → ℕ

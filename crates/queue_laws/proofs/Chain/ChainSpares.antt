@@ -1,26 +1,9 @@
 -- A party never has a spare but that in its call's hands.
 use Rattle.std.proofs.Common.{ℕ, ◌+◌, ◌/◌, ◌≡◌, ◌==◌, ◌∙◌, inl, inr, zero, suc, Bool, true, false, if◌then◌else◌, Option, Some, None, List, ◌∷◌, refl, sym, subst}
-use Rattle.queue_laws.specs.Common.Vocabulary.{Call, Effect, Answer, Next, PushKind, BLOCK_SLOTS, Look}
-use Rattle.queue_steps.specs.State.{State}
-use Rattle.queue_steps.specs.Looks.{call_of_look}
-use Rattle.queue_steps.specs.ChainWords.{offset_of}
-use Rattle.queue_steps.specs.UnboundedNext.{unbounded_next, chain_tail_found, tail_block_found, asks, claims, granted, lays, writes}
-use Rattle.queue_steps.specs.declared.steps.unbounded.UnboundedLocal.TheVariants as chain
-use Rattle.queue_laws.proofs.Common.Puts.{put_ok}
-use Rattle.queue_laws.specs.Common.Effects.{with_effect}
-use Rattle.queue_laws.specs.Common.Pushes.{pushes}
-use Rattle.queue_laws.specs.Common.Stand.{Stand}
-use Rattle.queue_laws.specs.Chain.ChainCells.{Spare, Chained, Chain, queue_of, item_at, ChainOk}
-use Rattle.queue_laws.specs.Chain.ChainTransitions.{laid_out, written, marked, renamed, walk_after, walked, given_up}
-use Rattle.queue_laws.specs.Chain.ChainFacts.{head_of, open_tail_of, HasSpare}
+use Rattle.queue_laws.specs.{Common.Vocabulary.Call, Common.Vocabulary.Effect, Common.Vocabulary.Answer, Common.Vocabulary.Next, Common.Vocabulary.PushKind, Common.Vocabulary.BLOCK_SLOTS, Common.Vocabulary.Look, Common.Effects.with_effect, Common.Pushes.pushes, Common.Stand.Stand, Chain.ChainCells.Spare, Chain.ChainCells.Chained, Chain.ChainCells.Chain, Chain.ChainCells.queue_of, Chain.ChainCells.item_at, Chain.ChainCells.ChainOk, Chain.ChainTransitions.laid_out, Chain.ChainTransitions.written, Chain.ChainTransitions.marked, Chain.ChainTransitions.renamed, Chain.ChainTransitions.walk_after, Chain.ChainTransitions.walked, Chain.ChainTransitions.given_up, Chain.ChainFacts.head_of, Chain.ChainFacts.open_tail_of, Chain.ChainFacts.HasSpare, Chain.ChainAnswers.Answers, Chain.ChainAnswers.tail_word, Chain.ChainAnswers.head_word, Chain.ChainAnswers.last_of, Chain.ChainAnswers.is_done, Chain.ChainAfter.if_installed, Chain.ChainAfter.claimed_if, Chain.ChainAfter.if_claimed, Chain.ChainAfter.taken_if, Chain.ChainAfter.chain_of, Chain.ChainAfter.carried_of, Chain.ChainAfter.if_granted, Chain.ChainAfter.after_of, Chain.ChainPasses.spare_in, Chain.ChainPasses.Spares}
+use Rattle.queue_steps.specs.{State.State, Looks.call_of_look, ChainWords.offset_of, UnboundedNext.unbounded_next, UnboundedNext.chain_tail_found, UnboundedNext.tail_block_found, UnboundedNext.asks, UnboundedNext.claims, UnboundedNext.granted, UnboundedNext.lays, UnboundedNext.writes, declared.steps.unbounded.UnboundedLocal.UnboundedLocal as chain}
+use Rattle.queue_laws.proofs.{Common.Puts.put_ok, Chain.ChainPush.tail_ways, Chain.ChainPush.none_spare, Chain.ChainStepOk.NextOk, Chain.ChainGiven.spares_given, Chain.ChainGiven.none_given, Chain.ChainStep.step_good}
 use Rattle.queue_laws.specs.Chain.ChainAt.{At, push_tail, push_block, asking, installing, showing, claiming, laying, opening, chaining, writing, spending, taking, walking, count_tail, count_head, count_again}
-use Rattle.queue_laws.specs.Chain.ChainAnswers.{Answers, tail_word, head_word, last_of, is_done}
-use Rattle.queue_laws.specs.Chain.ChainAfter.{if_installed, claimed_if, if_claimed, taken_if, chain_of, carried_of, if_granted, after_of}
-use Rattle.queue_laws.proofs.Chain.ChainPush.{tail_ways, none_spare}
-use Rattle.queue_laws.proofs.Chain.ChainStepOk.{NextOk}
-use Rattle.queue_laws.specs.Chain.ChainPasses.{spare_in, Spares}
-use Rattle.queue_laws.proofs.Chain.ChainGiven.{spares_given, none_given}
-use Rattle.queue_laws.proofs.Chain.ChainStep.{step_good}
 
 -- whether the call pushes
 abbrev is_push : {A : Type 0} → Call A → Bool

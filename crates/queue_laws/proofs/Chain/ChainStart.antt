@@ -1,15 +1,7 @@
 -- Where a call on a chain begins.
 use Rattle.std.proofs.Common.{ℕ, ◌≡◌, true, false, None, Some, List, [], refl}
-use Rattle.queue_steps.specs.State.{State}
-use Rattle.queue_steps.specs.Kinds.{call_kind, call_value, filled}
-use Rattle.queue_steps.specs.Looks.{has_steps}
-use Rattle.queue_steps.specs.Replies.{IsRightAt, Tells}
-use Rattle.queue_steps.specs.UnboundedNext.{unbounded_begin}
-use Rattle.queue_laws.specs.Common.Vocabulary.{Call, Reply, Next, Op, Touch, Word, PushKind}
-use Rattle.queue_laws.specs.Common.Stand.{stand}
-use Rattle.queue_laws.specs.Chain.ChainCells.{Chain, HoldsOnly, Nothing}
-use Rattle.queue_laws.specs.Chain.ChainPasses.{spare_in}
-use Rattle.queue_laws.specs.Chain.ChainAt.{At, push_tail, pop_head, count_tail, empty_head, closing, closed_tail}
+use Rattle.queue_steps.specs.{State.State, Kinds.call_kind, Kinds.call_value, Kinds.filled, Looks.has_steps, Replies.IsRightAt, Replies.Tells, UnboundedNext.unbounded_begin}
+use Rattle.queue_laws.specs.{Common.Vocabulary.Call, Common.Vocabulary.Reply, Common.Vocabulary.Next, Common.Vocabulary.Op, Common.Vocabulary.Touch, Common.Vocabulary.Word, Common.Vocabulary.PushKind, Common.Stand.stand, Chain.ChainCells.Chain, Chain.ChainCells.HoldsOnly, Chain.ChainCells.Nothing, Chain.ChainPasses.spare_in, Chain.ChainAt.At, Chain.ChainAt.push_tail, Chain.ChainAt.pop_head, Chain.ChainAt.count_tail, Chain.ChainAt.empty_head, Chain.ChainAt.closing, Chain.ChainAt.closed_tail}
 
 -- the operation is on one of the two positions
 abbrev pub OnPosition : Op ℕ → Type 0

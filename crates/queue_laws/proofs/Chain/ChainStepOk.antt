@@ -1,20 +1,8 @@
 -- What is owed of each step of a call on a chain.
 use Rattle.std.proofs.Common.{ℕ, ◌≡◌, ◌==◌, ◌⊎◌, inl, Option, Some, None, List, [], ◌∷◌, refl}
-use Rattle.queue_steps.specs.State.{State}
-use Rattle.queue_steps.specs.Kinds.{filled}
-use Rattle.queue_steps.specs.Replies.{Tells, Allows}
-use Rattle.queue_steps.specs.UnboundedNext.{FitsChain, unbounded_next}
-use Rattle.queue_laws.specs.Common.Vocabulary.{Call, Reply, Effect, Answer, Next, UnboundedLocal}
-use Rattle.queue_steps.specs.Words.{is_shut}
-use Rattle.queue_steps.specs.declared.steps.unbounded.UnboundedLocal.TheVariants as chain
-use Rattle.queue_laws.specs.Common.Moments.{SeenIn}
-use Rattle.queue_laws.specs.Common.Effects.{Leads, with_effect, Whether}
-use Rattle.queue_laws.specs.Common.Stand.{stand}
-use Rattle.queue_laws.specs.Chain.ChainCells.{Spare, GivenUp, Chain, queue_of, ChainOk, HoldsOnly, Nothing}
-use Rattle.queue_laws.specs.Chain.ChainPasses.{Passes}
+use Rattle.queue_steps.specs.{State.State, Kinds.filled, Replies.Tells, Replies.Allows, UnboundedNext.FitsChain, UnboundedNext.unbounded_next, Words.is_shut, declared.steps.unbounded.UnboundedLocal.UnboundedLocal as chain}
+use Rattle.queue_laws.specs.{Common.Vocabulary.Call, Common.Vocabulary.Reply, Common.Vocabulary.Effect, Common.Vocabulary.Answer, Common.Vocabulary.Next, Common.Vocabulary.UnboundedLocal, Common.Moments.SeenIn, Common.Effects.Leads, Common.Effects.with_effect, Common.Effects.Whether, Common.Stand.stand, Chain.ChainCells.Spare, Chain.ChainCells.GivenUp, Chain.ChainCells.Chain, Chain.ChainCells.queue_of, Chain.ChainCells.ChainOk, Chain.ChainCells.HoldsOnly, Chain.ChainCells.Nothing, Chain.ChainPasses.Passes, Chain.ChainFacts.IsNamed, Chain.ChainFacts.HasSpare, Chain.ChainAt.At}
 use Rattle.queue_laws.proofs.Chain.ChainPasses.{passes_same}
-use Rattle.queue_laws.specs.Chain.ChainFacts.{IsNamed, HasSpare}
-use Rattle.queue_laws.specs.Chain.ChainAt.{At}
 
 -- the block that a call gives up is its spare, or a passed one that nobody reads any more
 abbrev pub GivesUp : {A : Type 0} → Chain A → ℕ → Option ℕ → Type 0

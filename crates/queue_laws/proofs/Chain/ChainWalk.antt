@@ -1,24 +1,11 @@
 -- The steps of a pop that reads its item, and of the walk over a passed block.
-use Rattle.queue_laws.specs.Common.Vocabulary.{Call, Reply, Effect, Answer, BLOCK_SLOTS}
-use Rattle.std.proofs.lemmas.Bool.Decides.{eqb_tells}
-use Rattle.queue_steps.specs.State.{State}
-use Rattle.queue_steps.specs.declared.steps.unbounded.UnboundedLocal.TheVariants as chain
-use Rattle.queue_laws.proofs.Chain.ChainStepOk.{NextOk, StepOk, still, silent}
+use Rattle.queue_laws.specs.{Common.Vocabulary.Call, Common.Vocabulary.Reply, Common.Vocabulary.Effect, Common.Vocabulary.Answer, Common.Vocabulary.BLOCK_SLOTS, Chain.ChainTransitions.walk_after, Chain.ChainFacts.IsNamed, Chain.ChainAt.Only, Chain.ChainAt.walking, Chain.ChainAt.destroying, Chain.ChainAnswers.IsState, Chain.ChainAnswers.is_done, Chain.ChainAfter.if_walked, Chain.ChainAfter.if_destroyed}
+use Rattle.std.proofs.lemmas.Bool.{Decides.eqb_tells, lt-ltb, le-ltb}
+use Rattle.queue_steps.specs.{State.State, declared.steps.unbounded.UnboundedLocal.UnboundedLocal as chain, UnboundedNext.walks_on}
+use Rattle.queue_laws.proofs.{Chain.ChainStepOk.NextOk, Chain.ChainStepOk.StepOk, Chain.ChainStepOk.still, Chain.ChainStepOk.silent, Chain.ChainReads.walk_after_ok, Chain.ChainReads.walk_ok, Chain.ChainPassesReads.passes_walked, Chain.ChainAnswers.done_is, Chain.ChainHolds.after_walk, Chain.ChainHolds.after_walk_on, Common.Puts.put_same}
 use Rattle.std.proofs.Common.{ℕ, ◌+◌, ◌<◌, ◌≡◌, ◌≢◌, not, ◌∙◌, ◌⊎◌, inl, inr, Bool, true, false, if◌then◌else◌, Some, None, Ok, List, [], ◌∷◌, refl, sym, ap, subst, arith}
-use Rattle.queue_steps.specs.UnboundedNext.{walks_on}
 use Rattle.queue_laws.specs.Chain.ChainCells.{Reader, Unread, Done, Walker, Waits, GivenUp, Chain, queue_of, WalkOk, IsWalked, item_at, LAST, ChainOk, Passed, walker_of, HoldsOnly, Nothing}
 use Rattle.queue_laws.specs.Chain.ChainTransitions as moves
-use Rattle.queue_laws.proofs.Chain.ChainReads.{walk_after_ok, walk_ok}
-use Rattle.queue_laws.specs.Chain.ChainTransitions.{walk_after}
-use Rattle.queue_laws.proofs.Chain.ChainPassesReads.{passes_walked}
-use Rattle.queue_laws.specs.Chain.ChainFacts.{IsNamed}
-use Rattle.queue_laws.specs.Chain.ChainAt.{Only, walking, destroying}
-use Rattle.queue_laws.proofs.Chain.ChainAnswers.{done_is}
-use Rattle.queue_laws.specs.Chain.ChainAnswers.{IsState, is_done}
-use Rattle.queue_laws.specs.Chain.ChainAfter.{if_walked, if_destroyed}
-use Rattle.queue_laws.proofs.Chain.ChainHolds.{after_walk, after_walk_on}
-use Rattle.std.proofs.lemmas.Bool.{lt-ltb, le-ltb}
-use Rattle.queue_laws.proofs.Common.Puts.{put_same}
 
 -- whose the walk is after a slot
 pub after_walker : (who slot : ℕ) → ((walk_after who slot ≡ GivenUp) × (slot + 1 ≡ LAST)) ⊎ ((walk_after who slot ≡ Walker who (slot + 1)) × (slot + 1 ≢ LAST))

@@ -1,12 +1,8 @@
 -- A call of the only party that is in one: all that happened since it began is its own.
 use Rattle.std.proofs.Common.{◌≡◌, ◌||◌, not, ◌∙◌, inl, inr, Bool, true, false, Option, Some, None, List, [], ◌∷◌, ◌++◌, refl, sym, ap, subst}
-use Rattle.queue_steps.specs.State.{State}
-use Rattle.queue_steps.specs.Effect.{Fits, made, Runs, after_from}
-use Rattle.queue_laws.specs.Common.Vocabulary.{Effect}
-use Rattle.queue_laws.specs.Common.Effects.{Leads, MayFront, FrontOpen, with_effect}
-use Rattle.queue_laws.specs.Common.Moments.{SeenIn}
-use Rattle.queue_laws.proofs.Common.Runs.{after_snoc, runs_snoc}
-use Rattle.queue_laws.proofs.Common.Tests.{or_true, not_true}
+use Rattle.queue_steps.specs.{State.State, Effect.Fits, Effect.made, Effect.Runs, Effect.after_from}
+use Rattle.queue_laws.specs.Common.{Vocabulary.Effect, Effects.Leads, Effects.MayFront, Effects.FrontOpen, Effects.with_effect, Moments.SeenIn}
+use Rattle.queue_laws.proofs.Common.{Runs.after_snoc, Runs.runs_snoc, Tests.or_true, Tests.not_true}
 
 module _ {T : Type 0} where
   -- each moment is this one

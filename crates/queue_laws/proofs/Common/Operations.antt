@@ -1,7 +1,6 @@
 -- An operation on words is on a word of these.
 use Rattle.std.proofs.Common.{ℕ}
-use Rattle.queue_laws.specs.Common.Vocabulary.{Word, Op}
-use Rattle.queue_laws.specs.Common.Operations.{OnWord, op_word}
+use Rattle.queue_laws.specs.Common.{Vocabulary.Word, Vocabulary.Op, Operations.OnWord, Operations.op_word}
 
 pub has_word : (Has : Word ℕ → Type 0) (o : Op ℕ) → OnWord Has o → Has (op_word o)
 has_word Has (Op.LoadLink l) on = absurd on

@@ -1,12 +1,7 @@
 -- What the two calls that push answer, and that neither is wait-free.
 use Rattle.std.proofs.Common.{◌≡◌, inl, inr, true, false, Some, None, Ok, Err, [], ◌∷◌, refl}
-use Rattle.queue_steps.specs.State.{State}
-use Rattle.queue_steps.specs.Kinds.{filled}
-use Rattle.queue_steps.specs.WaitFree.{is_wait_free}
-use Rattle.queue_steps.specs.Replies.{Tells, IsRightAt}
-use Rattle.queue_steps.specs.BoundedNext.{closed_reply, pushed_reply}
-use Rattle.queue_laws.specs.Common.Vocabulary.{Reply, Effect, PushError, ForcePushError, PushKind}
-use Rattle.queue_laws.specs.Common.Pushes.{pushes}
+use Rattle.queue_steps.specs.{State.State, Kinds.filled, WaitFree.is_wait_free, Replies.Tells, Replies.IsRightAt, BoundedNext.closed_reply, BoundedNext.pushed_reply}
+use Rattle.queue_laws.specs.Common.{Vocabulary.Reply, Vocabulary.Effect, Vocabulary.PushError, Vocabulary.ForcePushError, Vocabulary.PushKind, Pushes.pushes}
 
 -- what a push answers that found the queue closed, or closed it
 pub closed_push : {A : Type 0} (d : PushKind) (v : A)

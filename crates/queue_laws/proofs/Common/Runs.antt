@@ -1,8 +1,7 @@
 -- Runs of effects in parts, and what none of them changes.
 use Rattle.std.proofs.Common.{◌≡◌, ℕ, List, [], ◌∷◌, ◌++◌, Option, refl, sym, subst, ◌∙◌}
 use mathlib.Core.List.{IsPrefix}
-use Rattle.queue_steps.specs.State.{State, start}
-use Rattle.queue_steps.specs.Effect.{Fits, made, Runs, after_from, after, IsHistory}
+use Rattle.queue_steps.specs.{State.State, State.start, Effect.Fits, Effect.made, Effect.Runs, Effect.after_from, Effect.after, Effect.IsHistory}
 use Rattle.queue_laws.specs.Common.Vocabulary.{Effect}
 
 module _ {T : Type 0} where

@@ -1,9 +1,7 @@
 -- What a tail, or a head with a mark, tells: its position, and whether it has the mark.
 use Rattle.std.proofs.Common.{ℕ, ◌+◌, ◌*◌, ◌%◌, ◌≡◌, ◌∙◌, inl, inr, Bool, true, false, sym, ap, arith, bit_and, bit_or}
 use Rattle.std.specs.Int.Bits.{or_add_and}
-use Rattle.std.proofs.lemmas.Bool.{ne_eqb, eq-eqb}
-use Rattle.std.proofs.lemmas.Bool.Decides.{eqb_tells}
-use Rattle.std.proofs.lemmas.Nat.{and_mask}
+use Rattle.std.proofs.lemmas.{Bool.ne_eqb, Bool.eq-eqb, Bool.Decides.eqb_tells, Nat.and_mask}
 use Rattle.queue_steps.specs.Words.{position_of, is_shut, tail_of}
 use Rattle.queue_laws.specs.Common.Vocabulary.{MARK, TAIL_STEP}
 

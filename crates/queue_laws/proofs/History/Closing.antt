@@ -1,14 +1,10 @@
 -- What is closed stays closed, and once it is empty too nothing happens any more.
 use Rattle.std.proofs.Common.{◌≡◌, ℕ, ◌+◌, Bool, cond, List, [], ◌∷◌, ◌++◌, length, Option, refl, ap, sym, subst, ◌∙◌, arith, append-nil}
 use mathlib.Core.List.{IsPrefix}
-use Rattle.queue_laws.specs.Common.Vocabulary.{Effect}
-use Rattle.queue_steps.specs.State.{State, start}
-use Rattle.queue_steps.specs.Effect.{Fits, made, Runs, IsHistory, after_from, after}
-use Rattle.queue_steps.specs.Replies.{Tells}
-use Rattle.queue_steps.specs.Parties.{StandAt}
+use Rattle.queue_laws.specs.{Common.Vocabulary.Effect, History.Histories.closings, History.Histories.ClosesOnce, History.Histories.IsDrained, History.Histories.EndsOnceDrained, History.Histories.EndsForParties}
+use Rattle.queue_steps.specs.{State.State, State.start, Effect.Fits, Effect.made, Effect.Runs, Effect.IsHistory, Effect.after_from, Effect.after, Replies.Tells, Parties.StandAt}
 use Rattle.queue_steps.proofs.Places.{below_at}
 use Rattle.queue_laws.proofs.Common.Runs.{runs_rest, history_before}
-use Rattle.queue_laws.specs.History.Histories.{closings, ClosesOnce, IsDrained, EndsOnceDrained, EndsForParties}
 
 module _ {T : Type 0} where
   closes_from : (Q : State T) (es : List (Effect T)) → Runs Q es → closings es + cond Q.closed 1 0 ≡ cond (after_from Q es).closed 1 0

@@ -1,9 +1,7 @@
 -- Where the items of a history are.
 use Rattle.std.proofs.Common.{◌≡◌, ◌+◌, true, List, [], ◌∷◌, ◌++◌, length, Option, Some, None, refl, ap, sym, ◌∙◌, arith, append_assoc, append-nil, length-append}
-use Rattle.queue_laws.specs.Common.Vocabulary.{Effect}
-use Rattle.queue_steps.specs.State.{State, start, is_single_cap}
-use Rattle.queue_steps.specs.Effect.{Fits, made, rest, with_coming, Runs, after_from, after}
-use Rattle.queue_laws.specs.History.Histories.{handed_in, handed_out, KeepsAll, KeepsOrder}
+use Rattle.queue_laws.specs.{Common.Vocabulary.Effect, History.Histories.handed_in, History.Histories.handed_out, History.Histories.KeepsAll, History.Histories.KeepsOrder}
+use Rattle.queue_steps.specs.{State.State, State.start, State.is_single_cap, Effect.Fits, Effect.made, Effect.rest, Effect.with_coming, Effect.Runs, Effect.after_from, Effect.after}
 
 module _ {T : Type 0} where
   -- the list, and behind it the item on its way in

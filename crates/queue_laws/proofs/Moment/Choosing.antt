@@ -1,7 +1,6 @@
 -- What stands before an event, and what is a call's own, in a history and in what it settles into.
 use Rattle.std.proofs.Common.{◌≡◌, ◌⊎◌, ℕ, ◌+◌, ◌≤◌, nat_lt, Bool, true, false, not, if◌then◌else◌, List, [], ◌∷◌, ◌++◌, refl, ap, sym, ◌∙◌, inl, inr, arith}
-use Rattle.queue_laws.specs.Common.Vocabulary.{Effect}
-use Rattle.queue_laws.specs.Moment.Moments.{displacements, others, settled}
+use Rattle.queue_laws.specs.{Common.Vocabulary.Effect, Moment.Moments.displacements, Moment.Moments.others, Moment.Moments.settled}
 use Rattle.queue_laws.specs.Moment.Entries.{Entry, chosen, effects_in, front_first, fronts_at, other_first, other_entries, settle_first, settle}
 use Rattle.queue_laws.proofs.Moment.Naming.{entry, Rising, Flat, settle_flat}
 

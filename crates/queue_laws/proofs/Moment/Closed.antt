@@ -1,9 +1,7 @@
 -- What is displaced after a close might be displaced just before it.
 use Rattle.std.proofs.Common.{◌≡◌, ◌⊎◌, ℕ, ◌+◌, ◌<◌, ◌≤◌, Bool, true, false, List, [], ◌∷◌, ◌++◌, length, Option, Some, None, refl, ap, sym, ◌∙◌, subst, inl, inr, arith, length-append}
-use Rattle.queue_laws.specs.Common.Vocabulary.{Effect}
-use Rattle.queue_steps.specs.State.{State, fills}
-use Rattle.queue_steps.specs.Effect.{Fits, made, rest, with_coming, Runs, after_from}
-use Rattle.queue_laws.specs.Moment.Moments.{RunsAtOnce, displacements, others, with_one, arrived}
+use Rattle.queue_laws.specs.{Common.Vocabulary.Effect, Moment.Moments.RunsAtOnce, Moment.Moments.displacements, Moment.Moments.others, Moment.Moments.with_one, Moment.Moments.arrived}
+use Rattle.queue_steps.specs.{State.State, State.fills, Effect.Fits, Effect.made, Effect.rest, Effect.with_coming, Effect.Runs, Effect.after_from}
 
 abbrev pub many : {T : Type 0} → Option T → ℕ
 many None = 0

@@ -1,14 +1,7 @@
 -- The examples hold.
 use Rattle.std.proofs.Common.{◌≡◌, ℕ, ◌+◌, ◌<◌, nat_lt, if◌then◌else◌, true, false, List, [], ◌∷◌, length, Some, None, Ok, Err, refl, ap, sym, ◌∙◌, inl, inr, arith}
-use Rattle.queue_laws.specs.Common.Vocabulary.{Call, Reply, Effect, PushError, ForcePushError}
-use Rattle.queue_steps.specs.State.{State, start}
-use Rattle.queue_steps.specs.Effect.{Runs, IsHistory, after}
-use Rattle.queue_steps.specs.Replies.{Allows, LacksMemory}
-use Rattle.queue_steps.specs.Sequential.{Owned, fresh, Sequential, sequential_reply, sequential_state}
-use Rattle.queue_laws.specs.Moment.Moments.{IsAtOnce, RunsAtOnce}
-use Rattle.queue_laws.specs.Moment.Entries.{state_before}
-use Rattle.queue_laws.specs.Moment.Shared.{settled_history}
-use Rattle.queue_laws.specs.Moment.Examples.{filled, displacing, NoOrder, Examples}
+use Rattle.queue_laws.specs.{Common.Vocabulary.Call, Common.Vocabulary.Reply, Common.Vocabulary.Effect, Common.Vocabulary.PushError, Common.Vocabulary.ForcePushError, Moment.Moments.IsAtOnce, Moment.Moments.RunsAtOnce, Moment.Entries.state_before, Moment.Shared.settled_history, Moment.Examples.filled, Moment.Examples.displacing, Moment.Examples.NoOrder, Moment.Examples.Examples}
+use Rattle.queue_steps.specs.{State.State, State.start, Effect.Runs, Effect.IsHistory, Effect.after, Replies.Allows, Replies.LacksMemory, Sequential.Owned, Sequential.fresh, Sequential.Sequential, Sequential.sequential_reply, Sequential.sequential_state}
 
 -- the ring with 1 and 2 in it
 abbrev full : State ℕ

@@ -1,8 +1,7 @@
 -- Cases: a place before another or not; a glance at the middle of a displacement or none.
 use Rattle.std.proofs.Common.{◌≡◌, ◌⊎◌, ℕ, ◌<◌, ◌≤◌, Option, Some, None, refl, inl, inr, arith}
 use Rattle.queue_steps.specs.State.{State}
-use Rattle.queue_laws.specs.Common.Vocabulary.{Call}
-use Rattle.queue_laws.specs.Moment.Moments.{IsGlance}
+use Rattle.queue_laws.specs.{Common.Vocabulary.Call, Moment.Moments.IsGlance}
 
 pub cases_before : (k n : ℕ) → (k < n) ⊎ (n ≤ k)
 cases_before k n = grind arith

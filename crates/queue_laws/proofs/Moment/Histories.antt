@@ -1,15 +1,9 @@
 -- A history settles into one whose displacements are moments, with the same calls.
 use Rattle.std.proofs.Common.{◌≡◌, ℕ, ◌<◌, List, [], Option, None, refl, ap, sym, ◌∙◌, subst, inl, arith, append-nil}
 use Rattle.std.specs.List.{AllPairs}
-use Rattle.queue_laws.specs.Common.Vocabulary.{Call, Reply, Effect}
-use Rattle.queue_steps.specs.Effect.{IsHistory, after}
-use Rattle.queue_steps.specs.Replies.{Allows}
-use Rattle.queue_laws.specs.Moment.Moments.{IsAtOnce, IsGlance, OneMoment}
-use Rattle.queue_laws.specs.Moment.Entries.{Entry, effects_in, state_before, settle, HistoriesSettle}
-use Rattle.queue_laws.proofs.Moment.Answering.{displaces_at_once}
-use Rattle.queue_laws.proofs.Moment.Naming.{Rising, effects_settle, settle_flat, flat_pairs, pairs_rising}
-use Rattle.queue_laws.proofs.Moment.Choosing.{before, later, both_parts, settle_before}
-use Rattle.queue_laws.proofs.Moment.Owning.{own_same, own_begun}
+use Rattle.queue_laws.specs.{Common.Vocabulary.Call, Common.Vocabulary.Reply, Common.Vocabulary.Effect, Moment.Moments.IsAtOnce, Moment.Moments.IsGlance, Moment.Moments.OneMoment, Moment.Entries.Entry, Moment.Entries.effects_in, Moment.Entries.state_before, Moment.Entries.settle, Moment.Entries.HistoriesSettle}
+use Rattle.queue_steps.specs.{Effect.IsHistory, Effect.after, Replies.Allows}
+use Rattle.queue_laws.proofs.Moment.{Answering.displaces_at_once, Naming.Rising, Naming.effects_settle, Naming.settle_flat, Naming.flat_pairs, Naming.pairs_rising, Choosing.before, Choosing.later, Choosing.both_parts, Choosing.settle_before, Owning.own_same, Owning.own_begun}
 
 module _ {T : Type 0} where
   pub rising : (H : List (Entry T)) → AllPairs (λ x y. x.event < y.event) H → Rising 0 H

@@ -1,17 +1,9 @@
 -- An order of whole calls whose effects are a history of moments is a run of the table of one owner.
 use Rattle.std.proofs.Common.{◌≡◌, ℕ, List, [], ◌∷◌, ◌++◌, Option, refl, ap, sym, ◌∙◌, subst, inl, inr, append-nil}
-use Rattle.queue_steps.specs.State.{State, start}
-use Rattle.queue_laws.specs.Common.Vocabulary.{Effect}
-use Rattle.queue_steps.specs.Effect.{made, Runs, IsHistory, after_from, after}
-use Rattle.queue_steps.specs.Legal.{IsShown}
-use Rattle.queue_steps.specs.Sequential.{Owned, fresh, SequentialRun}
-use Rattle.queue_laws.specs.Moment.Moments.{RunsAtOnce, IsAtOnce, OneMoment, others, settled, arrived}
+use Rattle.queue_steps.specs.{State.State, State.start, Effect.made, Effect.Runs, Effect.IsHistory, Effect.after_from, Effect.after, Legal.IsShown, Sequential.Owned, Sequential.fresh, Sequential.SequentialRun}
+use Rattle.queue_laws.specs.{Common.Vocabulary.Effect, Moment.Moments.RunsAtOnce, Moment.Moments.IsAtOnce, Moment.Moments.OneMoment, Moment.Moments.others, Moment.Moments.settled, Moment.Moments.arrived, Common.Effects.FrontOpen}
 use Rattle.queue_laws.specs.Moment.Orders.{Whole, calls_of, replies_of, effects_of, IsOrder, RunsAsOne, OrdersAreRuns, one_by_one, SettledIsRun}
-use Rattle.queue_laws.proofs.Moment.Answering.{displaces_at_once}
-use Rattle.queue_laws.proofs.Moment.Owning.{IsFew, is_few}
-use Rattle.queue_laws.specs.Common.Effects.{FrontOpen}
-use Rattle.queue_laws.proofs.Common.Runs.{after_rest}
-use Rattle.queue_laws.proofs.Moment.Table.{Agrees, Done, finish}
+use Rattle.queue_laws.proofs.{Moment.Answering.displaces_at_once, Moment.Owning.IsFew, Moment.Owning.is_few, Common.Runs.after_rest, Moment.Table.Agrees, Moment.Table.Done, Moment.Table.finish}
 
 module _ {T : Type 0} where
   -- the effects of the first call run alone, and leave a history of moments

@@ -1,13 +1,10 @@
 -- The effects of one call stay its own where a history settles.
 use Rattle.std.proofs.Common.{◌≡◌, ◌⊎◌, ℕ, Bool, false, List, [], ◌∷◌, ◌++◌, refl, ap, sym, ◌∙◌, subst, inl, inr, append-nil}
-use Rattle.queue_laws.specs.Common.Vocabulary.{Call, Reply, Effect}
-use Rattle.queue_steps.specs.Replies.{Tells}
-use Rattle.queue_steps.specs.Effect.{rest}
+use Rattle.queue_laws.specs.{Common.Vocabulary.Call, Common.Vocabulary.Reply, Common.Vocabulary.Effect, Moment.Moments.displacements, Moment.Moments.others}
+use Rattle.queue_steps.specs.{Replies.Tells, Effect.rest}
 use Rattle.queue_laws.proofs.Common.TellsAs.{TellsAs, nothing, append, take, replace, displace, close, self_close, tells_as}
-use Rattle.queue_laws.specs.Moment.Moments.{displacements, others}
 use Rattle.queue_laws.specs.Moment.Entries.{Entry, front_first, fronts_at, other_entries, settle_first, settle, SeesNoMove, KeepsFronts, own_of}
-use Rattle.queue_laws.proofs.Moment.Naming.{entry}
-use Rattle.queue_laws.proofs.Moment.Choosing.{bool_or, chosen_yes, chosen_not, chosen_append, chosen_others, keeps_plain, drops_part}
+use Rattle.queue_laws.proofs.Moment.{Naming.entry, Choosing.bool_or, Choosing.chosen_yes, Choosing.chosen_not, Choosing.chosen_append, Choosing.chosen_others, Choosing.keeps_plain, Choosing.drops_part}
 
 module _ {T : Type 0} where
   abbrev passes : (ℕ → ℕ → Bool) → Entry T → Bool

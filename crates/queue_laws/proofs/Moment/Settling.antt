@@ -1,10 +1,8 @@
 -- A history settles into one whose displacements are moments.
 use Rattle.std.proofs.Common.{◌≡◌, ◌⊎◌, ℕ, ◌+◌, ◌<◌, Bool, true, false, List, [], ◌∷◌, ◌++◌, length, Option, Some, None, refl, ap, sym, ◌∙◌, subst, inl, inr, arith, length-append, append_assoc}
 use mathlib.Core.List.{IsPrefix}
-use Rattle.queue_laws.specs.Common.Vocabulary.{Effect, LIMIT}
-use Rattle.queue_steps.specs.State.{State, start, fills, is_single_cap}
-use Rattle.queue_steps.specs.Effect.{Fits, made, with_coming, Runs, after_from}
-use Rattle.queue_laws.specs.Moment.Moments.{RunsAtOnce, displacements, others, settled, arrived}
+use Rattle.queue_laws.specs.{Common.Vocabulary.Effect, Common.Vocabulary.LIMIT, Moment.Moments.RunsAtOnce, Moment.Moments.displacements, Moment.Moments.others, Moment.Moments.settled, Moment.Moments.arrived}
+use Rattle.queue_steps.specs.{State.State, State.start, State.fills, State.is_single_cap, Effect.Fits, Effect.made, Effect.with_coming, Effect.Runs, Effect.after_from}
 use Rattle.queue_laws.proofs.Moment.Closed.{many, held, Fit, take_first, arrived_none, arrived_arrive, arrived_take, held_front, held_arrive, held_less, reopened, Agrees, agrees_arrived, Closes, close_settles}
 
 fit_less : (cap : Option ℕ) (n m : ℕ) → n ≡ m + 1 → Fit cap n → Fit cap m

@@ -1,28 +1,14 @@
 -- A shared call stands in what the history of its queue settles into.
 use Rattle.std.proofs.Common.{◌≡◌, ◌⊎◌, ℕ, zero, suc, ◌+◌, ◌<◌, ◌≤◌, ◌&&◌, ◌||◌, nat_lt, nat_le, Bool, true, false, Option, List, [], ◌∷◌, ◌++◌, length, refl, ap, sym, ◌∙◌, subst, inl, inr, arith, append-nil, append_assoc, length-append}
 use Rattle.std.specs.List.{All, AllPairs, AllByRecursion}
-use Rattle.std.proofs.lemmas.List.Elements.{All-nil, All-cons}
-use Rattle.std.proofs.lemmas.List.Kept.{AllPairs-cons}
-use Rattle.std.proofs.lemmas.Bool.Decides.{eqb_tells}
+use Rattle.std.proofs.lemmas.{List.Elements.All-nil, List.Elements.All-cons, List.Kept.AllPairs-cons, Bool.Decides.eqb_tells}
 use mathlib.Core.Option.{some, some-injective}
 use mathlib.Core.List.{IsPrefix}
 use lib.ListN.{get_elem?}
-use Rattle.queue_steps.specs.State.{State, start}
-use Rattle.queue_steps.specs.Effect.{IsHistory, after}
-use Rattle.queue_steps.specs.Replies.{Allows, Tells}
-use Rattle.queue_laws.specs.Common.Vocabulary.{Call, Reply, Effect}
-use Rattle.queue_steps.specs.Parties.{View, StandAt, Displaces, SharedCall}
+use Rattle.queue_steps.specs.{State.State, State.start, Effect.IsHistory, Effect.after, Replies.Allows, Replies.Tells, Parties.View, Parties.StandAt, Parties.Displaces, Parties.SharedCall}
+use Rattle.queue_laws.specs.{Common.Vocabulary.Call, Common.Vocabulary.Reply, Common.Vocabulary.Effect, Moment.Moments.arrived, Moment.Moments.displacements, Moment.Entries.Entry, Moment.Entries.chosen, Moment.Entries.effects_in, Moment.Entries.state_before, Moment.Entries.SeesNoMove, Moment.Entries.KeepsFronts, Moment.Entries.own_of, Moment.Entries.SettlesInto, Moment.Shared.numbered, Moment.Shared.settled_history, Moment.Shared.is_one_of, Moment.Shared.is_own, Moment.Shared.CallsAtOnce, Moment.Shared.SharedCallsAtOnce}
 use Rattle.queue_steps.proofs.Places.{below_at}
-use Rattle.queue_laws.specs.Moment.Moments.{arrived, displacements}
-use Rattle.queue_laws.specs.Moment.Entries.{Entry, chosen, effects_in, state_before, SeesNoMove, KeepsFronts, own_of, SettlesInto}
-use Rattle.queue_laws.specs.Moment.Shared.{numbered, settled_history, is_one_of, is_own, CallsAtOnce, SharedCallsAtOnce}
-use Rattle.queue_laws.proofs.Moment.Naming.{Rising}
-use Rattle.queue_laws.proofs.Moment.Choosing.{bool_or, chosen_yes, chosen_not}
-use Rattle.queue_laws.proofs.Moment.Owning.{IsFew, is_few, head_of, tail_of}
-use Rattle.queue_laws.proofs.Moment.Histories.{histories_settle}
-use Rattle.queue_laws.proofs.Moment.Shut.{closed_within}
-use Rattle.queue_laws.proofs.Moment.Together.{within_is, settle_paired, stands_together}
-use Rattle.queue_laws.proofs.Moment.Glances.{cases_before, middle_or}
+use Rattle.queue_laws.proofs.Moment.{Naming.Rising, Choosing.bool_or, Choosing.chosen_yes, Choosing.chosen_not, Owning.IsFew, Owning.is_few, Owning.head_of, Owning.tail_of, Histories.histories_settle, Shut.closed_within, Together.within_is, Together.settle_paired, Together.stands_together, Glances.cases_before, Glances.middle_or}
 
 within_all : (a b k : ℕ) → a ≤ k → k < b → (nat_le a k && nat_lt k b) ≡ true
 within_all a b k le lt = grind arith

@@ -3,10 +3,8 @@ use Rattle.std.proofs.Common.{◌≡◌, ◌⊎◌, ℕ, zero, suc, ◌<◌, Boo
 use Rattle.std.specs.List.{AllByRecursion}
 use mathlib.Core.Option.{some, some-injective}
 use lib.ListN.{get_elem?}
-use Rattle.queue_steps.specs.State.{State}
-use Rattle.queue_steps.specs.Effect.{made, after_from}
-use Rattle.queue_laws.specs.Common.Vocabulary.{Effect}
-use Rattle.queue_laws.specs.Moment.Entries.{Entry, chosen}
+use Rattle.queue_steps.specs.{State.State, Effect.made, Effect.after_from}
+use Rattle.queue_laws.specs.{Common.Vocabulary.Effect, Moment.Entries.Entry, Moment.Entries.chosen}
 use Rattle.queue_laws.proofs.Moment.Choosing.{bool_or, chosen_yes, chosen_not}
 
 -- x is one of these

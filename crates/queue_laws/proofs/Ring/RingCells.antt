@@ -1,9 +1,8 @@
 -- Positions a lap apart or less, and what claiming and letting go of a slot leaves of what a party holds.
 use Rattle.std.proofs.Common.{ℕ, ◌+◌, ◌*◌, ◌/◌, ◌%◌, ◌<◌, ◌≤◌, ◌≡◌, ◌≢◌, ◌∙◌, ◌⊎◌, inl, inr, Some, None, refl, sym, ap, arith}
 use Rattle.std.proofs.Math.Nat.{add-mul-mod_self_left, div-add-mod, mul-le-mul_left}
-use Rattle.queue_laws.specs.Common.Puts.{put}
+use Rattle.queue_laws.specs.{Common.Puts.put, Ring.RingCells.Cell, Ring.RingCells.owner, Ring.RingCells.HoldsNone, Ring.RingCells.HoldsOne}
 use Rattle.queue_laws.proofs.Common.Puts.{put_ok, put_other, put_same}
-use Rattle.queue_laws.specs.Ring.RingCells.{Cell, owner, HoldsNone, HoldsOne}
 
 -- two positions less than a lap apart have slots of their own
 pub apart : (n p t : ℕ) → 0 < n → p < t → t < p + n → p % n ≢ t % n

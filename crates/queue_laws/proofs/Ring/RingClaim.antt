@@ -1,32 +1,11 @@
 -- The later steps of a push into a ring: the exchange of the tail, the write, the answer of a full queue, and the mark of a spent one.
 use Rattle.std.proofs.Common.{ℕ, ◌+◌, ◌%◌, ◌<◌, ◌≤◌, ◌≡◌, ◌≢◌, ◌==◌, ◌||◌, not, ◌∙◌, ◌⊎◌, inl, inr, Bool, true, false, if◌then◌else◌, Some, None, Err, List, [], ◌∷◌, length, refl, sym, ap, subst, arith, get_or}
-use Rattle.std.proofs.lemmas.Bool.{eq-eqb}
-use Rattle.std.proofs.lemmas.Bool.Decides.{eqb_tells}
+use Rattle.std.proofs.lemmas.Bool.{eq-eqb, Decides.eqb_tells}
 use Rattle.queue_laws.specs.Common.Vocabulary.{Call, Reply, Effect, PushError, Word, Op, Touch, Local, Next, PushKind, LIMIT, MARK, TAIL_STEP}
-use Rattle.queue_steps.specs.State.{State}
-use Rattle.queue_steps.specs.Replies.{IsRightAt}
-use Rattle.queue_steps.specs.Words.{IsWord, position_of, is_shut, tail_of, slot_at, stamp_filled}
-use Rattle.queue_steps.specs.BoundedNext.{loads, ends, tail_found}
-use Rattle.queue_steps.specs.declared.steps.bounded.BoundedLocal.TheVariants as ring
-use Rattle.queue_laws.proofs.Common.Tails.{shut_tail, next_tail, same_tail, open_tail}
-use Rattle.queue_laws.proofs.Common.Moments.{seen_map}
-use Rattle.queue_laws.specs.Common.Pushes.{pushes}
-use Rattle.queue_laws.proofs.Common.Pushes.{closed_push, appended_push}
-use Rattle.queue_laws.specs.Ring.RingShared.{Shared}
+use Rattle.queue_steps.specs.{State.State, Replies.IsRightAt, Words.IsWord, Words.position_of, Words.is_shut, Words.tail_of, Words.slot_at, Words.stamp_filled, BoundedNext.loads, BoundedNext.ends, BoundedNext.tail_found, declared.steps.bounded.BoundedLocal.BoundedLocal as ring}
+use Rattle.queue_laws.proofs.{Common.Tails.shut_tail, Common.Tails.next_tail, Common.Tails.same_tail, Common.Tails.open_tail, Common.Moments.seen_map, Common.Pushes.closed_push, Common.Pushes.appended_push, Ring.RingCells.claims, Ring.RingCells.lets_go, Ring.RingTransitions.in_ring, Ring.RingTransitions.append_ok, Ring.RingTransitions.write_ok, Ring.RingTransitions.not_single, Ring.RingPasses.passes_append, Ring.RingPasses.passes_written, Ring.RingWords.head_small, Ring.RingHands.Claims, Ring.RingHands.Returns, Ring.RingRanks.pick, Ring.RingStepOk.NextOk, Ring.RingStepOk.Stays, Ring.RingStepOk.StepOk, Ring.RingStepOk.still, Ring.RingStepOk.marks, Ring.RingStepOk.marks_closed, Ring.RingSlots.codes_claim, Ring.RingSlots.codes_store, Ring.RingPush.tail_goes, Ring.RingPush.tail_word, Ring.RingPush.saw_word}
+use Rattle.queue_laws.specs.{Common.Pushes.pushes, Ring.RingShared.Shared, Ring.RingTransitions.appended, Ring.RingTransitions.written, Ring.RingTransitions.marked, Ring.RingAt.TailWas, Ring.RingAt.FreeAt, Ring.RingAt.SawTail, Ring.RingAt.stores, Ring.RingAt.push_tail, Ring.RingAt.filling, Ring.RingWords.Codes, Ring.RingWords.item_in, Common.Stand.brings}
 use Rattle.queue_laws.specs.Ring.RingCells.{Free, Written, Full, Ring, queue_of, RingOk, owner, HoldsNone, HoldsOne}
-use Rattle.queue_laws.proofs.Ring.RingCells.{claims, lets_go}
-use Rattle.queue_laws.proofs.Ring.RingTransitions.{in_ring, append_ok, write_ok, not_single}
-use Rattle.queue_laws.specs.Ring.RingTransitions.{appended, written, marked}
-use Rattle.queue_laws.proofs.Ring.RingPasses.{passes_append, passes_written}
-use Rattle.queue_laws.specs.Ring.RingAt.{TailWas, FreeAt, SawTail, stores, push_tail, filling}
-use Rattle.queue_laws.specs.Ring.RingWords.{Codes, item_in}
-use Rattle.queue_laws.proofs.Ring.RingWords.{head_small}
-use Rattle.queue_laws.proofs.Ring.RingHands.{Claims, Returns}
-use Rattle.queue_laws.proofs.Ring.RingRanks.{pick}
-use Rattle.queue_laws.proofs.Ring.RingStepOk.{NextOk, Stays, StepOk, still, marks, marks_closed}
-use Rattle.queue_laws.specs.Common.Stand.{brings}
-use Rattle.queue_laws.proofs.Ring.RingSlots.{codes_claim, codes_store}
-use Rattle.queue_laws.proofs.Ring.RingPush.{tail_goes, tail_word, saw_word}
 
 module _ {A : Type 0} {cap : ℕ} {r : Ring A} {who : ℕ} {s : Shared A} {ms : List (State A)} {was : Bool} (ok : RingOk cap r) (codes : Codes cap r s) where
   pub good_claiming : (d : PushKind) (v : A) (t : ℕ)

@@ -1,13 +1,8 @@
 -- A call on a ring that has had no effect yet has no slot, and still carries its own value: so its party may give it up.
 use Rattle.std.proofs.Common.{ℕ, ◌≡◌, Bool, Some, List, [], refl, sym}
-use Rattle.queue_steps.specs.State.{State}
-use Rattle.queue_steps.specs.Kinds.{call_value}
+use Rattle.queue_steps.specs.{State.State, Kinds.call_value}
 use Rattle.queue_steps.proofs.LookLaws.{look_value}
-use Rattle.queue_laws.specs.Common.Vocabulary.{PushKind}
-use Rattle.queue_laws.specs.Common.Pushes.{pushes}
-use Rattle.queue_laws.specs.Common.Stand.{Stand}
-use Rattle.queue_laws.specs.Ring.RingCells.{Ring, HoldsNone}
-use Rattle.queue_laws.specs.Ring.RingEarly.{IsEarly}
+use Rattle.queue_laws.specs.{Common.Vocabulary.PushKind, Common.Pushes.pushes, Common.Stand.Stand, Ring.RingCells.Ring, Ring.RingCells.HoldsNone, Ring.RingEarly.IsEarly}
 use Rattle.queue_laws.proofs.Ring.RingStart.{holds_none}
 use Rattle.queue_laws.specs.Ring.RingAt.{At, push_tail, push_stamp, claiming, filling, arriving, swapping, spending, emptying, count_tail, count_head, count_again}
 

@@ -1,27 +1,11 @@
 -- The steps of a push that displaces the front of a full ring.
 use Rattle.std.proofs.Common.{ℕ, ◌+◌, ◌-◌, ◌%◌, ◌^◌, ◌<◌, ◌≡◌, ◌≢◌, ◌==◌, ◌||◌, not, ◌∙◌, ◌⊎◌, inl, inr, Bool, true, false, Some, None, Ok, List, [], ◌∷◌, refl, sym, ap, subst, arith, get_or}
-use Rattle.std.proofs.lemmas.Bool.{eq-eqb, ne_eqb}
-use Rattle.std.proofs.lemmas.Bool.Decides.{eqb_tells}
+use Rattle.std.proofs.lemmas.Bool.{eq-eqb, ne_eqb, Decides.eqb_tells}
 use Rattle.queue_laws.specs.Common.Vocabulary.{Call, Reply, Effect, Word, Op, Touch, Local, Next, PushKind, LIMIT, TAIL_STEP}
-use Rattle.queue_steps.specs.State.{State}
-use Rattle.queue_steps.specs.Words.{IsWord, position_of, slot_at, stamp_filled}
-use Rattle.queue_steps.specs.declared.steps.bounded.BoundedLocal.TheVariants as ring
-use Rattle.queue_laws.specs.Common.Puts.{put}
-use Rattle.queue_laws.proofs.Common.Tails.{next_tail}
-use Rattle.queue_laws.specs.Ring.RingShared.{Shared}
+use Rattle.queue_steps.specs.{State.State, Words.IsWord, Words.position_of, Words.slot_at, Words.stamp_filled, declared.steps.bounded.BoundedLocal.BoundedLocal as ring}
+use Rattle.queue_laws.specs.{Common.Puts.put, Ring.RingShared.Shared, Ring.RingTransitions.fronted, Ring.RingTransitions.arrived, Ring.RingTransitions.written, Ring.RingAt.FullAt, Ring.RingAt.SawTail, Ring.RingAt.stores, Ring.RingAt.push_tail, Ring.RingAt.arriving, Ring.RingAt.swapping, Ring.RingWords.Codes, Ring.RingWords.item_in, Common.Stand.Stand, Common.Stand.stand, Common.Stand.brings}
+use Rattle.queue_laws.proofs.{Common.Tails.next_tail, Ring.RingCells.wraps, Ring.RingCells.claims, Ring.RingCells.keeps_on, Ring.RingCells.lets_go, Ring.RingTransitions.in_ring, Ring.RingTransitions.front_ok, Ring.RingTransitions.arrive_ok, Ring.RingTransitions.swap_ok, Ring.RingPasses.passes_front, Ring.RingPasses.passes_arrive, Ring.RingPasses.passes_written, Ring.RingWords.word_small, Ring.RingWords.head_small, Ring.RingHands.Claims, Ring.RingHands.GoesOn, Ring.RingHands.Returns, Ring.RingStepOk.NextOk, Ring.RingStepOk.StepOk, Ring.RingStepOk.still, Ring.RingSlots.codes_claim, Ring.RingSlots.codes_store, Ring.RingPush.tail_word, Ring.RingPush.saw_word}
 use Rattle.queue_laws.specs.Ring.RingCells.{owner, Full, Coming, Swapped, Ring, queue_of, CellOk, RingOk, HoldsNone, HoldsOne}
-use Rattle.queue_laws.proofs.Ring.RingCells.{wraps, claims, keeps_on, lets_go}
-use Rattle.queue_laws.proofs.Ring.RingTransitions.{in_ring, front_ok, arrive_ok, swap_ok}
-use Rattle.queue_laws.specs.Ring.RingTransitions.{fronted, arrived, written}
-use Rattle.queue_laws.proofs.Ring.RingPasses.{passes_front, passes_arrive, passes_written}
-use Rattle.queue_laws.specs.Ring.RingAt.{FullAt, SawTail, stores, push_tail, arriving, swapping}
-use Rattle.queue_laws.specs.Ring.RingWords.{Codes, item_in}
-use Rattle.queue_laws.proofs.Ring.RingWords.{word_small, head_small}
-use Rattle.queue_laws.proofs.Ring.RingHands.{Claims, GoesOn, Returns}
-use Rattle.queue_laws.proofs.Ring.RingStepOk.{NextOk, StepOk, still}
-use Rattle.queue_laws.specs.Common.Stand.{Stand, stand, brings}
-use Rattle.queue_laws.proofs.Ring.RingSlots.{codes_claim, codes_store}
-use Rattle.queue_laws.proofs.Ring.RingPush.{tail_word, saw_word}
 
 abbrev displaces : {A : Type 0} → ℕ → A → ℕ → Stand A
 displaces cap v t = brings (Local.Bounded (ring.Displacing t)) (Op.Exchange Word.Head (position_of t - cap) (position_of t - cap + 1)) PushKind.Force v

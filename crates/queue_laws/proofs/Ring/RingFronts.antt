@@ -1,9 +1,7 @@
 -- A front leaves a ring only by a call that has seen the queue open.
 use Rattle.std.proofs.Common.{ℕ, ◌+◌, ◌≡◌, ◌==◌, Bool, true, false, Option, None, sym, subst}
-use Rattle.queue_steps.specs.Words.{position_of, is_shut}
-use Rattle.queue_steps.specs.declared.steps.bounded.BoundedLocal.TheVariants as ring
-use Rattle.queue_laws.specs.Common.Vocabulary.{Effect, Answer, Local}
-use Rattle.queue_laws.specs.Common.Effects.{MayFront, Whether}
+use Rattle.queue_steps.specs.{Words.position_of, Words.is_shut, declared.steps.bounded.BoundedLocal.BoundedLocal as ring}
+use Rattle.queue_laws.specs.Common.{Vocabulary.Effect, Vocabulary.Answer, Vocabulary.Local, Effects.MayFront, Effects.Whether}
 use Rattle.queue_laws.proofs.Ring.RingStepOk.{IsEffect}
 
 module _ {T : Type 0} where

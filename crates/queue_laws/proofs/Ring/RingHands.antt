@@ -1,12 +1,7 @@
 -- Who holds which slot, for a keeper of the slots that lends them out: what a step takes, passes on or gives back.
 use Rattle.std.proofs.Common.{ℕ, ◌<◌, ◌≡◌, ◌≢◌, ◌∙◌, Option, Some, None, List, [], ◌∷◌, ap}
-use Rattle.queue_laws.specs.Common.Vocabulary.{Touch}
-use Rattle.queue_laws.specs.Common.Puts.{put}
-use Rattle.queue_laws.specs.Common.Effects.{Touches}
-use Rattle.queue_laws.specs.Ring.RingCells.{Cell, Ring, owner, HoldsNone}
-use Rattle.queue_laws.specs.Ring.RingPasses.{Passes, Lent}
+use Rattle.queue_laws.specs.{Common.Vocabulary.Touch, Common.Puts.put, Common.Effects.Touches, Ring.RingCells.Cell, Ring.RingCells.Ring, Ring.RingCells.owner, Ring.RingCells.HoldsNone, Ring.RingPasses.Passes, Ring.RingPasses.Lent, Ring.RingWords.item_in}
 use Rattle.queue_laws.proofs.Ring.RingPasses.{none_stays}
-use Rattle.queue_laws.specs.Ring.RingWords.{item_in}
 
 -- What a step with this touch does to the slots, where v is carried: nothing; it claims one that is nobody's; it goes on with its own; it gives its own back with v
 pub data Shift {A : Type 0} (cap who : ℕ) (r s : Ring A) (t : Touch) (v : Option A) : Type 0 where

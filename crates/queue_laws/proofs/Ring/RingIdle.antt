@@ -1,12 +1,9 @@
 -- A ring of which nobody has a slot: nothing is coming, and each slot is full or free, by its position.
 use Rattle.std.proofs.Common.{ℕ, ◌+◌, ◌-◌, ◌%◌, ◌<◌, ◌≤◌, ◌≡◌, ◌∙◌, ◌⊎◌, inl, inr, Some, None, refl, sym, ap, arith, get_or, slice_get}
-use Rattle.queue_laws.proofs.Common.Tests.{none_if}
+use Rattle.queue_laws.proofs.{Common.Tests.none_if, Ring.RingCells.together, Ring.RingTransitions.in_ring}
 use Rattle.queue_steps.specs.Words.{stamp_free, stamp_filled}
-use Rattle.queue_laws.specs.Ring.RingShared.{Shared}
+use Rattle.queue_laws.specs.Ring.{RingShared.Shared, RingWords.Codes, RingWords.stamp_in, RingWords.item_in}
 use Rattle.queue_laws.specs.Ring.RingCells.{Cell, Free, Written, Full, Read, Coming, Swapped, Ring, CellOk, RingOk, owner, HoldsNone}
-use Rattle.queue_laws.proofs.Ring.RingCells.{together}
-use Rattle.queue_laws.proofs.Ring.RingTransitions.{in_ring}
-use Rattle.queue_laws.specs.Ring.RingWords.{Codes, stamp_in, item_in}
 
 -- nobody has a slot
 abbrev pub NobodyHolds : {A : Type 0} → Ring A → Type 0

@@ -1,27 +1,11 @@
 -- The steps of the calls that look at a ring, and of its close.
 use Rattle.std.proofs.Common.{ℕ, ◌+◌, ◌-◌, ◌*◌, ◌%◌, ◌<◌, ◌≤◌, ◌≡◌, ◌≢◌, ◌==◌, not, ◌∙◌, ◌⊎◌, inl, inr, Bool, true, false, if◌then◌else◌, Some, None, List, [], ◌∷◌, length, refl, sym, ap, arith}
-use Rattle.std.proofs.lemmas.Bool.{eq-eqb, ne_eqb}
-use Rattle.std.proofs.lemmas.Bool.Decides.{eqb_tells}
-use Rattle.queue_steps.specs.State.{State, is_full}
-use Rattle.queue_steps.specs.Replies.{is_empty}
-use Rattle.queue_steps.specs.Words.{position_of, is_shut, tail_of}
-use Rattle.queue_steps.specs.BoundedNext.{loads, ends, bounded_begin}
-use Rattle.queue_steps.specs.Kinds.{call_kind}
-use Rattle.queue_steps.specs.Looks.{IsLook, call_of_look, reply_of_look, IsCount}
+use Rattle.std.proofs.lemmas.Bool.{eq-eqb, ne_eqb, Decides.eqb_tells}
+use Rattle.queue_steps.specs.{State.State, State.is_full, Replies.is_empty, Words.position_of, Words.is_shut, Words.tail_of, BoundedNext.loads, BoundedNext.ends, BoundedNext.bounded_begin, Kinds.call_kind, Looks.IsLook, Looks.call_of_look, Looks.reply_of_look, Looks.IsCount, declared.steps.bounded.BoundedLocal.BoundedLocal as ring}
 use Rattle.queue_steps.proofs.LookLaws.{reply_filled, reply_tells, reply_right, count_waits}
-use Rattle.queue_laws.specs.Common.Vocabulary.{Call, Reply, Effect, Word, Op, Look, Local, MARK}
-use Rattle.queue_steps.specs.declared.steps.bounded.BoundedLocal.TheVariants as ring
-use Rattle.queue_laws.proofs.Common.Tails.{position_tail, shut_tail}
-use Rattle.queue_laws.specs.Common.Moments.{HasItems, HeadWas, SeenIn}
-use Rattle.queue_laws.proofs.Common.Moments.{seen_map}
-use Rattle.queue_laws.specs.Ring.RingShared.{Shared}
-use Rattle.queue_laws.specs.Ring.RingCells.{Ring, queue_of, RingOk, HoldsNone}
+use Rattle.queue_laws.specs.{Common.Vocabulary.Call, Common.Vocabulary.Reply, Common.Vocabulary.Effect, Common.Vocabulary.Word, Common.Vocabulary.Op, Common.Vocabulary.Look, Common.Vocabulary.Local, Common.Vocabulary.MARK, Common.Moments.HasItems, Common.Moments.HeadWas, Common.Moments.SeenIn, Ring.RingShared.Shared, Ring.RingCells.Ring, Ring.RingCells.queue_of, Ring.RingCells.RingOk, Ring.RingCells.HoldsNone, Ring.RingWords.Codes, Common.Stand.empty_handed}
+use Rattle.queue_laws.proofs.{Common.Tails.position_tail, Common.Tails.shut_tail, Common.Moments.seen_map, Ring.RingWords.head_small, Ring.RingRanks.pick, Ring.RingStepOk.Stays, Ring.RingStepOk.StepOk, Ring.RingStepOk.still, Ring.RingStepOk.marks, Ring.RingStepOk.marks_closed}
 use Rattle.queue_laws.specs.Ring.RingAt.{HasRoom, SawEmpty, SawFull, Begun, count_tail, count_head, count_again, empty_head, empty_tail, full_tail, full_head, closed_tail}
-use Rattle.queue_laws.specs.Ring.RingWords.{Codes}
-use Rattle.queue_laws.proofs.Ring.RingWords.{head_small}
-use Rattle.queue_laws.proofs.Ring.RingRanks.{pick}
-use Rattle.queue_laws.proofs.Ring.RingStepOk.{Stays, StepOk, still, marks, marks_closed}
-use Rattle.queue_laws.specs.Common.Stand.{empty_handed}
 
 no_items : {A : Type 0} (xs : List A) → length xs ≡ 0 → is_empty xs ≡ true
 no_items [] e = refl

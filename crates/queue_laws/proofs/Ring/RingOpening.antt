@@ -1,13 +1,8 @@
 -- A ring at its beginning: every slot is free for the position of its own number.
 use Rattle.std.proofs.Common.{ℕ, zero, suc, ◌<◌, ◌≡◌, ◌∙◌, ◌⊎◌, inl, inr, None, [], ◌∷◌, ◌++◌, length, refl, sym, ap, arith, get_or, length-append}
-use Rattle.std.proofs.lemmas.List.{get_or-replicate, length-replicate}
-use Rattle.std.proofs.Math.ListN.{get_or-append}
-use Rattle.std.proofs.Math.Seq.{get_or-append_seam}
-use Rattle.std.proofs.Math.Nat.{mod-eq_of_lt}
+use Rattle.std.proofs.{lemmas.List.get_or-replicate, lemmas.List.length-replicate, Math.ListN.get_or-append, Math.Seq.get_or-append_seam, Math.Nat.mod-eq_of_lt}
 use Rattle.queue_steps.specs.Words.{IsRing}
-use Rattle.queue_laws.specs.Ring.RingCells.{RingOk}
-use Rattle.queue_laws.specs.Ring.RingWords.{Codes}
-use Rattle.queue_laws.specs.Ring.RingOpening.{numbers_below, opening_ring, opening_shared}
+use Rattle.queue_laws.specs.Ring.{RingCells.RingOk, RingWords.Codes, RingOpening.numbers_below, RingOpening.opening_ring, RingOpening.opening_shared}
 
 pub count_below : (n : ℕ) → length (numbers_below n) ≡ n
 count_below zero = refl

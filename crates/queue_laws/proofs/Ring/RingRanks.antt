@@ -1,15 +1,9 @@
 -- How many steps a call on a ring takes at most from where it stands, while no other party holds a slot.
 use Rattle.std.proofs.Common.{ℕ, ◌+◌, ◌<◌, ◌≤◌, ◌≡◌, ◌==◌, Bool, true, if◌then◌else◌, List, refl, ap, arith}
 use Rattle.std.proofs.lemmas.Bool.{eq-eqb}
-use Rattle.queue_steps.specs.State.{State}
-use Rattle.queue_steps.specs.WaitFree.{is_wait_free}
-use Rattle.queue_steps.specs.Words.{position_of, tail_of}
-use Rattle.queue_laws.specs.Common.Vocabulary.{Local}
-use Rattle.queue_steps.specs.declared.steps.bounded.BoundedLocal.TheVariants as ring
-use Rattle.queue_laws.proofs.Common.Ranks.{either_small, either_some}
-use Rattle.queue_laws.proofs.Common.Pushes.{never_push}
-use Rattle.queue_laws.specs.Common.Stand.{Stand}
-use Rattle.queue_laws.specs.Ring.RingCells.{Ring}
+use Rattle.queue_steps.specs.{State.State, WaitFree.is_wait_free, Words.position_of, Words.tail_of, declared.steps.bounded.BoundedLocal.BoundedLocal as ring}
+use Rattle.queue_laws.specs.{Common.Vocabulary.Local, Common.Stand.Stand, Ring.RingCells.Ring}
+use Rattle.queue_laws.proofs.Common.{Ranks.either_small, Ranks.either_some, Pushes.never_push}
 use Rattle.queue_laws.specs.Ring.RingAt.{At, push_stamp, claiming, push_head, displacing, pop_stamp, taking, pop_tail, count_head, count_again}
 
 -- how many steps a call takes from here at most: what it read may be stale, and is not once it has read again

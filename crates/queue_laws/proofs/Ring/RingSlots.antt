@@ -1,20 +1,10 @@
 -- What a stamp tells of its slot, and how the words follow a change of one slot.
 use Rattle.std.proofs.Common.{ℕ, ◌+◌, ◌%◌, ◌<◌, ◌≤◌, ◌≡◌, ◌∙◌, ◌⊎◌, inl, inr, Option, None, refl, sym, ap, arith, get_or, set, get_or-set_same, get_or-set_other}
-use Rattle.std.proofs.lemmas.List.{length-set}
-use Rattle.std.proofs.lemmas.Bool.Decides.{eqb_tells}
+use Rattle.std.proofs.lemmas.{List.length-set, Bool.Decides.eqb_tells}
 use Rattle.queue_steps.specs.Words.{IsWord, tail_of}
-use Rattle.queue_laws.specs.Common.Puts.{put}
-use Rattle.queue_laws.proofs.Common.Puts.{put_ok}
-use Rattle.queue_laws.specs.Ring.RingShared.{Shared}
+use Rattle.queue_laws.specs.{Common.Puts.put, Ring.RingShared.Shared, Ring.RingTransitions.written, Ring.RingAt.FreeAt, Ring.RingAt.FullAt, Ring.RingWords.Codes, Ring.RingWords.stamp_in, Ring.RingWords.item_in}
+use Rattle.queue_laws.proofs.{Common.Puts.put_ok, Ring.RingCells.wraps, Ring.RingCells.together, Ring.RingTransitions.in_ring, Ring.RingWords.IsFreeCell, Ring.RingWords.is_free, Ring.RingWords.is_written, Ring.RingWords.IsFullCell, Ring.RingWords.is_full, Ring.RingWords.is_swapped, Ring.RingWords.stamp_is_free, Ring.RingWords.stamp_is_full, Ring.RingIdle.NobodyHolds, Ring.RingIdle.is_filled, Ring.RingIdle.is_vacant, Ring.RingStepOk.IsQuiet}
 use Rattle.queue_laws.specs.Ring.RingCells.{Cell, Free, Written, Full, Read, Coming, Ring, CellOk, RingOk, HoldsNone}
-use Rattle.queue_laws.proofs.Ring.RingCells.{wraps, together}
-use Rattle.queue_laws.proofs.Ring.RingTransitions.{in_ring}
-use Rattle.queue_laws.specs.Ring.RingTransitions.{written}
-use Rattle.queue_laws.specs.Ring.RingAt.{FreeAt, FullAt}
-use Rattle.queue_laws.specs.Ring.RingWords.{Codes, stamp_in, item_in}
-use Rattle.queue_laws.proofs.Ring.RingWords.{IsFreeCell, is_free, is_written, IsFullCell, is_full, is_swapped, stamp_is_free, stamp_is_full}
-use Rattle.queue_laws.proofs.Ring.RingIdle.{NobodyHolds, is_filled, is_vacant}
-use Rattle.queue_laws.proofs.Ring.RingStepOk.{IsQuiet}
 
 -- a slot with the stamp q, of a position that the tail has reached, is free for it, or the tail has moved on
 pub stamp_free_at : {A : Type 0} (cap : ℕ) (r : Ring A) (q : ℕ) → RingOk cap r → q ≤ r.tail → stamp_in (r.cells (q % cap)) ≡ q → FreeAt cap r q

@@ -1,17 +1,10 @@
 -- Each step that changes a ring keeps it right, and its effect fits.
 use Rattle.std.proofs.Common.{ℕ, ◌+◌, ◌-◌, ◌%◌, ◌<◌, ◌≡◌, ◌≢◌, ◌∙◌, inr, false, Option, Some, None, List, [], ◌∷◌, ◌++◌, length, refl, sym, ap, arith, slice_get}
-use Rattle.std.proofs.lemmas.List.{length-append}
-use Rattle.std.proofs.lemmas.Bool.{ne_eqb, eq-eqb}
-use Rattle.queue_laws.specs.Common.Vocabulary.{Effect, LIMIT}
-use Rattle.queue_steps.specs.State.{is_single_cap}
-use Rattle.queue_steps.specs.Effect.{Fits, rest, with_coming}
-use Rattle.queue_steps.specs.Words.{IsRing}
-use Rattle.queue_laws.proofs.Common.Puts.{put_ok}
-use Rattle.queue_laws.proofs.Common.Lists.{behind, first, front_stays, last_is, length-rest}
-use Rattle.queue_laws.proofs.Common.Tests.{none_if}
+use Rattle.std.proofs.lemmas.{List.length-append, Bool.ne_eqb, Bool.eq-eqb}
+use Rattle.queue_laws.specs.{Common.Vocabulary.Effect, Common.Vocabulary.LIMIT, Ring.RingTransitions.appended, Ring.RingTransitions.taken, Ring.RingTransitions.written, Ring.RingTransitions.fronted, Ring.RingTransitions.arrived, Ring.RingTransitions.marked}
+use Rattle.queue_steps.specs.{State.is_single_cap, Effect.Fits, Effect.rest, Effect.with_coming, Words.IsRing}
+use Rattle.queue_laws.proofs.{Common.Puts.put_ok, Common.Lists.behind, Common.Lists.first, Common.Lists.front_stays, Common.Lists.last_is, Common.Lists.length-rest, Common.Tests.none_if, Ring.RingCells.wraps}
 use Rattle.queue_laws.specs.Ring.RingCells.{Cell, Free, Written, Full, Read, Coming, Swapped, Ring, queue_of, CellOk, RingOk}
-use Rattle.queue_laws.proofs.Ring.RingCells.{wraps}
-use Rattle.queue_laws.specs.Ring.RingTransitions.{appended, taken, written, fronted, arrived, marked}
 
 -- an append leaves what is so of the other slots
 cell_append : {A : Type 0} (cap head tail : ℕ) (items : List A) (coming coming' : Option A) (v : A) (i : ℕ) (c : Cell A)

@@ -1,11 +1,9 @@
 -- What reading the words of a ring tells.
 use Rattle.std.proofs.Common.{ℕ, ◌+◌, ◌%◌, ◌<◌, ◌≤◌, ◌≡◌, ◌∙◌, ◌⊎◌, inl, inr, Option, List, refl, sym, ap, arith}
-use Rattle.queue_laws.specs.Common.Vocabulary.{LIMIT}
+use Rattle.queue_laws.specs.{Common.Vocabulary.LIMIT, Ring.RingWords.stamp_in}
 use Rattle.queue_steps.specs.Words.{IsWord, position_of}
 use Rattle.queue_laws.specs.Ring.RingCells.{Cell, Free, Written, Full, Read, Coming, Swapped, Ring, CellOk, RingOk}
-use Rattle.queue_laws.proofs.Ring.RingCells.{together}
-use Rattle.queue_laws.proofs.Ring.RingTransitions.{in_ring}
-use Rattle.queue_laws.specs.Ring.RingWords.{stamp_in}
+use Rattle.queue_laws.proofs.Ring.{RingCells.together, RingTransitions.in_ring}
 
 -- every word of a ring leaves room
 pub word_small : (t : ℕ) → position_of t ≤ LIMIT → IsWord t

@@ -1,11 +1,7 @@
 -- A call on one slot that has had no effect yet has nothing of the lock, and still carries its own value: so its party may give it up.
 use Rattle.std.proofs.Common.{◌≡◌, true, false, [], refl}
 use Rattle.queue_steps.specs.Kinds.{call_value}
-use Rattle.queue_laws.specs.Common.Vocabulary.{Look}
-use Rattle.queue_laws.specs.Common.Stand.{Stand}
-use Rattle.queue_laws.specs.Slot.SlotEarly.{IsEarly}
-use Rattle.queue_laws.specs.Slot.SlotHolder.{SlotHolder, Nobody}
-use Rattle.queue_laws.specs.Slot.SlotRows.{At, push_put, force_put_empty, force_put_full, pop_take, look_at}
+use Rattle.queue_laws.specs.{Common.Vocabulary.Look, Common.Stand.Stand, Slot.SlotEarly.IsEarly, Slot.SlotHolder.SlotHolder, Slot.SlotHolder.Nobody, Slot.SlotRows.At, Slot.SlotRows.push_put, Slot.SlotRows.force_put_empty, Slot.SlotRows.force_put_full, Slot.SlotRows.pop_take, Slot.SlotRows.look_at}
 
 pub early : {T : Type 0} {x : Stand T} {own : SlotHolder T}
     → IsEarly x.local → At x own → (x.effects ≡ []) × (own ≡ Nobody) × (x.carried ≡ call_value x.call)

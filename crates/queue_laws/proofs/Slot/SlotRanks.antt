@@ -1,14 +1,8 @@
 -- One slot: a solo call comes nearer to its reply, a wait-free call replies at once, and a step touches what is there.
 use Rattle.std.proofs.Common.{◌≡◌, ℕ, ◌<◌, ◌≤◌, ◌==◌, Bool, true, false, Option, List, if◌then◌else◌, refl, arith}
-use Rattle.queue_steps.specs.Next.{CanNext, next_of}
-use Rattle.queue_steps.specs.WaitFree.{is_wait_free}
-use Rattle.queue_steps.specs.SingleNext.{is_marked, is_pushed}
-use Rattle.queue_laws.specs.Common.Vocabulary.{Kind, Look, Local, Next}
-use Rattle.queue_steps.specs.declared.steps.single.SingleLocal.TheVariants.{Pushing, Forcing, Popping}
+use Rattle.queue_steps.specs.{Next.CanNext, Next.next_of, WaitFree.is_wait_free, SingleNext.is_marked, SingleNext.is_pushed, declared.steps.single.SingleLocal.TheVariants.Pushing, declared.steps.single.SingleLocal.TheVariants.Forcing, declared.steps.single.SingleLocal.TheVariants.Popping}
+use Rattle.queue_laws.specs.{Common.Vocabulary.Kind, Common.Vocabulary.Look, Common.Vocabulary.Local, Common.Vocabulary.Next, Common.Stand.Stand, Slot.SlotShared.CanTouch, Slot.SlotShared.CanOperate, Slot.SlotShared.one_slot, Slot.SlotShared.answered, Slot.SlotShared.operated, Slot.SlotShared.touched, Slot.SlotHolder.SlotHolder}
 use Rattle.queue_laws.proofs.Common.Ranks.{either_small, either_some}
-use Rattle.queue_laws.specs.Common.Stand.{Stand}
-use Rattle.queue_laws.specs.Slot.SlotShared.{CanTouch, CanOperate, one_slot, answered, operated, touched}
-use Rattle.queue_laws.specs.Slot.SlotHolder.{SlotHolder}
 use Rattle.queue_laws.specs.Slot.SlotRows.{Codes, free_empty, free_full, At, push_try, push_put, force_try_empty, force_try_full, force_put_empty, force_put_full, pop_try, pop_take, close_try, look_at}
 
 -- how many steps a call takes from here at most, while no other party has the lock

@@ -1,17 +1,10 @@
 -- One slot: each atomic step of a call is a step of the queue.
 use Rattle.std.proofs.Common.{◌≡◌, ℕ, ◌+◌, Bool, true, false, Option, Some, None, Err, List, [], ◌∷◌, length, bit_or, if◌then◌else◌, refl, inl, inr, sym}
-use Rattle.queue_steps.specs.State.{State}
-use Rattle.queue_steps.specs.Replies.{IsRightAt, Tells}
-use Rattle.queue_steps.specs.SingleNext.{is_marked, is_pushed}
-use Rattle.queue_steps.specs.Looks.{call_of_look, reply_of_look}
+use Rattle.queue_steps.specs.{State.State, Replies.IsRightAt, Replies.Tells, SingleNext.is_marked, SingleNext.is_pushed, Looks.call_of_look, Looks.reply_of_look, declared.steps.single.SingleLocal.TheVariants.Pushing, declared.steps.single.SingleLocal.TheVariants.Forcing, declared.steps.single.SingleLocal.TheVariants.Popping, declared.steps.single.SingleLocal.TheVariants.Closing, declared.steps.single.SingleLocal.TheVariants.Looking, declared.steps.types.Word.TheVariants.Lock}
 use Rattle.queue_steps.proofs.LookLaws.{reply_filled, reply_tells, reply_right}
 use Rattle.queue_laws.specs.Common.Vocabulary.{Call, Reply, Effect, PopError, PushError, ForcePushError, Op, Look, Local, PushKind, LOCKED, PUSHED, CLOSED}
-use Rattle.queue_steps.specs.declared.steps.single.SingleLocal.TheVariants.{Pushing, Forcing, Popping, Closing, Looking}
-use Rattle.queue_steps.specs.declared.steps.types.Word.TheVariants.{Lock}
-use Rattle.queue_laws.specs.Common.Stand.{Stand, empty_handed, brings}
-use Rattle.queue_laws.specs.Slot.SlotHolder.{SlotHolder, Nobody, Filling, Swapping, Taking}
+use Rattle.queue_laws.specs.{Common.Stand.Stand, Common.Stand.empty_handed, Common.Stand.brings, Slot.SlotHolder.SlotHolder, Slot.SlotHolder.Nobody, Slot.SlotHolder.Filling, Slot.SlotHolder.Swapping, Slot.SlotHolder.Taking, Common.Moments.SeenIn}
 use Rattle.queue_laws.specs.Slot.SlotRows.{Codes, free_empty, free_full, filling, swapping, taking, code, At, push_try, push_put, force_try_empty, force_try_full, force_put_empty, force_put_full, pop_try, pop_take, close_try, look_at, Share, idle, fills, swaps, takes, stays, changes, single, StepOk}
-use Rattle.queue_laws.specs.Common.Moments.{SeenIn}
 
 -- a reply without effect that is right now
 pub right_now : {T : Type 0} (Q : State T) (ms : List (State T)) (k : Call T) (y : Reply T) → Tells k y [] → IsRightAt Q k y

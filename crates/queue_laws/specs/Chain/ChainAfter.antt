@@ -1,14 +1,9 @@
 -- The chain after each step of a call, by what the step found, and what the call carries then.
 use Rattle.std.proofs.Common.{ℕ, ◌+◌, ◌/◌, ◌==◌, zero, suc, Bool, true, false, if◌then◌else◌, Option, Some, None, List}
-use Rattle.queue_laws.specs.Common.Vocabulary.{Answer, Local, Next, UnboundedLocal, BLOCK_SLOTS}
-use Rattle.queue_steps.specs.ChainWords.{offset_of}
-use Rattle.queue_laws.specs.Common.Stand.{Stand}
+use Rattle.queue_laws.specs.{Common.Vocabulary.Answer, Common.Vocabulary.Local, Common.Vocabulary.Next, Common.Vocabulary.UnboundedLocal, Common.Vocabulary.BLOCK_SLOTS, Common.Stand.Stand, Chain.ChainFacts.head_of, Chain.ChainFacts.open_tail_of, Chain.ChainAnswers.tail_word, Chain.ChainAnswers.head_word, Chain.ChainAnswers.waits_at, Chain.ChainAnswers.is_done}
+use Rattle.queue_steps.specs.{ChainWords.offset_of, State.State, declared.steps.unbounded.UnboundedLocal.UnboundedLocal as chain}
 use Rattle.queue_laws.specs.Chain.ChainCells.{Rests, Laying, Stands, Passing, Walker, Waits, Chain, item_at, Spare}
 use Rattle.queue_laws.specs.Chain.ChainTransitions.{appended, installed, taken, reads, walk_after, walked, displayed, laid_out, opened, chained, written, marked, renamed, passed, entered, given_up}
-use Rattle.queue_laws.specs.Chain.ChainFacts.{head_of, open_tail_of}
-use Rattle.queue_laws.specs.Chain.ChainAnswers.{tail_word, head_word, waits_at, is_done}
-use Rattle.queue_steps.specs.State.{State}
-use Rattle.queue_steps.specs.declared.steps.unbounded.UnboundedLocal.TheVariants as chain
 use Rattle.queue_laws.specs.Chain.ChainAt.{At, asking, installing, showing, claiming, laying, opening, chaining, writing, spending, taking, passing, entering, reading, beginning, walking, destroying, closing}
 
 -- U4: the first block is installed where there is none yet

@@ -1,8 +1,7 @@
 -- How the words and links of a chain stand for it, and what the operations of the calls answer.
 use Rattle.std.proofs.Common.{ℕ, ◌+◌, ◌-◌, ◌≡◌, ◌≢◌, ◌==◌, not, ◌⊎◌, zero, suc, Bool, true, false, Option, Some, None, bit_and}
 use Rattle.queue_steps.specs.Words.{tail_of}
-use Rattle.queue_laws.specs.Common.Vocabulary.{Word, Link, Op, Answer, WRITE, READ, DESTROY}
-use Rattle.queue_laws.specs.Chain.ChainFacts.{place, IsNamed}
+use Rattle.queue_laws.specs.{Common.Vocabulary.Word, Common.Vocabulary.Link, Common.Vocabulary.Op, Common.Vocabulary.Answer, Common.Vocabulary.WRITE, Common.Vocabulary.READ, Common.Vocabulary.DESTROY, Chain.ChainFacts.place, Chain.ChainFacts.IsNamed}
 use Rattle.queue_laws.specs.Chain.ChainCells.{Writer, Wrote, Reader, Done, Mover, Rests, Passer, Stands, LinkState, Linked, Shown, Seen, Walk, Waits, Unused, Chain, item_at}
 
 -- the positions of the tail and of the head: while a call moves it on, it is that without a slot

@@ -1,14 +1,8 @@
 -- Where a call on a chain stands between its steps, and what it knows there.
 use Rattle.std.proofs.Common.{ℕ, ◌+◌, ◌*◌, ◌/◌, ◌%◌, ◌<◌, ◌≤◌, ◌≡◌, ◌⊎◌, Bool, true, false, if◌then◌else◌, Option, Some, None, IsSome, List, [], ◌∷◌}
 use Rattle.queue_laws.specs.Common.Vocabulary.{Call, Effect, Word, Link, Op, Touch, Look, Local, UnboundedLocal, PushKind, LIMIT, BLOCK_SLOTS, MARK, TAIL_STEP, WRITE, READ, DESTROY}
-use Rattle.queue_steps.specs.State.{State}
-use Rattle.queue_steps.specs.Looks.{call_of_look, IsCount}
-use Rattle.queue_steps.specs.Words.{IsWord, position_of}
-use Rattle.queue_steps.specs.ChainWords.{offset_of, items_before}
-use Rattle.queue_steps.specs.declared.steps.unbounded.UnboundedLocal.TheVariants as chain
-use Rattle.queue_laws.specs.Common.Moments.{SeenIn, HeadWas}
-use Rattle.queue_laws.specs.Common.Pushes.{pushes}
-use Rattle.queue_laws.specs.Common.Stand.{Stand, stand, empty_handed, brings}
+use Rattle.queue_steps.specs.{State.State, Looks.call_of_look, Looks.IsCount, Words.IsWord, Words.position_of, ChainWords.offset_of, ChainWords.items_before, declared.steps.unbounded.UnboundedLocal.UnboundedLocal as chain}
+use Rattle.queue_laws.specs.Common.{Moments.SeenIn, Moments.HeadWas, Pushes.pushes, Stand.Stand, Stand.stand, Stand.empty_handed, Stand.brings}
 use Rattle.queue_laws.specs.Chain.ChainFacts.{place, head_of, open_tail_of, HeadIs, IsNamed, TailBlockIs, HeadBlockIs, HeadBlockRead, IsMore, HasSpare, SawEmpty, SawTail, Claimed, Got}
 use Rattle.queue_laws.specs.Chain.ChainCells.{Wrote, Laying, Opening, Passing, Entering, Linking, Linked, Showing, Walker, Spare, Chain, Part, Write, Read, Tail, Head, Next, First, Passed, HoldsOnly, Nothing}
 

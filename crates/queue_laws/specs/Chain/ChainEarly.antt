@@ -1,7 +1,7 @@
 -- Where a call on a chain stands that has had no effect yet, and where one does that may have to wait for its item.
 use Rattle.std.specs.Prelude.{◌≡◌, ℕ, Bool, true, false}
 use Rattle.queue_laws.specs.Common.Vocabulary.{Call, Local, UnboundedLocal}
-use Rattle.queue_steps.specs.declared.steps.unbounded.UnboundedLocal.TheVariants as chain
+use Rattle.queue_steps.specs.declared.steps.unbounded.UnboundedLocal.{UnboundedLocal as chain}
 
 -- before its effect, and not where it is to show the first block
 abbrev pub is_early : {B : Type 0} → UnboundedLocal B → Bool

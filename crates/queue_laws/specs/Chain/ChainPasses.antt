@@ -2,7 +2,7 @@
 use Rattle.std.proofs.Common.{ℕ, ◌+◌, ◌<◌, ◌≤◌, ◌≡◌, ◌≢◌, ◌⊎◌, Some, Option, None}
 use Rattle.queue_laws.specs.Chain.ChainCells.{Wrote, Rests, Stands, Linked, Seen, Spare, Chain, value, Part, Write, Read, Tail, Head, Next, First, Passed, owner}
 use Rattle.queue_laws.specs.Common.Vocabulary.{Local, UnboundedLocal}
-use Rattle.queue_steps.specs.declared.steps.unbounded.UnboundedLocal.TheVariants as chain
+use Rattle.queue_steps.specs.declared.steps.unbounded.UnboundedLocal.{UnboundedLocal as chain}
 
 -- the part is the same
 abbrev pub Kept : {A : Type 0} → Chain A → Chain A → Part → Type 0

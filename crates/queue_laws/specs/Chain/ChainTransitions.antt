@@ -1,8 +1,7 @@
 -- What each step that changes a chain makes of it.
 use Rattle.std.proofs.Common.{ℕ, ◌+◌, ◌-◌, true, [], ◌∷◌, ◌++◌, ◌/◌, ◌==◌, Bool, if◌then◌else◌, Option, Some, None}
-use Rattle.queue_laws.specs.Common.Puts.{put}
+use Rattle.queue_laws.specs.Common.{Puts.put, Vocabulary.BLOCK_SLOTS}
 use Rattle.queue_laws.specs.Chain.ChainCells.{Writing, Wrote, Mover, Rests, Opening, Linking, Linked, Showing, Seen, Use, Chained, Chain, Reading, Done, Passer, Stands, Entering, Walk, Walker, GivenUp, LAST, Unused, Spare, Lost}
-use Rattle.queue_laws.specs.Common.Vocabulary.{BLOCK_SLOTS}
 use Rattle.queue_steps.specs.Effect.{rest}
 
 -- U5: the tail is exchanged, by which an item is appended. The mover is the party, where this is the last slot of its block

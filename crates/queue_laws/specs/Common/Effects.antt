@@ -1,7 +1,6 @@
 -- What a step does to the queue, and what it touches.
 use Rattle.std.proofs.Common.{◌≡◌, ℕ, Bool, true, false, Option, Some, None, List, [], ◌∷◌, ◌++◌}
-use Rattle.queue_steps.specs.State.{State}
-use Rattle.queue_steps.specs.Effect.{Fits, made}
+use Rattle.queue_steps.specs.{State.State, Effect.Fits, Effect.made}
 use Rattle.queue_laws.specs.Common.Vocabulary.{Effect, Touch}
 
 -- the step has no effect and leaves the queue, or has this effect, which fits there

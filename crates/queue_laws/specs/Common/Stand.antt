@@ -1,7 +1,6 @@
 -- Where a call stands between two of its steps.
 use Rattle.std.proofs.Common.{ℕ, Option, Some, None, List, []}
-use Rattle.queue_laws.specs.Common.Vocabulary.{Call, Effect, Op, Touch, Local, PushKind}
-use Rattle.queue_laws.specs.Common.Pushes.{pushes}
+use Rattle.queue_laws.specs.Common.{Vocabulary.Call, Vocabulary.Effect, Vocabulary.Op, Vocabulary.Touch, Vocabulary.Local, Vocabulary.PushKind, Pushes.pushes}
 
 -- its local state, what its next step touches and the operation that follows, what it carries, which call it is, and its effects so far
 pub record Stand (T : Type 0) : Type 0 where

@@ -1,11 +1,8 @@
 -- What every history of a queue keeps.
 use Rattle.std.specs.Prelude.{◌≡◌, ℕ, ◌+◌, cond, List, [], ◌∷◌, ◌++◌, length, Option, Err}
 use mathlib.Core.List.{IsPrefix}
-use Rattle.queue_steps.specs.State.{State}
+use Rattle.queue_steps.specs.{State.State, Effect.Runs, Effect.IsHistory, Effect.after, Effect.with_coming, Replies.IsRightAt, Replies.Tells, Parties.View, Parties.SharedCall}
 use Rattle.queue_laws.specs.Common.Vocabulary.{Call, Reply, Effect, PopError}
-use Rattle.queue_steps.specs.Effect.{Runs, IsHistory, after, with_coming}
-use Rattle.queue_steps.specs.Replies.{IsRightAt, Tells}
-use Rattle.queue_steps.specs.Parties.{View, SharedCall}
 
 -- the items that were handed in, in their order: appended, in the place of another, or on their way in
 abbrev pub handed_in : {T : Type 0} → List (Effect T) → List T

@@ -1,11 +1,8 @@
 -- A history whose effects have an event and a party each, and how it settles: every displacement becomes one moment, within the call that displaces.
 use Rattle.std.specs.Prelude.{◌≡◌, ℕ, ◌<◌, ◌≤◌, nat_lt, Bool, if◌then◌else◌, List, [], ◌∷◌, ◌++◌, Option, None, AllPairs}
 use Rattle.std.specs.List.{AllByRecursion}
-use Rattle.queue_steps.specs.State.{State}
-use Rattle.queue_laws.specs.Common.Vocabulary.{Call, Reply, Effect}
-use Rattle.queue_steps.specs.Effect.{IsHistory, after}
-use Rattle.queue_steps.specs.Replies.{Allows, Tells}
-use Rattle.queue_laws.specs.Moment.Moments.{IsAtOnce, IsGlance, arrived, settled}
+use Rattle.queue_steps.specs.{State.State, Effect.IsHistory, Effect.after, Replies.Allows, Replies.Tells}
+use Rattle.queue_laws.specs.{Common.Vocabulary.Call, Common.Vocabulary.Reply, Common.Vocabulary.Effect, Moment.Moments.IsAtOnce, Moment.Moments.IsGlance, Moment.Moments.arrived, Moment.Moments.settled}
 
 -- one effect of a run: the number of its event, the party whose step it was, and what it did
 pub record Entry (T : Type 0) : Type 0 where

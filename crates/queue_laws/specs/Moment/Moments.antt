@@ -1,10 +1,8 @@
 -- The history in which each displacement is one moment.
 use Rattle.std.specs.Prelude.{◌≡◌, ◌⊎◌, ℕ, ◌+◌, false, List, [], ◌∷◌, ◌++◌, Option, Some, None}
 use mathlib.Core.List.{IsPrefix}
-use Rattle.queue_steps.specs.State.{State, start}
+use Rattle.queue_steps.specs.{State.State, State.start, Effect.Fits, Effect.made, Effect.with_coming, Effect.IsHistory, Effect.after, Replies.Allows}
 use Rattle.queue_laws.specs.Common.Vocabulary.{Call, Reply, Effect}
-use Rattle.queue_steps.specs.Effect.{Fits, made, with_coming, IsHistory, after}
-use Rattle.queue_steps.specs.Replies.{Allows}
 pub use Rattle.queue_steps.specs.Looks.{IsGlance}
 
 -- each effect may stand where it does, and each displacement is one moment of an open queue: a front, and behind it at once its arrive

@@ -1,12 +1,7 @@
 -- An order of whole calls: all effects of a call stand before those of the next one. Such an order is a run of the table of one owner.
 use Rattle.std.specs.Prelude.{◌≡◌, ℕ, true, List, [], ◌∷◌, ◌++◌, Option, Some, Ok, Err}
-use Rattle.queue_steps.specs.State.{State, start}
-use Rattle.queue_laws.specs.Common.Vocabulary.{Call, Reply, Effect, PushError}
-use Rattle.queue_steps.specs.Effect.{IsHistory, after_from, after}
-use Rattle.queue_steps.specs.Replies.{Allows, Tells}
-use Rattle.queue_steps.specs.Legal.{IsShown}
-use Rattle.queue_steps.specs.Sequential.{Owned, fresh, SequentialRun}
-use Rattle.queue_laws.specs.Moment.Moments.{IsAtOnce, settled, arrived}
+use Rattle.queue_steps.specs.{State.State, State.start, Effect.IsHistory, Effect.after_from, Effect.after, Replies.Allows, Replies.Tells, Legal.IsShown, Sequential.Owned, Sequential.fresh, Sequential.SequentialRun}
+use Rattle.queue_laws.specs.{Common.Vocabulary.Call, Common.Vocabulary.Reply, Common.Vocabulary.Effect, Common.Vocabulary.PushError, Moment.Moments.IsAtOnce, Moment.Moments.settled, Moment.Moments.arrived}
 
 -- a call with its reply and its effects
 pub record Whole (T : Type 0) : Type 0 where

@@ -1,15 +1,9 @@
 -- Where a call on a ring stands between its steps, and what it knows there.
 use Rattle.std.proofs.Common.{ℕ, ◌+◌, ◌%◌, ◌<◌, ◌≤◌, ◌≡◌, ◌⊎◌, false, Some, List, length, ◌-◌, Bool, true, Option, None, [], ◌∷◌}
-use Rattle.queue_steps.specs.State.{State}
-use Rattle.queue_laws.specs.Common.Moments.{HasItems, IsStarted, SeenIn, HeadWas}
+use Rattle.queue_steps.specs.{State.State, Words.position_of, Words.is_shut, Words.slot_at, Words.stamp_filled, Words.stamp_emptied, declared.steps.bounded.BoundedLocal.BoundedLocal as ring, Kinds.call_value, Looks.call_of_look, Looks.IsCount}
+use Rattle.queue_laws.specs.Common.{Moments.HasItems, Moments.IsStarted, Moments.SeenIn, Moments.HeadWas, Pushes.pushes, Stand.Stand, Stand.stand, Stand.empty_handed, Stand.brings}
 use Rattle.queue_laws.specs.Ring.RingCells.{Free, Full, Ring, Written, Read, Coming, Swapped, HoldsNone, HoldsOne}
 use Rattle.queue_laws.specs.Common.Vocabulary.{Call, Effect, Word, Op, Touch, Look, Local, BoundedLocal, Next, PushKind, LIMIT, MARK, TAIL_STEP}
-use Rattle.queue_steps.specs.Words.{position_of, is_shut, slot_at, stamp_filled, stamp_emptied}
-use Rattle.queue_steps.specs.declared.steps.bounded.BoundedLocal.TheVariants as ring
-use Rattle.queue_laws.specs.Common.Pushes.{pushes}
-use Rattle.queue_laws.specs.Common.Stand.{Stand, stand, empty_handed, brings}
-use Rattle.queue_steps.specs.Kinds.{call_value}
-use Rattle.queue_steps.specs.Looks.{call_of_look, IsCount}
 
 -- the slot of the position q is free for it, or the tail has moved on
 abbrev pub FreeAt : {A : Type 0} → ℕ → Ring A → ℕ → Type 0

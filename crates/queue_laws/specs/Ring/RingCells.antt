@@ -1,8 +1,7 @@
 -- A ring by positions: what each slot is for, whose it is, and the state of the queue that it stands for.
 use Rattle.std.proofs.Common.{ℕ, ◌+◌, ◌-◌, ◌%◌, ◌<◌, ◌≤◌, ◌≡◌, Bool, Option, Some, None, List, length, slice_get}
 use Rattle.queue_laws.specs.Common.Vocabulary.{LIMIT}
-use Rattle.queue_steps.specs.State.{State}
-use Rattle.queue_steps.specs.Words.{IsRing}
+use Rattle.queue_steps.specs.{State.State, Words.IsRing}
 
 -- What a slot is for, by its position: free for it; claimed by a push and not yet stamped; filled; claimed by a pop; its item taken
 -- off as the front by a displacing call, whose own item is on its way in; that item arrived and not yet stamped.

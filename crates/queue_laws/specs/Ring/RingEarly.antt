@@ -1,7 +1,7 @@
 -- Where a call on a ring stands that has had no effect yet.
 use Rattle.std.specs.Prelude.{◌≡◌, ℕ, Bool, true, false}
 use Rattle.queue_laws.specs.Common.Vocabulary.{Local, BoundedLocal}
-use Rattle.queue_steps.specs.declared.steps.bounded.BoundedLocal.TheVariants as ring
+use Rattle.queue_steps.specs.declared.steps.bounded.BoundedLocal.{BoundedLocal as ring}
 
 -- all but between a call's effects, and after them
 abbrev pub is_early : BoundedLocal → Bool

@@ -1,7 +1,6 @@
 -- A ring at its beginning: no item accepted and none taken, every slot free for the position of its own number.
 use Rattle.std.proofs.Common.{ℕ, zero, suc, false, List, None, [], ◌∷◌, ◌++◌, replicate}
-use Rattle.queue_laws.specs.Ring.RingCells.{Free, Ring}
-use Rattle.queue_laws.specs.Ring.RingShared.{Shared}
+use Rattle.queue_laws.specs.Ring.{RingCells.Free, RingCells.Ring, RingShared.Shared}
 
 -- the numbers below n, in their order
 abbrev pub numbers_below : ℕ → List ℕ

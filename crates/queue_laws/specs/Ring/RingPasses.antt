@@ -1,7 +1,6 @@
 -- What one party's step leaves of a ring for the others: counts that grow, and slots that stay. And which slots a party has.
 use Rattle.std.proofs.Common.{ℕ, ◌+◌, ◌<◌, ◌≡◌, ◌≢◌, ◌⊎◌, Some, Option, List, [], ◌∷◌}
-use Rattle.queue_laws.specs.Ring.RingCells.{Free, Full, Ring, owner, HoldsNone}
-use Rattle.queue_laws.specs.Ring.RingWords.{item_in}
+use Rattle.queue_laws.specs.Ring.{RingCells.Free, RingCells.Full, RingCells.Ring, RingCells.owner, RingCells.HoldsNone, RingWords.item_in}
 
 -- a step of this party leads from the ring r to the ring s
 pub record Passes {A : Type 0} (who : ℕ) (r s : Ring A) : Type 0 where

@@ -1,7 +1,6 @@
 -- The words and slots of a ring as a value, and what one step of a call does to them.
 use Rattle.std.specs.Prelude.{ℕ, ◌+◌, ◌<◌, ◌^◌, Option, None, List, length, slice_index_or, slice_set}
-use Rattle.queue_laws.specs.Common.Vocabulary.{Word, Op, Touch, Answer}
-use Rattle.queue_laws.specs.Common.Operations.{OnWord, op_word, op_makes, answer_for}
+use Rattle.queue_laws.specs.Common.{Vocabulary.Word, Vocabulary.Op, Vocabulary.Touch, Vocabulary.Answer, Operations.OnWord, Operations.op_word, Operations.op_makes, Operations.answer_for}
 
 pub record Shared (T : Type 0) : Type 0 where
   pub head : ℕ

@@ -1,8 +1,7 @@
 -- What each step that changes a ring makes of it.
 use Rattle.std.proofs.Common.{ℕ, ◌+◌, ◌%◌, true, Some, None, [], ◌∷◌, ◌++◌}
 use Rattle.queue_steps.specs.Effect.{rest, with_coming}
-use Rattle.queue_laws.specs.Common.Puts.{put}
-use Rattle.queue_laws.specs.Ring.RingCells.{Cell, Written, Read, Coming, Swapped, Ring}
+use Rattle.queue_laws.specs.{Common.Puts.put, Ring.RingCells.Cell, Ring.RingCells.Written, Ring.RingCells.Read, Ring.RingCells.Coming, Ring.RingCells.Swapped, Ring.RingCells.Ring}
 
 -- the push's exchange of the tail
 abbrev pub appended : {A : Type 0} → ℕ → Ring A → ℕ → A → Ring A

@@ -1,8 +1,7 @@
 -- How words and slots stand for a ring.
 use Rattle.std.proofs.Common.{ℕ, ◌<◌, ◌≡◌, Option, Some, None, length, get_or}
 use Rattle.queue_steps.specs.Words.{tail_of, stamp_free, stamp_filled}
-use Rattle.queue_laws.specs.Ring.RingShared.{Shared}
-use Rattle.queue_laws.specs.Ring.RingCells.{Cell, Free, Written, Full, Read, Coming, Swapped, Ring}
+use Rattle.queue_laws.specs.Ring.{RingShared.Shared, RingCells.Cell, RingCells.Free, RingCells.Written, RingCells.Full, RingCells.Read, RingCells.Coming, RingCells.Swapped, RingCells.Ring}
 
 -- the stamp of a slot
 abbrev pub stamp_in : {A : Type 0} → Cell A → ℕ

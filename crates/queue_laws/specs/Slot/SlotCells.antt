@@ -1,8 +1,7 @@
 -- One slot as a value, with who has the lock: the queue that it stands for, what a step of one party leaves for the others, and who has the slot.
 use Rattle.std.proofs.Common.{ℕ, ◌≡◌, ◌≢◌, Bool, Option, Some, None, List, [], ◌∷◌}
 use Rattle.queue_steps.specs.State.{State}
-use Rattle.queue_laws.specs.Slot.SlotHolder.{SlotHolder, Nobody, Filling, Swapping, Taking, Keeps, own_of}
-use Rattle.queue_laws.specs.Slot.SlotRows.{single}
+use Rattle.queue_laws.specs.Slot.{SlotHolder.SlotHolder, SlotHolder.Nobody, SlotHolder.Filling, SlotHolder.Swapping, SlotHolder.Taking, SlotHolder.Keeps, SlotHolder.own_of, SlotRows.single}
 
 -- who has the lock, and the queue
 pub record Slot (T : Type 0) : Type 0 where

@@ -1,19 +1,8 @@
 -- One slot: how the word and the slot stand for the queue, where each call stands, and what is owed of each step.
 use Rattle.std.specs.Prelude.{◌≡◌, ℕ, ◌==◌, Bool, true, false, Option, Some, None, List, [], ◌∷◌, bit_or}
-use Rattle.queue_steps.specs.State.{State}
-use Rattle.queue_steps.specs.Kinds.{filled}
-use Rattle.queue_steps.specs.Next.{next_of}
-use Rattle.queue_steps.specs.Replies.{IsRightAt, Tells}
-use Rattle.queue_steps.specs.SingleNext.{is_marked}
-use Rattle.queue_steps.specs.Looks.{call_of_look}
+use Rattle.queue_steps.specs.{State.State, Kinds.filled, Next.next_of, Replies.IsRightAt, Replies.Tells, SingleNext.is_marked, Looks.call_of_look, declared.steps.single.SingleLocal.TheVariants.Pushing, declared.steps.single.SingleLocal.TheVariants.Pushed, declared.steps.single.SingleLocal.TheVariants.Forcing, declared.steps.single.SingleLocal.TheVariants.Forced, declared.steps.single.SingleLocal.TheVariants.Popping, declared.steps.single.SingleLocal.TheVariants.Popped, declared.steps.single.SingleLocal.TheVariants.Closing, declared.steps.single.SingleLocal.TheVariants.Looking, declared.steps.types.Word.TheVariants.Lock}
 use Rattle.queue_laws.specs.Common.Vocabulary.{Call, Reply, Effect, Kind, Op, Touch, Answer, Look, Local, SingleLocal, PushKind, Next, LOCKED, PUSHED, CLOSED, UNLOCKED}
-use Rattle.queue_steps.specs.declared.steps.single.SingleLocal.TheVariants.{Pushing, Pushed, Forcing, Forced, Popping, Popped, Closing, Looking}
-use Rattle.queue_steps.specs.declared.steps.types.Word.TheVariants.{Lock}
-use Rattle.queue_laws.specs.Common.Moments.{SeenIn}
-use Rattle.queue_laws.specs.Common.Effects.{Leads, with_effect, Whether}
-use Rattle.queue_laws.specs.Common.Stand.{Stand, stand, empty_handed, brings}
-use Rattle.queue_laws.specs.Slot.SlotShared.{one_slot, answered, operated, touched, handed}
-use Rattle.queue_laws.specs.Slot.SlotHolder.{SlotHolder, Nobody, Filling, Swapping, Taking}
+use Rattle.queue_laws.specs.{Common.Moments.SeenIn, Common.Effects.Leads, Common.Effects.with_effect, Common.Effects.Whether, Common.Stand.Stand, Common.Stand.stand, Common.Stand.empty_handed, Common.Stand.brings, Slot.SlotShared.one_slot, Slot.SlotShared.answered, Slot.SlotShared.operated, Slot.SlotShared.touched, Slot.SlotShared.handed, Slot.SlotHolder.SlotHolder, Slot.SlotHolder.Nobody, Slot.SlotHolder.Filling, Slot.SlotHolder.Swapping, Slot.SlotHolder.Taking}
 
 -- the word, by its bits `LOCKED`, `PUSHED` and `CLOSED`
 abbrev pub code : Bool → Bool → Bool → ℕ

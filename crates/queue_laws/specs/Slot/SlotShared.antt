@@ -1,7 +1,6 @@
 -- The word and the slot as a value, and what one step of a call does to them.
 use Rattle.std.specs.Prelude.{ℕ, ◌<◌, Option}
-use Rattle.queue_laws.specs.Common.Vocabulary.{Word, Op, Touch, Answer}
-use Rattle.queue_laws.specs.Common.Operations.{OnWord, op_makes, answer_for}
+use Rattle.queue_laws.specs.Common.{Vocabulary.Word, Vocabulary.Op, Vocabulary.Touch, Vocabulary.Answer, Operations.OnWord, Operations.op_makes, Operations.answer_for}
 
 pub record Shared (T : Type 0) : Type 0 where
   pub lock : ℕ

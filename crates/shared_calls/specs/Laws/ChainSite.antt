@@ -1,14 +1,10 @@
 -- The laws of `Site` for a shared chain: where a call stands after a step is what the step told.
 use Rattle.std.proofs.Common.{◌≡◌, ℕ, suc, Option, Some, None, refl, sym, ap, subst}
 use Rattle.queue_laws.specs.Common.Vocabulary.{Call, Kind, Answer, Local, Next, SOLO_STEPS}
-use Rattle.queue_steps.specs.Kinds.{call_kind, call_value}
-use Rattle.queue_steps.specs.Next.{next_of, first_local}
-use Rattle.mem_blocks.specs.Web.{sitter}
-use Rattle.mem_blocks.specs.declared.block.BlockPtr.{BlockPtr as Place}
-use Rattle.mem_blocks.specs.declared.web.Seat.{Seat}
+use Rattle.queue_steps.specs.{Kinds.call_kind, Kinds.call_value, Next.next_of, Next.first_local}
+use Rattle.mem_blocks.specs.{Web.sitter, declared.block.BlockPtr.BlockPtr as Place, declared.web.Seat.Seat}
 use Rattle.shared_parties.specs.declared.known.CallState.{CallState}
-use Rattle.shared_chain.specs.declared.web.ChainWeb.{ChainWeb}
-use Rattle.shared_chain.specs.Turning.{SitsAt, ChainCan, ChainDoes, ChainRests, ChainStands, ChainEnded, GaveUp, ChainLeads}
+use Rattle.shared_chain.specs.{declared.web.ChainWeb.ChainWeb, Turning.SitsAt, Turning.ChainCan, Turning.ChainDoes, Turning.ChainRests, Turning.ChainStands, Turning.ChainEnded, Turning.GaveUp, Turning.ChainLeads}
 use Rattle.shared_chain.proofs.Leading as steps
 use Rattle.call_driver.specs.Leads.{Leads, GoesOn}
 use Rattle.call_driver.proofs.LeadsThrough.{leads-through}

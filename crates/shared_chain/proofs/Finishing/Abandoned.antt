@@ -3,23 +3,14 @@
 use Rattle.std.proofs.Common.{◌≡◌, ◌≢◌, ◌⊎◌, ◌∙◌, inl, inr, ℕ, ◌+◌, ◌*◌, ◌<◌, ◌≤◌, Bool, true, bit_and, List, length, refl, sym, ap, subst, arith}
 use mathlib.Core.Option.{some}
 use denote.RawPtr.{Ptr, null_ptr, InBlock, Testable}
-use Rattle.queue_laws.specs.Common.Vocabulary.{LIMIT, BLOCK_SLOTS, WRITE, READ}
-use Rattle.queue_steps.specs.Words.{position_of}
-use Rattle.queue_steps.specs.ChainWords.{offset_of, items_before}
+use Rattle.queue_laws.specs.{Common.Vocabulary.LIMIT, Common.Vocabulary.BLOCK_SLOTS, Common.Vocabulary.WRITE, Common.Vocabulary.READ, Chain.ChainAnswers.linked_of, Chain.ChainAnswers.shown_of}
+use Rattle.queue_steps.specs.{Words.position_of, ChainWords.offset_of, ChainWords.items_before}
 use Rattle.queue_laws.specs.Chain.ChainCells.{Writer, Wrote, Reader, Unread, Done, Mover, Rests, Stands, LinkState as Joint, Linked, Shown, Seen, Passer, Before, GivenUp, Chain, ItemOk, BlocksOk, LinkOk, ShownOk, ChainOk, item_at}
 use Rattle.queue_laws.proofs.Chain.ChainAnswers.{tail_items, head_items, head_is_standing}
-use Rattle.queue_laws.specs.Chain.ChainAnswers.{linked_of, shown_of}
-use Rattle.mem_blocks.specs.Web.{Block, block, vacant, full, Lives, without, word_of, LastBlocks}
-use Rattle.mem_blocks.specs.declared.hub.TheConstants.{TAIL, HEAD}
+use Rattle.mem_blocks.specs.{Web.Block, Web.block, Web.vacant, Web.full, Web.Lives, Web.without, Web.word_of, Web.LastBlocks, declared.hub.TheConstants.TAIL, declared.hub.TheConstants.HEAD}
 use Rattle.own_cells.specs.OneChain.ChainMemory.{block_of}
-use Rattle.shared_chain.specs.Spots.{spot}
-use Rattle.shared_chain.specs.ChainCalls.{OutChain}
-use Rattle.shared_chain.specs.Leftover.{SlotLeft, BlockLeft, StaysLeft, BlocksLeft}
-use Rattle.shared_chain.specs.Rule.{home_of, plain_state, lead_of, BlockIs, Codes, Rule}
-use Rattle.shared_chain.proofs.Frames.Blocks.{alive_is}
-use Rattle.shared_chain.proofs.Frames.Tested.{next_tested}
-use Rattle.shared_chain.proofs.Frames.Resting.{free_item, front_before, word_front}
-use Rattle.shared_chain.proofs.Finishing.Finished.{inner, long_inner, inner_else}
+use Rattle.shared_chain.specs.{Spots.spot, ChainCalls.OutChain, Leftover.SlotLeft, Leftover.BlockLeft, Leftover.StaysLeft, Leftover.BlocksLeft, Rule.home_of, Rule.plain_state, Rule.lead_of, Rule.BlockIs, Rule.Codes, Rule.Rule}
+use Rattle.shared_chain.proofs.{Frames.Blocks.alive_is, Frames.Tested.next_tested, Frames.Resting.free_item, Frames.Resting.front_before, Frames.Resting.word_front, Finishing.Finished.inner, Finishing.Finished.long_inner, Finishing.Finished.inner_else}
 
 -- an item that was taken, and is read, is out of its slot
 read_left : {A : Type 0} (w : Writer A) (r : Reader) (b : Bool) → bit_and (plain_state w r) READ ≢ 0 → home_of w r b ≡ vacant

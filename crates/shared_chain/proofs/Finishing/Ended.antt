@@ -4,23 +4,12 @@ use Rattle.std.proofs.lemmas.List.{get_or-drop, length-drop}
 use mathlib.Core.Option.{some, some-injective}
 use lib.ListN.{get_elem?}
 use denote.RawPtr.{Ptr, null_ptr, InBlock}
-use Rattle.queue_laws.specs.Common.Vocabulary.{BLOCK_SLOTS, WRITE}
-use Rattle.queue_laws.specs.Chain.ChainCells.{Before, GivenUp, Chain, ChainOk, item_at}
-use Rattle.queue_laws.specs.Chain.ChainAnswers.{linked_of}
-use Rattle.mem_blocks.specs.Web.{Block, Home, Content, block}
-use Rattle.mem_blocks.specs.declared.block.BlockPtr.{BlockPtr}
-use Rattle.own_cells.specs.OneChain.OwnChainCells.{Piece, piece_at, state_in, item_in}
-use Rattle.own_cells.specs.OneRing.RingOwned.{put_in}
-use Rattle.own_cells.specs.OneChain.LinkedBlocks.{name_at, linked_name, content_of, contents, at_home, piece, pieces_of}
-use Rattle.own_cells.specs.OneChain.OwnChainOwned.{cell_of, items_from, HoldsItems, Linked}
-use Rattle.own_cells.specs.OneChain.ChainMemory.{named_by, AreHeld}
+use Rattle.queue_laws.specs.{Common.Vocabulary.BLOCK_SLOTS, Common.Vocabulary.WRITE, Chain.ChainCells.Before, Chain.ChainCells.GivenUp, Chain.ChainCells.Chain, Chain.ChainCells.ChainOk, Chain.ChainCells.item_at, Chain.ChainAnswers.linked_of}
+use Rattle.mem_blocks.specs.{Web.Block, Web.Home, Web.Content, Web.block, declared.block.BlockPtr.BlockPtr}
+use Rattle.own_cells.specs.{OneChain.OwnChainCells.Piece, OneChain.OwnChainCells.piece_at, OneChain.OwnChainCells.state_in, OneChain.OwnChainCells.item_in, OneRing.RingOwned.put_in, OneChain.LinkedBlocks.name_at, OneChain.LinkedBlocks.linked_name, OneChain.LinkedBlocks.content_of, OneChain.LinkedBlocks.contents, OneChain.LinkedBlocks.at_home, OneChain.LinkedBlocks.piece, OneChain.LinkedBlocks.pieces_of, OneChain.OwnChainOwned.cell_of, OneChain.OwnChainOwned.items_from, OneChain.OwnChainOwned.HoldsItems, OneChain.OwnChainOwned.Linked, OneChain.ChainMemory.named_by, OneChain.ChainMemory.AreHeld}
 use Rattle.own_cells.proofs.OneChain.Pieces.{length-pieces_of, at-pieces_of, length-contents}
-use Rattle.shared_chain.specs.Spots.{spot}
-use Rattle.shared_chain.specs.ChainCalls.{OutChain}
-use Rattle.shared_chain.specs.Ending.{LeadsTo, IntoBlock}
-use Rattle.shared_chain.specs.Rule.{home_of, plain_state, lead_of, BlockIs, Codes}
-use Rattle.shared_chain.proofs.Frames.Blocks.{alive_is}
-use Rattle.shared_chain.proofs.Frames.Resting.{AtRest}
+use Rattle.shared_chain.specs.{Spots.spot, ChainCalls.OutChain, Ending.LeadsTo, Ending.IntoBlock, Rule.home_of, Rule.plain_state, Rule.lead_of, Rule.BlockIs, Rule.Codes}
+use Rattle.shared_chain.proofs.Frames.{Blocks.alive_is, Resting.AtRest}
 
 -- slots that are all at home
 home_again : {A : Type 0} (hs : List (Home A)) → ((i : ℕ) → i < length hs → (c : Content A) × (get_elem? hs i ≡ some (Some c))) → at_home (contents hs) ≡ hs

@@ -3,28 +3,14 @@
 use Rattle.std.proofs.Common.{◌≡◌, ◌∙◌, inl, inr, ℕ, zero, suc, ◌+◌, ◌<◌, ◌≤◌, Bool, true, false, if◌then◌else◌, List, [], ◌∷◌, length, take, drop, Option, None, refl, sym, ap, subst, arith}
 use Rattle.std.proofs.lemmas.List.{drop-set-lt, length-set}
 use denote.RawPtr.{Ptr, Testable}
-use Rattle.queue_steps.specs.Effect.{after}
-use Rattle.queue_steps.specs.Legal.{IsShown}
-use Rattle.queue_steps.specs.Parties.{IsWhole}
-use Rattle.queue_steps.specs.State.{State as Queue}
+use Rattle.queue_steps.specs.{Effect.after, Legal.IsShown, Parties.IsWhole, State.State as Queue}
 use Rattle.queue_laws.specs.Chain.ChainCells.{Before, GivenUp, queue_of}
-use Rattle.mem_blocks.specs.Web.{Block, block, gone, Lives, AllGone, without, word_of, LastBlocksBy}
-use Rattle.mem_blocks.specs.declared.block.BlockPtr.{BlockPtr}
-use Rattle.mem_blocks.specs.declared.hub.TheConstants.{TAIL, PARTIES, HEAD}
-use Rattle.own_cells.specs.OneChain.OwnChainOwned.{own_chain_queue, IsIdle}
-use Rattle.own_cells.specs.OneChain.ChainMemory.{own_chain_in, AreHeld}
-use Rattle.shared_parties.specs.declared.known.CallState.{CallState}
-use Rattle.shared_parties.specs.Known.{view_of}
-use Rattle.shared_parties.specs.CallStates.{IsLoneSeat}
+use Rattle.mem_blocks.specs.{Web.Block, Web.block, Web.gone, Web.Lives, Web.AllGone, Web.without, Web.word_of, Web.LastBlocksBy, declared.block.BlockPtr.BlockPtr, declared.hub.TheConstants.TAIL, declared.hub.TheConstants.PARTIES, declared.hub.TheConstants.HEAD}
+use Rattle.own_cells.specs.OneChain.{OwnChainOwned.own_chain_queue, OwnChainOwned.IsIdle, ChainMemory.own_chain_in, ChainMemory.AreHeld}
+use Rattle.shared_parties.specs.{declared.known.CallState.CallState, Known.view_of, CallStates.IsLoneSeat}
 use Rattle.shared_parties.proofs.Endings.{OnlyParty, calls_end}
-use Rattle.shared_chain.specs.ChainCalls.{OutChain, chain_calls}
-use Rattle.shared_chain.specs.Ending.{LeadsTo, IntoBlock, gone_first}
-use Rattle.shared_chain.specs.Rule.{IsThere, Codes, Rule}
-use Rattle.shared_chain.proofs.Frames.Blocks.{gone_here, gone_else, alive_is}
-use Rattle.shared_chain.proofs.Frames.Tested.{next_tested}
-use Rattle.shared_chain.proofs.Frames.Resting.{AtRest, at_rest}
-use Rattle.shared_chain.proofs.Finishing.Ended.{all_held, left, within}
-use Rattle.shared_chain.proofs.Finishing.Finish.{finish_idle, finish_shown}
+use Rattle.shared_chain.specs.{ChainCalls.OutChain, ChainCalls.chain_calls, Ending.LeadsTo, Ending.IntoBlock, Ending.gone_first, Rule.IsThere, Rule.Codes, Rule.Rule}
+use Rattle.shared_chain.proofs.{Frames.Blocks.gone_here, Frames.Blocks.gone_else, Frames.Blocks.alive_is, Frames.Tested.next_tested, Frames.Resting.AtRest, Frames.Resting.at_rest, Finishing.Ended.all_held, Finishing.Ended.left, Finishing.Ended.within, Finishing.Finish.finish_idle, Finishing.Finish.finish_shown}
 
 -- the blocks at the beginning that left the web did
 pub gone_take : {A : Type 0} (xs : List (Block A)) → AllGone (take (gone_first xs) xs)

@@ -7,12 +7,10 @@ use lib.ListN.{get_elem?}
 use denote.RawPtr.{Ptr, null_ptr, InBlock, Testable}
 use Rattle.queue_laws.specs.Common.Vocabulary.{LIMIT, BLOCK_SLOTS, WRITE, READ}
 use Rattle.mem_blocks.specs.Web.{Block, Home, block, homed, with_home, without, vacant, full, AllVacant, Lives}
-use Rattle.mem_blocks.specs.declared.block.BlockPtr.{BlockPtr}
-use Rattle.mem_blocks.specs.declared.sizes.TheConstants.{SLOTS}
+use Rattle.mem_blocks.specs.declared.{block.BlockPtr.BlockPtr, sizes.TheConstants.SLOTS}
 use Rattle.shared_parties.proofs.CallSteps.{set_at}
 use Rattle.shared_chain.specs.Leftover.{SlotLeft, BlockLeft, StaysLeft, BlocksLeft, SameBut, Emptied, IsHere, is_held, any_held}
-use Rattle.shared_chain.proofs.Frames.Blocks.{home_here, gone_else}
-use Rattle.shared_chain.proofs.Frames.Tested.{alive_within}
+use Rattle.shared_chain.proofs.Frames.{Blocks.home_here, Blocks.gone_else, Tested.alive_within}
 
 -- the numbers of blocks that are there, and of their items, fit a word
 pub number_fits : (b n : ℕ) → n * BLOCK_SLOTS ≤ 2 * LIMIT → b + 2 < n → b + 2 < 18446744073709551616

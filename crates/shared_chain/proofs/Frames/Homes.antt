@@ -6,12 +6,10 @@ use mathlib.Core.Option as maybe
 use lib.ListN.{get_elem?}
 use denote.RawPtr.{Ptr}
 use Rattle.atomic_table.proofs.Lists.{set_here, set_else}
-use Rattle.queue_laws.specs.Common.Vocabulary.{BLOCK_SLOTS}
+use Rattle.queue_laws.specs.{Common.Vocabulary.BLOCK_SLOTS, Chain.ChainAnswers.waits_at, Chain.ChainAnswers.is_wrote, Chain.ChainAnswers.is_done, Chain.ChainAnswers.IsState}
 use Rattle.queue_laws.specs.Chain.ChainCells.{Writer, Writing, Reader, Done, Walk, Before, GivenUp, Chain, ChainOk, ItemOk, WalkOk, IsWalked, item_at, LAST}
-use Rattle.queue_laws.specs.Chain.ChainAnswers.{waits_at, is_wrote, is_done, IsState}
 use Rattle.mem_blocks.specs.Web.{Block, Home, block, worded, homed, gone, with_word, with_home, without, word_of, vacant, AllVacant}
-use Rattle.shared_chain.specs.ChainCalls.{OutChain}
-use Rattle.shared_chain.specs.Rule.{home_of, plain_state, BlockIs, IsThere, Codes}
+use Rattle.shared_chain.specs.{ChainCalls.OutChain, Rule.home_of, Rule.plain_state, Rule.BlockIs, Rule.IsThere, Rule.Codes}
 use Rattle.shared_chain.proofs.Frames.Blocks.{SameBlock, there_same, alive_is, word_here, word_else, home_here, home_else, gone_here, gone_else}
 
 -- no other slot of this block has the item, and no slot of another block

@@ -1,16 +1,11 @@
 -- A chain on which no call is on its way: each item that was taken is read, each that was not is written, the blocks before the front's are given up, and the
 -- others are linked to one another.
 use Rattle.std.proofs.Common.{ℕ, ◌+◌, ◌-◌, ◌/◌, ◌<◌, ◌≤◌, ◌≡◌, ◌≢◌, ◌⊎◌, ◌∙◌, inl, inr, Bool, Some, List, refl, sym, ap, subst, arith, slice_get}
-use Rattle.queue_laws.specs.Common.Vocabulary.{BLOCK_SLOTS}
+use Rattle.queue_laws.specs.{Common.Vocabulary.BLOCK_SLOTS, Chain.ChainFacts.place, Chain.ChainAnswers.head_word}
 use Rattle.queue_steps.specs.ChainWords.{block_at}
-use Rattle.queue_laws.proofs.Common.Tails.{position_tail}
-use Rattle.queue_laws.specs.Chain.ChainFacts.{place}
-use Rattle.queue_laws.proofs.Chain.ChainPlaces.{place_block}
-use Rattle.queue_laws.specs.Chain.ChainAnswers.{head_word}
-use Rattle.queue_laws.proofs.Chain.ChainAnswers.{standing_word}
+use Rattle.queue_laws.proofs.{Common.Tails.position_tail, Chain.ChainPlaces.place_block, Chain.ChainAnswers.standing_word, Chain.ChainRanks.rests_if, Chain.ChainRanks.stands_if}
 use Rattle.own_cells.specs.OneChain.ChainMemory.{block_of}
 use Rattle.queue_laws.specs.Chain.ChainCells.{Writer, Free, Writing, Wrote, Reader, Unread, Reading, Done, Rests, Passer, Stands, LinkState, Unlinked, Linking, Linked, Shown, Hidden, Showing, Seen, Walk, Before, Walker, Waits, GivenUp, Chain, ItemOk, BlocksOk, LinkOk, FrontOk, ShownOk, WalkOk, ChainOk, Write, Read, Tail, Head, Next, First, Passed, writer_of, reader_of, linker_of, shower_of, walker_of, HoldsOnly, Nothing, item_at, LAST}
-use Rattle.queue_laws.proofs.Chain.ChainRanks.{rests_if, stands_if}
 
 -- nobody writes or reads the items of these cells
 abbrev NoWriter : {A : Type 0} → Writer A → Type 0

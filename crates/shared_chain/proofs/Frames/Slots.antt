@@ -5,24 +5,15 @@ use mathlib.Core.Option.{some}
 use lib.ListN.{get_elem?}
 use denote.RawPtr.{Ptr}
 use Rattle.atomic_table.proofs.Lists.{set_here, set_else}
-use Rattle.queue_laws.specs.Common.Vocabulary.{Op, Local, Next, BLOCK_SLOTS, WRITE, READ}
-use Rattle.queue_steps.specs.State.{State}
-use Rattle.queue_steps.specs.UnboundedNext.{unbounded_next}
-use Rattle.queue_laws.specs.Common.Stand.{Stand}
+use Rattle.queue_laws.specs.{Common.Vocabulary.Op, Common.Vocabulary.Local, Common.Vocabulary.Next, Common.Vocabulary.BLOCK_SLOTS, Common.Vocabulary.WRITE, Common.Vocabulary.READ, Common.Stand.Stand, Chain.ChainAt.At, Chain.ChainAfter.chain_of, Chain.ChainAfter.after_of, Chain.ChainAfter.left_by, Chain.ChainPasses.spare_in, Common.Operations.op_word}
+use Rattle.queue_steps.specs.{State.State, UnboundedNext.unbounded_next}
 use Rattle.queue_laws.specs.Chain.ChainCells.{Writer, Free, Wrote, Reader, Unread, Reading, Done, Chain, Write, Read, reader_of, HoldsOnly, Nothing, item_at}
-use Rattle.queue_laws.specs.Chain.ChainAt.{At}
-use Rattle.queue_laws.specs.Chain.ChainAfter.{chain_of, after_of, left_by}
 use Rattle.queue_laws.specs.Chain.ChainAnswers.{Answers, linked_of, last_of, shown_of, tail_word, head_word, is_wrote, is_done, waits_at}
-use Rattle.queue_laws.proofs.Chain.ChainAnswers.{done_is}
-use Rattle.queue_laws.specs.Chain.ChainPasses.{spare_in}
-use Rattle.queue_laws.proofs.Chain.ChainGiven.{holds_given}
+use Rattle.queue_laws.proofs.Chain.{ChainAnswers.done_is, ChainGiven.holds_given}
 use Rattle.mem_blocks.specs.Web.{Block, Home, Sitter, Act, Mays, blocks_after, sitter_after, Lives, block, worded, homed, with_word, vacant, AllVacant}
 use Rattle.mem_blocks.specs.declared.hub.TheConstants.{TAIL, HEAD}
 use Rattle.shared_parties.specs.declared.known.CallState.{CallState}
-use Rattle.queue_laws.specs.Common.Operations.{op_word}
-use Rattle.shared_chain.specs.Spots.{spot}
-use Rattle.shared_chain.specs.ChainCalls.{OutChain, HasOut, ChainLent}
-use Rattle.shared_chain.specs.Rule.{home_of, plain_state, lead_of, IsThere, Codes}
+use Rattle.shared_chain.specs.{Spots.spot, ChainCalls.OutChain, ChainCalls.HasOut, ChainCalls.ChainLent, Rule.home_of, Rule.plain_state, Rule.lead_of, Rule.IsThere, Rule.Codes}
 use Rattle.shared_chain.specs.Steps.{fresh_at, carried_by, slot_block, hand_by, HoldsBy, HoldsFor, op_place, word_index, blocks_made, answered, LeadsThere, SlotsFor, BlockStep}
 use Rattle.shared_chain.proofs.Frames.Blocks.{word_here, word_else, codes_left}
 

@@ -1,29 +1,15 @@
 -- A step on the state of a slot: what it finds there, what it makes of it, and what is left to say of the acts beside it.
 use Rattle.std.proofs.Common.{ℕ, ◌+◌, ◌<◌, ◌≡◌, ◌≢◌, ◌==◌, ◌∙◌, ◌⊎◌, inl, inr, Bool, Option, Ok, Some, None, List, [], ◌∷◌, length, refl, sym, ap, subst, arith, bit_and, bit_or}
-use Rattle.std.proofs.lemmas.Bool.{lt-ltb, le-ltb}
-use Rattle.std.proofs.lemmas.Nat.{and_or_apart}
+use Rattle.std.proofs.lemmas.{Bool.lt-ltb, Bool.le-ltb, Nat.and_or_apart}
 use denote.RawPtr.{Ptr}
-use Rattle.queue_laws.specs.Common.Puts.{put}
-use Rattle.queue_laws.proofs.Common.Puts.{put_other}
+use Rattle.queue_laws.specs.{Common.Puts.put, Common.Stand.Stand, Common.Stand.stand, Chain.ChainTransitions.walk_after, Chain.ChainFacts.IsNamed, Chain.ChainAt.At, Chain.ChainAt.Only, Chain.ChainAnswers.StateAnswers, Chain.ChainAnswers.IsState, Chain.ChainAnswers.Answers, Chain.ChainAfter.chain_of, Chain.ChainAfter.after_of, Chain.ChainAfter.left_by, Common.Operations.op_word}
+use Rattle.queue_laws.proofs.{Common.Puts.put_other, Chain.ChainWalk.after_walker}
 use Rattle.queue_laws.specs.Common.Vocabulary.{Call, Reply, Effect, Word, Op, Touch, Answer, Local, Next, BLOCK_SLOTS}
-use Rattle.queue_steps.specs.State.{State}
-use Rattle.queue_steps.specs.declared.steps.unbounded.UnboundedLocal.TheVariants as chain
-use Rattle.queue_steps.specs.UnboundedNext.{unbounded_next, walks_on}
-use Rattle.queue_laws.specs.Common.Stand.{Stand, stand}
+use Rattle.queue_steps.specs.{State.State, declared.steps.unbounded.UnboundedLocal.UnboundedLocal as chain, UnboundedNext.unbounded_next, UnboundedNext.walks_on}
 use Rattle.queue_laws.specs.Chain.ChainCells.{Reading, Done, Walk, Walker, GivenUp, Chained, Chain, ChainOk, Part, Write, Read, Passed, HoldsOnly, reader_of, item_at, LAST}
-use Rattle.queue_laws.specs.Chain.ChainTransitions.{walk_after}
-use Rattle.queue_laws.specs.Chain.ChainFacts.{IsNamed}
-use Rattle.queue_laws.specs.Chain.ChainAt.{At, Only}
-use Rattle.queue_laws.specs.Chain.ChainAnswers.{StateAnswers, IsState, Answers}
-use Rattle.queue_laws.specs.Chain.ChainAfter.{chain_of, after_of, left_by}
-use Rattle.queue_laws.proofs.Chain.ChainWalk.{after_walker}
 use Rattle.mem_blocks.specs.Web.{Block, Sitter, Act, lifts, block, Lives, word_of, with_word, without, AllVacant, acted, May, Mays, blocks_after, sitter_acted, sitter_after}
 use Rattle.shared_parties.specs.declared.known.CallState.{CallState}
-use Rattle.queue_laws.specs.Common.Operations.{op_word}
-use Rattle.shared_chain.specs.Spots.{spot}
-use Rattle.shared_chain.specs.ChainCalls.{OutChain, HasOut, ChainLent}
-use Rattle.shared_chain.specs.Rule.{Codes}
-use Rattle.shared_chain.specs.Steps.{BlockStep, SlotsFor, HoldsFor, op_place, word_index, blocks_made, answered, LeadsThere}
+use Rattle.shared_chain.specs.{Spots.spot, ChainCalls.OutChain, ChainCalls.HasOut, ChainCalls.ChainLent, Rule.Codes, Steps.BlockStep, Steps.SlotsFor, Steps.HoldsFor, Steps.op_place, Steps.word_index, Steps.blocks_made, Steps.answered, Steps.LeadsThere}
 use Rattle.shared_chain.proofs.Frames.Blocks.{alive_is, word_same, codes_left}
 
 -- a bit that is set leaves the other tests

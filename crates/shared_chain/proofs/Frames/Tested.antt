@@ -3,16 +3,11 @@ use Rattle.std.proofs.Common.{ℕ, zero, suc, ◌+◌, ◌<◌, ◌≡◌, ◌�
 use mathlib.Core.Logic.{dite}
 use native.Mathlib.Decide.{ℕ_discrete}
 use denote.RawPtr.{Ptr, Testable}
-use Rattle.queue_laws.specs.Common.Vocabulary.{Op}
+use Rattle.queue_laws.specs.{Common.Vocabulary.Op, Chain.ChainAnswers.last_of, Chain.ChainAnswers.shown_of, Chain.ChainAnswers.linked_of, Common.Operations.op_word, Common.Operations.op_makes}
 use Rattle.queue_laws.specs.Chain.ChainCells.{LinkState, Linked, Shown, Seen, Use, Chained, ChainOk, LinkOk, ShownOk}
-use Rattle.queue_laws.specs.Chain.ChainAnswers.{last_of, shown_of, linked_of}
 use Rattle.mem_blocks.specs.Web.{Block, Home, Act, takes, gives, lays, lifts, block, word_of, homed, gone, linked, worded, with_word, with_next, with_home, without, acted, blocks_after, if_unset}
 use Rattle.mem_blocks.specs.declared.hub.TheConstants.{PARTIES}
-use Rattle.queue_laws.specs.Common.Operations.{op_word, op_makes}
-use Rattle.shared_chain.specs.Spots.{spot}
-use Rattle.shared_chain.specs.ChainCalls.{OutChain}
-use Rattle.shared_chain.specs.Rule.{lead_of, IsUsed, IsThere, Codes}
-use Rattle.shared_chain.specs.Steps.{word_index, blocks_made}
+use Rattle.shared_chain.specs.{Spots.spot, ChainCalls.OutChain, Rule.lead_of, Rule.IsUsed, Rule.IsThere, Rule.Codes, Steps.word_index, Steps.blocks_made}
 use Rattle.shared_chain.proofs.Frames.Blocks.{word_here, word_else, next_here, next_else, home_here, home_else, gone_here, gone_else}
 
 used_chained : (u : Use) (b : ℕ) → u ≡ Chained b → IsUsed u

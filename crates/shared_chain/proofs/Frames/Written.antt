@@ -3,15 +3,9 @@ use Rattle.std.proofs.Common.{ℕ, ◌≡◌, ◌∙◌, true, List, refl, sym, 
 use mathlib.Core.Option.{some, some-injective, some-ne-none}
 use mathlib.Core.Option as maybe
 use lib.ListN.{get_elem?}
-use Rattle.queue_laws.specs.Common.Vocabulary.{Effect}
+use Rattle.queue_laws.specs.{Common.Vocabulary.Effect, Common.Stand.Stand, Chain.ChainCells.Wrote, Chain.ChainCells.Reading, Chain.ChainCells.Chain, Chain.ChainCells.Read, Chain.ChainCells.reader_of, Chain.ChainAt.At, Chain.ChainAt.reading, Chain.ChainAt.beginning, Chain.ChainAt.walking}
 use Rattle.queue_steps.specs.State.{State}
-use Rattle.queue_laws.specs.Common.Stand.{Stand}
-use Rattle.queue_laws.specs.Chain.ChainCells.{Wrote, Reading, Chain, Read, reader_of}
-use Rattle.queue_laws.specs.Chain.ChainAt.{At, reading, beginning, walking}
-use Rattle.shared_parties.specs.declared.known.CallState.{CallState}
-use Rattle.shared_parties.specs.declared.known.Work.{Work}
-use Rattle.shared_parties.specs.CallStates.{is_busy}
-use Rattle.shared_parties.specs.CallsAt.{CallsAt}
+use Rattle.shared_parties.specs.{declared.known.CallState.CallState, declared.known.Work.Work, CallStates.is_busy, CallsAt.CallsAt}
 use Rattle.shared_chain.specs.ChainCalls.{OutChain, has_slot, chain_calls}
 use Rattle.shared_chain.proofs.Steps.Writing.{OutWrote}
 

@@ -3,28 +3,14 @@ use Rattle.std.proofs.Common.{ℕ, ◌+◌, ◌%◌, ◌^◌, ◌<◌, ◌≡◌
 use mathlib.Core.Option.{some}
 use lib.ListN.{get_elem?}
 use denote.RawPtr.{Ptr, Testable}
-use Rattle.queue_laws.specs.Common.Vocabulary.{Word, Link, Op, Answer}
-use Rattle.queue_laws.specs.Chain.ChainCells.{Chain}
-use Rattle.queue_laws.specs.Chain.ChainAnswers.{Answers, last_of}
+use Rattle.queue_laws.specs.{Common.Vocabulary.Word, Common.Vocabulary.Link, Common.Vocabulary.Op, Common.Vocabulary.Answer, Chain.ChainCells.Chain, Chain.ChainAnswers.Answers, Chain.ChainAnswers.last_of, Common.Operations.OnWord, Common.Operations.op_word, Common.Operations.op_makes, Common.Operations.answer_for}
 use Rattle.mem_blocks.specs.Web.{Block, State, Sitter, Lives, viewed, block, word_of, with_word, with_next, blocks_after, sitter_after, KeepsRule, Allows, AllowsLink}
 use Rattle.mem_blocks.specs.declared.hub.TheConstants.{PARTIES}
-use Rattle.shared_parties.specs.declared.known.CallState.{CallState}
-use Rattle.shared_parties.specs.declared.known.InCall.{InCall}
-use Rattle.shared_parties.specs.Calling.{Standing, touched_list}
-use Rattle.shared_parties.specs.CallsAt.{Ready}
-use Rattle.queue_laws.specs.Common.Operations.{OnWord, op_word, op_makes, answer_for}
+use Rattle.shared_parties.specs.{declared.known.CallState.CallState, declared.known.InCall.InCall, Calling.Standing, Calling.touched_list, CallsAt.Ready}
 use Rattle.shared_parties.proofs.CallSteps.{stands_at}
-use Rattle.shared_chain.specs.ChainCalls.{chain_calls}
-use Rattle.shared_chain.specs.Rule.{lead_of, Rule}
-use Rattle.shared_chain.specs.Spots.{spot}
-use Rattle.shared_chain.specs.Names.{is_set_once}
+use Rattle.shared_chain.specs.{ChainCalls.chain_calls, Rule.lead_of, Rule.Rule, Spots.spot, Names.is_set_once}
 use Rattle.shared_chain.specs.Steps.{HoldsBy, op_place, word_index, link_makes, blocks_made, link_found, answered, LeadsThere, BlockStep, Follows, FollowsLink}
-use Rattle.shared_chain.proofs.CallLaws.{chain_call_laws, OnBlocks, chain_opens}
-use Rattle.shared_chain.proofs.Steps.Allowing.{follows}
-use Rattle.shared_chain.proofs.Frames.Tested.{next_tested, count_kept}
-use Rattle.shared_chain.proofs.Steps.BlockSteps.{block_steps}
-use Rattle.shared_chain.proofs.Frames.Written.{out_wrote}
-use Rattle.shared_chain.proofs.Frames.Unset.{FindsUnset, finds_unset}
+use Rattle.shared_chain.proofs.{CallLaws.chain_call_laws, CallLaws.OnBlocks, CallLaws.chain_opens, Steps.Allowing.follows, Frames.Tested.next_tested, Frames.Tested.count_kept, Steps.BlockSteps.block_steps, Frames.Written.out_wrote, Frames.Unset.FindsUnset, Frames.Unset.finds_unset}
 
 -- an operation on a word
 abbrev pub IsWordOp : Op ℕ → Type 0

@@ -4,32 +4,14 @@ use Rattle.std.proofs.Common.{ℕ, ◌≡◌, ◌≢◌, ◌||◌, not, Bool, Op
 use mathlib.Core.Option.{some}
 use lib.ListN.{get_elem?}
 use denote.RawPtr.{Ptr}
-use Rattle.queue_laws.specs.Common.Vocabulary.{Call, Effect, Kind, Answer, Local, Next}
-use Rattle.queue_steps.specs.Next.{CanNext, next_of}
-use Rattle.queue_steps.specs.State.{State as Queue}
-use Rattle.queue_steps.specs.UnboundedNext.{FitsChain, unbounded_next}
-use Rattle.queue_laws.specs.Common.Effects.{Leads, with_effect, MayFront}
-use Rattle.queue_laws.specs.Common.Stand.{Stand}
-use Rattle.queue_laws.specs.Chain.ChainCells.{Reading, Chain, queue_of}
-use Rattle.queue_laws.specs.Chain.ChainAt.{At}
-use Rattle.queue_laws.specs.Chain.ChainAnswers.{Answers}
-use Rattle.queue_laws.proofs.Chain.ChainRight.{NextOkSpares, Right, step_right}
-use Rattle.queue_laws.specs.Chain.ChainAfter.{chain_of, carried_of, after_of}
-use Rattle.queue_laws.proofs.Chain.ChainStep.{is_chain}
-use Rattle.mem_blocks.specs.Web.{Block, State, Sitter, word_of, viewed}
-use Rattle.mem_blocks.specs.declared.hub.TheConstants.{PARTIES}
-use Rattle.shared_parties.specs.declared.known.CallState.{CallState}
-use Rattle.shared_parties.specs.declared.known.InCall.{InCall}
-use Rattle.shared_parties.specs.Calling.{Standing, NextOk, handed_by, stand_of}
-use Rattle.shared_parties.specs.CallsAt.{CallsAt}
-use Rattle.shared_parties.proofs.Callings.{grown}
-use Rattle.shared_parties.proofs.CallSteps.{Stepping, call_step}
-use Rattle.shared_chain.specs.ChainCalls.{OutChain, ChainLent, chain_calls}
-use Rattle.shared_chain.specs.Rule.{Codes, Rule}
-use Rattle.shared_chain.specs.Steps.{HoldsFor, chain_then, SlotsFor, MayGoOn, After, Follows}
-use Rattle.shared_chain.proofs.CallLaws.{chain_call_laws}
-use Rattle.shared_chain.proofs.Steps.Carrying.{carried_is}
-use Rattle.shared_chain.proofs.Steps.MaySteps.{may_go_on}
+use Rattle.queue_laws.specs.{Common.Vocabulary.Call, Common.Vocabulary.Effect, Common.Vocabulary.Kind, Common.Vocabulary.Answer, Common.Vocabulary.Local, Common.Vocabulary.Next, Common.Effects.Leads, Common.Effects.with_effect, Common.Effects.MayFront, Common.Stand.Stand, Chain.ChainCells.Reading, Chain.ChainCells.Chain, Chain.ChainCells.queue_of, Chain.ChainAt.At, Chain.ChainAnswers.Answers, Chain.ChainAfter.chain_of, Chain.ChainAfter.carried_of, Chain.ChainAfter.after_of}
+use Rattle.queue_steps.specs.{Next.CanNext, Next.next_of, State.State as Queue, UnboundedNext.FitsChain, UnboundedNext.unbounded_next}
+use Rattle.queue_laws.proofs.Chain.{ChainRight.NextOkSpares, ChainRight.Right, ChainRight.step_right, ChainStep.is_chain}
+use Rattle.mem_blocks.specs.{Web.Block, Web.State, Web.Sitter, Web.word_of, Web.viewed, declared.hub.TheConstants.PARTIES}
+use Rattle.shared_parties.specs.{declared.known.CallState.CallState, declared.known.InCall.InCall, Calling.Standing, Calling.NextOk, Calling.handed_by, Calling.stand_of, CallsAt.CallsAt}
+use Rattle.shared_parties.proofs.{Callings.grown, CallSteps.Stepping, CallSteps.call_step}
+use Rattle.shared_chain.specs.{ChainCalls.OutChain, ChainCalls.ChainLent, ChainCalls.chain_calls, Rule.Codes, Rule.Rule, Steps.HoldsFor, Steps.chain_then, Steps.SlotsFor, Steps.MayGoOn, Steps.After, Steps.Follows}
+use Rattle.shared_chain.proofs.{CallLaws.chain_call_laws, Steps.Carrying.carried_is, Steps.MaySteps.may_go_on}
 
 can_next : (l : Local ℕ) (a : Answer ℕ) → l ≡ Local.Unbounded (chain_of l) → FitsChain (chain_of l) a → CanNext Kind.Unbounded l a × (next_of Kind.Unbounded l a ≡ unbounded_next (chain_of l) a)
 can_next l a is fits = (subst (λ z. CanNext Kind.Unbounded z a) (sym is) fits, ap (λ z. next_of Kind.Unbounded z a) is)

@@ -3,26 +3,13 @@ use Rattle.std.proofs.Common.{ℕ, ◌≡◌, ◌∙◌, Option, Some, None, Lis
 use mathlib.Core.Option.{some}
 use lib.ListN.{get_elem?}
 use denote.RawPtr.{Ptr, block_ptr, null_ptr, InBlock, Testable}
-use Rattle.queue_laws.specs.Common.Vocabulary.{Op, Answer}
+use Rattle.queue_laws.specs.{Common.Vocabulary.Op, Common.Vocabulary.Answer, Common.Stand.Stand, Chain.ChainAt.At, Chain.ChainAt.asking}
 use Rattle.queue_steps.specs.State.{State as Queue}
-use Rattle.queue_laws.specs.Common.Stand.{Stand}
-use Rattle.queue_laws.specs.Chain.ChainAt.{At, asking}
-use Rattle.mem_blocks.specs.Web.{Block, State, Sitter, word_of, KeepsRule, Allows}
-use Rattle.mem_blocks.specs.declared.hub.TheConstants.{TAIL, PARTIES}
-use Rattle.shared_parties.specs.declared.known.CallState.{CallState}
-use Rattle.shared_parties.specs.declared.known.InCall.{InCall}
-use Rattle.shared_parties.specs.Calling.{Standing}
-use Rattle.shared_parties.specs.CallsAt.{Ready}
+use Rattle.mem_blocks.specs.{Web.Block, Web.State, Web.Sitter, Web.word_of, Web.KeepsRule, Web.Allows, declared.hub.TheConstants.TAIL, declared.hub.TheConstants.PARTIES}
+use Rattle.shared_parties.specs.{declared.known.CallState.CallState, declared.known.InCall.InCall, Calling.Standing, CallsAt.Ready}
 use Rattle.shared_parties.proofs.CallSteps.{stands_at}
-use Rattle.shared_chain.specs.ChainCalls.{OutChain, SlotsAs, ChainLent, chain_calls}
-use Rattle.shared_chain.specs.Rule.{Codes, Rule}
-use Rattle.shared_chain.specs.Spots.{spot}
-use Rattle.shared_chain.specs.Steps.{fresh_at, hand_by, Follows, FollowsGrant}
-use Rattle.shared_chain.proofs.CallLaws.{chain_call_laws, OnBlocks, chain_opens}
-use Rattle.shared_chain.proofs.Steps.Allowing.{Found, follows}
-use Rattle.shared_chain.proofs.Frames.Blocks.{word_same}
-use Rattle.shared_chain.proofs.Frames.Links.{nothing_lent}
-use Rattle.shared_chain.proofs.Steps.Granting.{granted_at, refused_codes}
+use Rattle.shared_chain.specs.{ChainCalls.OutChain, ChainCalls.SlotsAs, ChainCalls.ChainLent, ChainCalls.chain_calls, Rule.Codes, Rule.Rule, Spots.spot, Steps.fresh_at, Steps.hand_by, Steps.Follows, Steps.FollowsGrant}
+use Rattle.shared_chain.proofs.{CallLaws.chain_call_laws, CallLaws.OnBlocks, CallLaws.chain_opens, Steps.Allowing.Found, Steps.Allowing.follows, Frames.Blocks.word_same, Frames.Links.nothing_lent, Steps.Granting.granted_at, Steps.Granting.refused_codes}
 
 module _ {A : Type 0} (te he : Ptr) where
   -- where the call asks for a block, one that lies at p and that the seat carries is its spare

@@ -2,29 +2,14 @@
 use Rattle.std.proofs.Common.{ℕ, ◌+◌, ◌/◌, ◌%◌, ◌<◌, ◌≡◌, ◌≢◌, ◌==◌, ◌∙◌, not, inl, inr, Bool, true, false, if◌then◌else◌, Option, Some, None, List, [], ◌∷◌, length, refl, sym, ap, subst, arith, bit_and, get_or}
 use mathlib.Core.Option.{some}
 use denote.RawPtr.{Ptr}
-use Rattle.queue_laws.specs.Common.Puts.{put}
-use Rattle.queue_laws.proofs.Common.Puts.{put_same, put_other}
-use Rattle.queue_laws.specs.Common.Vocabulary.{Word, Op, Touch, Local, Next, BLOCK_SLOTS, WRITE, READ}
-use Rattle.queue_steps.specs.State.{State}
-use Rattle.queue_steps.specs.ChainWords.{offset_of}
-use Rattle.queue_steps.specs.UnboundedNext.{at, walks, awaits, is_last_slot, written_found}
-use Rattle.queue_steps.specs.declared.steps.unbounded.UnboundedLocal.TheVariants as chain
+use Rattle.queue_laws.specs.{Common.Puts.put, Common.Vocabulary.Word, Common.Vocabulary.Op, Common.Vocabulary.Touch, Common.Vocabulary.Local, Common.Vocabulary.Next, Common.Vocabulary.BLOCK_SLOTS, Common.Vocabulary.WRITE, Common.Vocabulary.READ, Chain.ChainFacts.head_of, Chain.ChainFacts.Got, Chain.ChainAt.Only, Chain.ChainAt.awaiting, Chain.ChainAnswers.IsState, Chain.ChainAnswers.is_wrote, Chain.ChainPasses.spare_in}
+use Rattle.queue_laws.proofs.{Common.Puts.put_same, Common.Puts.put_other, Chain.ChainReads.own_item, Chain.ChainAnswers.head_offset}
+use Rattle.queue_steps.specs.{State.State, ChainWords.offset_of, UnboundedNext.at, UnboundedNext.walks, UnboundedNext.awaits, UnboundedNext.is_last_slot, UnboundedNext.written_found, declared.steps.unbounded.UnboundedLocal.UnboundedLocal as chain}
 use Rattle.queue_laws.specs.Chain.ChainCells.{Writer, Wrote, Reading, Done, GivenUp, ChainOk, Write, Read, HoldsOnly, value, reader_of, item_at}
-use Rattle.queue_laws.proofs.Chain.ChainReads.{own_item}
-use Rattle.queue_laws.specs.Chain.ChainFacts.{head_of, Got}
-use Rattle.queue_laws.specs.Chain.ChainAt.{Only, awaiting}
-use Rattle.queue_laws.specs.Chain.ChainAnswers.{IsState, is_wrote}
-use Rattle.queue_laws.proofs.Chain.ChainAnswers.{head_offset}
-use Rattle.queue_laws.specs.Chain.ChainPasses.{spare_in}
 use Rattle.mem_blocks.specs.Web.{Block, Sitter, takes, block, Lives, word_of, with_home, away, full}
 use Rattle.shared_parties.specs.declared.known.CallState.{CallState}
-use Rattle.shared_chain.specs.Spots.{spot}
-use Rattle.shared_chain.specs.ChainCalls.{OutChain, has_slot, HasOut, ChainLent, SlotsAs}
-use Rattle.shared_chain.specs.Rule.{home_of, BlockIs, Codes}
-use Rattle.shared_chain.specs.Steps.{BlockStep, HoldsBy, slot_block, carried_by}
-use Rattle.shared_chain.proofs.Frames.Blocks.{alive_is}
-use Rattle.shared_chain.proofs.Frames.Homes.{turns_home, codes_turned, not_given, home_set, word_kept}
-use Rattle.shared_chain.proofs.Frames.States.{state_is, others_out, Leaves, load_step, no_lent, idles}
+use Rattle.shared_chain.specs.{Spots.spot, ChainCalls.OutChain, ChainCalls.has_slot, ChainCalls.HasOut, ChainCalls.ChainLent, ChainCalls.SlotsAs, Rule.home_of, Rule.BlockIs, Rule.Codes, Steps.BlockStep, Steps.HoldsBy, Steps.slot_block, Steps.carried_by}
+use Rattle.shared_chain.proofs.Frames.{Blocks.alive_is, Homes.turns_home, Homes.codes_turned, Homes.not_given, Homes.home_set, Homes.word_kept, States.state_is, States.others_out, States.Leaves, States.load_step, States.no_lent, States.idles}
 
 -- an item that is x, and is written
 wrote_is : {A : Type 0} (w : Writer A) (x : A) → value w ≡ Some x → is_wrote w ≡ true → w ≡ Wrote x

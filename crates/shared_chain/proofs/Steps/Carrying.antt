@@ -1,10 +1,7 @@
 -- What a call carries after its touch is what lay in the slot that it has.
 use Rattle.std.proofs.Common.{ℕ, ◌≡◌, Option, List, refl, sym, ap}
 use Rattle.queue_steps.specs.State.{State}
-use Rattle.queue_laws.specs.Common.Stand.{Stand}
-use Rattle.queue_laws.specs.Chain.ChainCells.{writer_of}
-use Rattle.queue_laws.specs.Chain.ChainAt.{At, writing, reading, beginning}
-use Rattle.queue_laws.specs.Chain.ChainAfter.{carried_of}
+use Rattle.queue_laws.specs.{Common.Stand.Stand, Chain.ChainCells.writer_of, Chain.ChainAt.At, Chain.ChainAt.writing, Chain.ChainAt.reading, Chain.ChainAt.beginning, Chain.ChainAfter.carried_of}
 use Rattle.shared_parties.specs.Calling.{lies_in, handed_by}
 use Rattle.shared_chain.specs.ChainCalls.{OutChain, SlotsAs, ChainLent}
 use Rattle.shared_chain.proofs.CallLaws.{of_writer, of_reader}

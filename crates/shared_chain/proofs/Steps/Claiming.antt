@@ -3,34 +3,15 @@ use Rattle.std.proofs.Common.{ℕ, ◌+◌, ◌/◌, ◌%◌, ◌<◌, ◌≤◌
 use Rattle.std.proofs.lemmas.Bool.Decides.{eqb_tells}
 use denote.RawPtr.{Ptr}
 use mathlib.Core.Option.{some}
-use Rattle.queue_laws.specs.Common.Vocabulary.{Word, Op, Answer, Local, Next, PushKind, BLOCK_SLOTS, TAIL_STEP}
-use Rattle.queue_steps.specs.State.{State}
-use Rattle.queue_steps.specs.Words.{tail_of}
-use Rattle.queue_steps.specs.ChainWords.{offset_of}
-use Rattle.queue_steps.specs.UnboundedNext.{unbounded_next, chain_tail_found, lays, writes}
-use Rattle.queue_steps.specs.declared.steps.unbounded.UnboundedLocal.TheVariants as chain
-use Rattle.queue_laws.specs.Common.Puts.{put}
-use Rattle.queue_laws.proofs.Common.Puts.{put_ok, put_same, put_other}
-use Rattle.queue_laws.specs.Common.Stand.{brings}
+use Rattle.queue_laws.specs.{Common.Vocabulary.Word, Common.Vocabulary.Op, Common.Vocabulary.Answer, Common.Vocabulary.Local, Common.Vocabulary.Next, Common.Vocabulary.PushKind, Common.Vocabulary.BLOCK_SLOTS, Common.Vocabulary.TAIL_STEP, Common.Puts.put, Common.Stand.brings, Chain.ChainTransitions.appended, Chain.ChainAfter.if_claimed, Chain.ChainFacts.open_tail_of, Chain.ChainFacts.IsNamed, Chain.ChainFacts.TailBlockIs, Chain.ChainFacts.HasSpare, Chain.ChainFacts.SawTail, Chain.ChainAt.At, Chain.ChainAt.IsLast, Chain.ChainAt.claiming, Chain.ChainAnswers.Answers, Chain.ChainAnswers.tail_word, Chain.ChainAnswers.tail_place, Chain.ChainAnswers.is_wrote, Chain.ChainPasses.spare_in}
+use Rattle.queue_steps.specs.{State.State, Words.tail_of, ChainWords.offset_of, UnboundedNext.unbounded_next, UnboundedNext.chain_tail_found, UnboundedNext.lays, UnboundedNext.writes, declared.steps.unbounded.UnboundedLocal.UnboundedLocal as chain}
+use Rattle.queue_laws.proofs.{Common.Puts.put_ok, Common.Puts.put_same, Common.Puts.put_other, Chain.ChainTransitions.item_free, Chain.ChainTransitions.next_free, Chain.ChainAnswers.same_tail}
 use Rattle.queue_laws.specs.Chain.ChainCells.{Free, Writing, Unread, Done, Mover, Rests, Laying, GivenUp, Chain, ChainOk, WalkOk, Read, HoldsOnly, Nothing, writer_of, reader_of, item_at, LAST}
-use Rattle.queue_laws.specs.Chain.ChainTransitions.{appended}
-use Rattle.queue_laws.proofs.Chain.ChainTransitions.{item_free, next_free}
-use Rattle.queue_laws.specs.Chain.ChainAfter.{if_claimed}
-use Rattle.queue_laws.specs.Chain.ChainFacts.{open_tail_of, IsNamed, TailBlockIs, HasSpare, SawTail}
-use Rattle.queue_laws.specs.Chain.ChainAt.{At, IsLast, claiming}
-use Rattle.queue_laws.specs.Chain.ChainAnswers.{Answers, tail_word, tail_place, is_wrote}
-use Rattle.queue_laws.proofs.Chain.ChainAnswers.{same_tail}
-use Rattle.queue_laws.specs.Chain.ChainPasses.{spare_in}
 use Rattle.mem_blocks.specs.Web.{Block, Sitter, block, Lives, Rests as AtHome, worded, homed, takes, away, word_of, with_word, with_home}
 use Rattle.mem_blocks.specs.declared.hub.TheConstants.{TAIL}
 use Rattle.shared_parties.specs.declared.known.CallState.{CallState}
-use Rattle.shared_chain.specs.Spots.{spot}
-use Rattle.shared_chain.specs.ChainCalls.{OutChain, ChainLent, has_slot}
-use Rattle.shared_chain.specs.Rule.{home_of, BlockIs, IsThere, Codes}
-use Rattle.shared_chain.specs.Steps.{carried_by, slot_block, HoldsBy, BlockStep}
-use Rattle.shared_chain.proofs.Frames.Blocks.{word_here, word_else, word_same, home_here, home_else, alive_is}
-use Rattle.shared_chain.proofs.Steps.Loads.{tail_spare}
-use Rattle.shared_chain.proofs.Frames.Slots.{LikeBlock, home_in, there_like, there_homed, codes_tail, none_held, step_by, step_none}
+use Rattle.shared_chain.specs.{Spots.spot, ChainCalls.OutChain, ChainCalls.ChainLent, ChainCalls.has_slot, Rule.home_of, Rule.BlockIs, Rule.IsThere, Rule.Codes, Steps.carried_by, Steps.slot_block, Steps.HoldsBy, Steps.BlockStep}
+use Rattle.shared_chain.proofs.{Frames.Blocks.word_here, Frames.Blocks.word_else, Frames.Blocks.word_same, Frames.Blocks.home_here, Frames.Blocks.home_else, Frames.Blocks.alive_is, Steps.Loads.tail_spare, Frames.Slots.LikeBlock, Frames.Slots.home_in, Frames.Slots.there_like, Frames.Slots.there_homed, Frames.Slots.codes_tail, Frames.Slots.none_held, Frames.Slots.step_by, Frames.Slots.step_none}
 
 -- where the mover is after the item n was claimed: the party, where that is the last of its block
 abbrev Moves_on : ℕ → ℕ → Mover → Type 0

@@ -2,27 +2,14 @@
 use Rattle.std.proofs.Common.{ℕ, ◌+◌, ◌-◌, ◌/◌, ◌%◌, ◌≡◌, ◌≢◌, ◌==◌, ◌∙◌, zero, suc, Bool, true, false, if◌then◌else◌, Option, Some, None, is_some, List, [], refl, sym, ap, subst, arith}
 use denote.RawPtr.{Ptr}
 use Rattle.queue_laws.specs.Common.Vocabulary.{Call, Effect, Word, Link, Op, Touch, Answer, Local, PushKind, BLOCK_SLOTS, TAIL_STEP}
-use Rattle.queue_steps.specs.declared.steps.unbounded.UnboundedLocal.TheVariants as chain
-use Rattle.queue_steps.specs.ChainWords.{offset_of}
-use Rattle.queue_steps.specs.State.{State}
-use Rattle.queue_steps.specs.UnboundedNext.{unbounded_next, tail_block_found, asks, claims, head_block_found, followed}
-use Rattle.queue_laws.specs.Common.Stand.{stand}
+use Rattle.queue_steps.specs.{declared.steps.unbounded.UnboundedLocal.UnboundedLocal as chain, ChainWords.offset_of, State.State, UnboundedNext.unbounded_next, UnboundedNext.tail_block_found, UnboundedNext.asks, UnboundedNext.claims, UnboundedNext.head_block_found, UnboundedNext.followed}
+use Rattle.queue_laws.specs.{Common.Stand.stand, Chain.ChainFacts.head_of, Chain.ChainFacts.open_tail_of, Chain.ChainFacts.HeadIs, Chain.ChainFacts.IsMore, Chain.ChainFacts.IsNamed, Chain.ChainFacts.HasSpare, Chain.ChainFacts.SawTail, Chain.ChainFacts.Got, Chain.ChainAt.Either, Chain.ChainAt.At, Chain.ChainAt.IsBehind, Chain.ChainAt.push_block, Chain.ChainAt.pop_block, Chain.ChainAt.following, Chain.ChainAt.peeking, Chain.ChainAnswers.Answers, Chain.ChainAnswers.last_of, Chain.ChainAnswers.shown_of, Chain.ChainAnswers.linked_of, Chain.ChainAfter.chain_of, Chain.ChainAfter.after_of}
 use Rattle.queue_laws.specs.Chain.ChainCells.{Reading, Done, Passing, GivenUp, Chain, item_at, ChainOk, Read, Head, HoldsOnly, Nothing}
-use Rattle.queue_laws.specs.Chain.ChainFacts.{head_of, open_tail_of, HeadIs, IsMore, IsNamed, HasSpare, SawTail, Got}
-use Rattle.queue_laws.specs.Chain.ChainAt.{Either, At, IsBehind, push_block, pop_block, following, peeking}
-use Rattle.queue_laws.specs.Chain.ChainAnswers.{Answers, last_of, shown_of, linked_of}
-use Rattle.queue_laws.proofs.Chain.ChainPush.{none_spare}
-use Rattle.queue_laws.proofs.Chain.ChainSpan.{not_done}
-use Rattle.queue_laws.specs.Chain.ChainAfter.{chain_of, after_of}
-use Rattle.queue_laws.proofs.Chain.ChainReads.{not_given_up}
+use Rattle.queue_laws.proofs.Chain.{ChainPush.none_spare, ChainSpan.not_done, ChainReads.not_given_up}
 use Rattle.mem_blocks.specs.Web.{Block, Sitter, block, Lives}
 use Rattle.shared_parties.specs.declared.known.CallState.{CallState}
-use Rattle.shared_chain.specs.Spots.{spot}
-use Rattle.shared_chain.specs.ChainCalls.{OutChain, SlotsAs, ChainLent}
-use Rattle.shared_chain.specs.Rule.{lead_of, Codes}
-use Rattle.shared_chain.specs.Steps.{HoldsBy, link_place, link_found, BlockStep}
-use Rattle.shared_chain.proofs.Frames.Blocks.{next_same}
-use Rattle.shared_chain.proofs.Frames.Links.{Leaves, same_block, goes_on, step_by, named_alive}
+use Rattle.shared_chain.specs.{Spots.spot, ChainCalls.OutChain, ChainCalls.SlotsAs, ChainCalls.ChainLent, Rule.lead_of, Rule.Codes, Steps.HoldsBy, Steps.link_place, Steps.link_found, Steps.BlockStep}
+use Rattle.shared_chain.proofs.Frames.{Blocks.next_same, Links.Leaves, Links.same_block, Links.goes_on, Links.step_by, Links.named_alive}
 
 module _ (tail_end head_end : Ptr) {A : Type 0} where
   -- a load of a link, which leaves the blocks as they are

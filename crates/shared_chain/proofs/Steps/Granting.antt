@@ -1,24 +1,13 @@
 -- A push that asks for a block: the blocks stand for the chain where the block is its spare, and where it was refused.
 use Rattle.std.proofs.Common.{ℕ, ◌+◌, ◌≤◌, ◌≡◌, ◌∙◌, inl, inr, Option, Some, None, List, refl, sym, ap, subst, arith}
 use denote.RawPtr.{Ptr, block_ptr, Testable}
-use Rattle.queue_laws.specs.Common.Vocabulary.{Word, Op, Touch, Answer, Local, PushKind, TAIL_STEP}
-use Rattle.queue_steps.specs.declared.steps.unbounded.UnboundedLocal.TheVariants as chain
-use Rattle.queue_steps.specs.UnboundedNext.{unbounded_next, granted}
+use Rattle.queue_laws.specs.{Common.Vocabulary.Word, Common.Vocabulary.Op, Common.Vocabulary.Touch, Common.Vocabulary.Answer, Common.Vocabulary.Local, Common.Vocabulary.PushKind, Common.Vocabulary.TAIL_STEP, Chain.ChainCells.Spare, Chain.ChainCells.HoldsOnly, Chain.ChainCells.Nothing, Chain.ChainTransitions.renamed, Chain.ChainFacts.open_tail_of, Chain.ChainAnswers.Answers, Chain.ChainAfter.if_granted}
+use Rattle.queue_steps.specs.{declared.steps.unbounded.UnboundedLocal.UnboundedLocal as chain, UnboundedNext.unbounded_next, UnboundedNext.granted}
 use Rattle.queue_laws.proofs.Common.Puts.{put_ok, put_other}
-use Rattle.queue_laws.specs.Chain.ChainCells.{Spare, HoldsOnly, Nothing}
-use Rattle.queue_laws.specs.Chain.ChainTransitions.{renamed}
-use Rattle.queue_laws.specs.Chain.ChainFacts.{open_tail_of}
-use Rattle.queue_laws.specs.Chain.ChainAnswers.{Answers}
-use Rattle.queue_laws.specs.Chain.ChainAfter.{if_granted}
 use Rattle.mem_blocks.specs.Web.{Block, Sitter}
 use Rattle.shared_parties.specs.declared.known.CallState.{CallState}
-use Rattle.shared_chain.specs.Spots.{spot}
-use Rattle.shared_chain.proofs.Frames.Spots.{named_past}
-use Rattle.shared_chain.specs.ChainCalls.{OutChain, SlotsAs, ChainLent}
-use Rattle.shared_chain.specs.Rule.{IsUsed, Codes}
-use Rattle.shared_chain.specs.Steps.{fresh_at, hand_by, HoldsBy}
-use Rattle.shared_chain.proofs.Frames.Blocks.{codes_renamed}
-use Rattle.shared_chain.proofs.Frames.Links.{Leaves, goes_on, nothing_lent}
+use Rattle.shared_chain.specs.{Spots.spot, ChainCalls.OutChain, ChainCalls.SlotsAs, ChainCalls.ChainLent, Rule.IsUsed, Rule.Codes, Steps.fresh_at, Steps.hand_by, Steps.HoldsBy}
+use Rattle.shared_chain.proofs.Frames.{Spots.named_past, Blocks.codes_renamed, Links.Leaves, Links.goes_on, Links.nothing_lent}
 
 module _ (tail_end head_end : Ptr) {A : Type 0} where
   -- a name that none had is that of a spare

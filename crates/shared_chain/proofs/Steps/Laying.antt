@@ -1,32 +1,19 @@
 -- The steps that lay a block: installing the first one, and laying the next one behind the pushers' block.
 use Rattle.std.proofs.Common.{ℕ, ◌+◌, ◌-◌, ◌<◌, ◌≤◌, ◌≡◌, ◌≢◌, ◌∙◌, not, inl, inr, zero, suc, Bool, Option, Some, None, List, [], ◌∷◌, ◌++◌, length, replicate, refl, sym, ap, subst, arith, length-set}
-use Rattle.std.proofs.lemmas.Bool.Decides.{eqb_tells}
-use Rattle.std.proofs.lemmas.List.{get_or_append_left, get_or_push, length_push, get_or-replicate, length-replicate}
+use Rattle.std.proofs.lemmas.{Bool.Decides.eqb_tells, List.get_or_append_left, List.get_or_push, List.length_push, List.get_or-replicate, List.length-replicate}
 use Rattle.atomic_table.proofs.Lists.{at_index}
 use mathlib.Core.Option.{some}
 use denote.RawPtr.{Ptr, Testable}
 use Rattle.queue_laws.specs.Common.Vocabulary.{Word, Link, Op, Touch, Answer, Local, PushKind, BLOCK_SLOTS, TAIL_STEP}
-use Rattle.queue_steps.specs.declared.steps.unbounded.UnboundedLocal.TheVariants as chain
-use Rattle.queue_steps.specs.Words.{tail_of}
-use Rattle.queue_steps.specs.State.{State}
-use Rattle.queue_steps.specs.UnboundedNext.{unbounded_next}
-use Rattle.queue_laws.specs.Common.Puts.{put}
-use Rattle.queue_laws.proofs.Common.Puts.{put_ok, put_same, put_other}
+use Rattle.queue_steps.specs.{declared.steps.unbounded.UnboundedLocal.UnboundedLocal as chain, Words.tail_of, State.State, UnboundedNext.unbounded_next}
+use Rattle.queue_laws.specs.{Common.Puts.put, Chain.ChainFacts.open_tail_of, Chain.ChainFacts.SawTail, Chain.ChainFacts.Claimed, Chain.ChainAt.Either, Chain.ChainAt.installing, Chain.ChainAt.laying, Chain.ChainAfter.if_installed, Chain.ChainAnswers.tail_place, Chain.ChainAnswers.last_of, Chain.ChainAnswers.shown_of, Chain.ChainAnswers.linked_of, Chain.ChainAnswers.is_wrote, Chain.ChainAnswers.is_done, Chain.ChainAnswers.waits_at, Chain.ChainAnswers.IsState}
+use Rattle.queue_laws.proofs.{Common.Puts.put_ok, Common.Puts.put_same, Common.Puts.put_other, Chain.ChainTransitions.item_free, Chain.ChainTransitions.no_block, Chain.ChainTransitions.no_front}
 use Rattle.queue_laws.specs.Chain.ChainCells.{Free, Unread, Done, Mover, Laying, Opening, Passer, LinkState, Linking, Linked, Shown, Showing, Seen, Walk, Before, GivenUp, Unused, Spare, Chained, Chain, BlocksOk, LinkOk, ShownOk, WalkOk, item_at, LAST, ChainOk, Write, Tail, HoldsOnly, Nothing}
 use Rattle.queue_laws.specs.Chain.ChainTransitions as moves
-use Rattle.queue_laws.proofs.Chain.ChainTransitions.{item_free, no_block, no_front}
-use Rattle.queue_laws.specs.Chain.ChainFacts.{open_tail_of, SawTail, Claimed}
-use Rattle.queue_laws.specs.Chain.ChainAt.{Either, installing, laying}
-use Rattle.queue_laws.specs.Chain.ChainAfter.{if_installed}
-use Rattle.queue_laws.specs.Chain.ChainAnswers.{tail_place, last_of, shown_of, linked_of, is_wrote, is_done, waits_at, IsState}
 use Rattle.mem_blocks.specs.Web.{Block, Home, Sitter, Act, lays, block, linked, vacant, with_next, if_unset, Mays, blocks_after, sitter_after}
 use Rattle.shared_parties.specs.declared.known.CallState.{CallState}
-use Rattle.shared_chain.specs.Spots.{spot}
-use Rattle.shared_chain.specs.ChainCalls.{OutChain, SlotsAs, ChainLent}
-use Rattle.shared_chain.specs.Rule.{home_of, plain_state, lead_of, IsThere, IsUsed, Codes}
-use Rattle.shared_chain.specs.Steps.{fresh_at, HoldsBy, blocks_made, BlockStep}
-use Rattle.shared_chain.proofs.Frames.Blocks.{next_here, next_else, next_same, there_same}
-use Rattle.shared_chain.proofs.Frames.Links.{Leaves, goes_on, step_by}
+use Rattle.shared_chain.specs.{Spots.spot, ChainCalls.OutChain, ChainCalls.SlotsAs, ChainCalls.ChainLent, Rule.home_of, Rule.plain_state, Rule.lead_of, Rule.IsThere, Rule.IsUsed, Rule.Codes, Steps.fresh_at, Steps.HoldsBy, Steps.blocks_made, Steps.BlockStep}
+use Rattle.shared_chain.proofs.Frames.{Blocks.next_here, Blocks.next_else, Blocks.next_same, Blocks.there_same, Links.Leaves, Links.goes_on, Links.step_by}
 
 -- the chain with one more block of this name, and other links, another mover and another first link
 abbrev grown : {A : Type 0} → Chain A → ℕ → (ℕ → LinkState) → Mover → Shown → Chain A

@@ -3,27 +3,14 @@ use Rattle.std.proofs.Common.{ℕ, ◌+◌, ◌*◌, ◌/◌, ◌%◌, ◌<◌, 
 use Rattle.std.proofs.lemmas.Bool.Decides.{eqb_tells}
 use denote.RawPtr.{Ptr}
 use Rattle.queue_laws.specs.Common.Vocabulary.{Word, Link, Op, Touch, Local, PushKind, BLOCK_SLOTS, TAIL_STEP, WRITE}
-use Rattle.queue_steps.specs.declared.steps.unbounded.UnboundedLocal.TheVariants as chain
-use Rattle.queue_steps.specs.ChainWords.{offset_of}
-use Rattle.queue_steps.specs.Words.{position_of, tail_of}
-use Rattle.queue_steps.specs.State.{State}
-use Rattle.queue_laws.proofs.Common.Puts.{put_same, put_other}
-use Rattle.queue_laws.proofs.Common.Tails.{position_tail}
-use Rattle.queue_laws.specs.Chain.ChainFacts.{place, head_of, open_tail_of, IsNamed, SawTail, Claimed, Got}
+use Rattle.queue_steps.specs.{declared.steps.unbounded.UnboundedLocal.UnboundedLocal as chain, ChainWords.offset_of, Words.position_of, Words.tail_of, State.State}
+use Rattle.queue_laws.proofs.{Common.Puts.put_same, Common.Puts.put_other, Common.Tails.position_tail, Chain.ChainReads.passer_sees, Chain.ChainReads.not_given_up}
+use Rattle.queue_laws.specs.Chain.{ChainFacts.place, ChainFacts.head_of, ChainFacts.open_tail_of, ChainFacts.IsNamed, ChainFacts.SawTail, ChainFacts.Claimed, ChainFacts.Got, ChainTransitions.displayed, ChainTransitions.chained, ChainTransitions.passed, ChainTransitions.entered, ChainAt.Only, ChainAt.Either, ChainAt.IsBehind, ChainAt.IsFurther, ChainAt.showing, ChainAt.chaining, ChainAt.passing, ChainAt.entering, ChainAnswers.head_place, ChainAnswers.head_word, ChainAnswers.shown_of, ChainAnswers.linked_of}
 use Rattle.queue_laws.specs.Chain.ChainCells.{Writer, Writing, Reader, Done, Passer, Stands, Passing, Entering, Linking, Linked, Shown, Showing, Seen, ItemOk, FrontOk, ShownOk, ChainOk, Write, Read, Head, Next, First, HoldsOnly}
-use Rattle.queue_laws.specs.Chain.ChainTransitions.{displayed, chained, passed, entered}
-use Rattle.queue_laws.proofs.Chain.ChainReads.{passer_sees}
-use Rattle.queue_laws.specs.Chain.ChainAt.{Only, Either, IsBehind, IsFurther, showing, chaining, passing, entering}
-use Rattle.queue_laws.specs.Chain.ChainAnswers.{head_place, head_word, shown_of, linked_of}
-use Rattle.queue_laws.proofs.Chain.ChainReads.{not_given_up}
 use Rattle.mem_blocks.specs.Web.{Block, Sitter, block, linked, worded, with_word, with_next}
 use Rattle.shared_parties.specs.declared.known.CallState.{CallState}
-use Rattle.shared_chain.specs.Spots.{spot}
-use Rattle.shared_chain.specs.ChainCalls.{OutChain, SlotsAs, ChainLent}
-use Rattle.shared_chain.specs.Rule.{lead_of, IsThere, Codes}
-use Rattle.shared_chain.specs.Steps.{HoldsBy, BlockStep}
-use Rattle.shared_chain.proofs.Frames.Blocks.{word_here, word_else, next_here, next_else, there_same}
-use Rattle.shared_chain.proofs.Frames.Links.{goes_on, step_by, named_alive}
+use Rattle.shared_chain.specs.{Spots.spot, ChainCalls.OutChain, ChainCalls.SlotsAs, ChainCalls.ChainLent, Rule.lead_of, Rule.IsThere, Rule.Codes, Steps.HoldsBy, Steps.BlockStep}
+use Rattle.shared_chain.proofs.Frames.{Blocks.word_here, Blocks.word_else, Blocks.next_here, Blocks.next_else, Blocks.there_same, Links.goes_on, Links.step_by, Links.named_alive}
 
 -- a slot that is being written is not read
 unread : {A : Type 0} (head tail : ℕ) (items : List A) (n who : ℕ) (v : A) (w : Writer A) (r : Reader) → w ≡ Writing who v → ItemOk head tail items n w r → r ≢ Done

@@ -3,28 +3,14 @@ use Rattle.std.proofs.Common.{ℕ, ◌≡◌, ◌≤◌, inl, inr, false, Option
 use Rattle.std.proofs.lemmas.Bool.Decides.{eqb_tells}
 use denote.RawPtr.{Ptr}
 use Rattle.queue_laws.specs.Common.Vocabulary.{Call, Effect, Word, Op, Touch, Answer, Local, PushKind, BLOCK_SLOTS, Look}
-use Rattle.queue_steps.specs.State.{State}
-use Rattle.queue_steps.specs.Looks.{IsCount}
-use Rattle.queue_steps.specs.Words.{IsWord, position_of}
-use Rattle.queue_steps.specs.ChainWords.{block_at, offset_of, items_before}
-use Rattle.queue_steps.specs.UnboundedNext.{unbounded_next, chain_tail_found, chain_pop_tail_found, chain_head_found}
-use Rattle.queue_steps.specs.declared.steps.unbounded.UnboundedLocal.TheVariants as chain
-use Rattle.queue_laws.specs.Common.Moments.{SeenIn, HeadWas}
-use Rattle.queue_laws.specs.Common.Stand.{stand}
-use Rattle.queue_laws.specs.Chain.ChainCells.{HoldsOnly, Nothing}
-use Rattle.queue_laws.specs.Chain.ChainFacts.{head_of, HasSpare, HeadIs, HeadBlockRead, SawEmpty}
+use Rattle.queue_steps.specs.{State.State, Looks.IsCount, Words.IsWord, Words.position_of, ChainWords.block_at, ChainWords.offset_of, ChainWords.items_before, UnboundedNext.unbounded_next, UnboundedNext.chain_tail_found, UnboundedNext.chain_pop_tail_found, UnboundedNext.chain_head_found, declared.steps.unbounded.UnboundedLocal.UnboundedLocal as chain}
+use Rattle.queue_laws.specs.{Common.Moments.SeenIn, Common.Moments.HeadWas, Common.Stand.stand, Chain.ChainCells.HoldsOnly, Chain.ChainCells.Nothing, Chain.ChainFacts.head_of, Chain.ChainFacts.HasSpare, Chain.ChainFacts.HeadIs, Chain.ChainFacts.HeadBlockRead, Chain.ChainFacts.SawEmpty, Chain.ChainAnswers.Answers, Chain.ChainPasses.spare_in, Chain.ChainAfter.chain_of, Chain.ChainAfter.after_of}
 use Rattle.queue_laws.specs.Chain.ChainAt.{At, push_tail, pop_head, pop_tail, count_tail, count_head, count_again, empty_head, empty_tail, closed_tail}
-use Rattle.queue_laws.specs.Chain.ChainAnswers.{Answers}
-use Rattle.queue_laws.specs.Chain.ChainPasses.{spare_in}
 use Rattle.queue_laws.proofs.Chain.ChainPush.{tail_ways}
-use Rattle.queue_laws.specs.Chain.ChainAfter.{chain_of, after_of}
 use Rattle.mem_blocks.specs.Web.{Block, Sitter, Lives, word_of}
 use Rattle.shared_parties.specs.declared.known.CallState.{CallState}
-use Rattle.shared_chain.specs.ChainCalls.{OutChain, ChainLent}
-use Rattle.shared_chain.specs.Rule.{Codes}
-use Rattle.shared_chain.specs.Steps.{HoldsBy, word_place, word_index, BlockStep}
-use Rattle.shared_chain.proofs.Frames.Blocks.{word_same}
-use Rattle.shared_chain.proofs.Frames.Slots.{spare_on, step_none, none_held}
+use Rattle.shared_chain.specs.{ChainCalls.OutChain, ChainCalls.ChainLent, Rule.Codes, Steps.HoldsBy, Steps.word_place, Steps.word_index, Steps.BlockStep}
+use Rattle.shared_chain.proofs.Frames.{Blocks.word_same, Slots.spare_on, Slots.step_none, Slots.none_held}
 
 -- which spare a call goes on with after a word that it found
 pub tail_spare : (d : PushKind) (x : ℕ) (spare : Option ℕ) → spare_on (chain_tail_found d x spare) ≡ spare

@@ -2,27 +2,14 @@
 use Rattle.std.proofs.Common.{ℕ, ◌+◌, ◌-◌, ◌/◌, ◌%◌, ◌^◌, ◌≤◌, ◌≡◌, ◌==◌, ◌∙◌, ◌⊎◌, Option, List, [], refl, ap, arith, bit_or}
 use denote.RawPtr.{Ptr}
 use Rattle.queue_laws.specs.Common.Vocabulary.{Reply, Word, Op, Answer, Local, PushKind, LIMIT, BLOCK_SLOTS, MARK, TAIL_STEP}
-use Rattle.queue_steps.specs.State.{State}
-use Rattle.queue_steps.specs.Words.{tail_of}
-use Rattle.queue_steps.specs.declared.steps.types.Next.TheVariants as next
-use Rattle.queue_steps.specs.BoundedNext.{closed_reply}
-use Rattle.queue_steps.specs.UnboundedNext.{ends}
-use Rattle.queue_steps.specs.declared.steps.unbounded.UnboundedLocal.TheVariants as chain
-use Rattle.queue_laws.proofs.Common.Tails.{mark_tail, next_tail}
-use Rattle.queue_laws.specs.Chain.ChainFacts.{place, open_tail_of, IsNamed, HasSpare, Claimed}
+use Rattle.queue_steps.specs.{State.State, Words.tail_of, declared.steps.types.Next.Next as next, BoundedNext.closed_reply, UnboundedNext.ends, declared.steps.unbounded.UnboundedLocal.UnboundedLocal as chain}
+use Rattle.queue_laws.proofs.{Common.Tails.mark_tail, Common.Tails.next_tail, Chain.ChainAnswers.tail_small}
+use Rattle.queue_laws.specs.Chain.{ChainFacts.place, ChainFacts.open_tail_of, ChainFacts.IsNamed, ChainFacts.HasSpare, ChainFacts.Claimed, ChainTransitions.opened, ChainTransitions.marked, ChainAt.opening, ChainAt.spending, ChainAt.closing, ChainAnswers.tail_place, ChainAnswers.tail_word}
 use Rattle.queue_laws.specs.Chain.ChainCells.{Opening, Linking, Chain, ChainOk, Write, Tail, Next, HoldsOnly, Nothing}
-use Rattle.queue_laws.specs.Chain.ChainTransitions.{opened, marked}
-use Rattle.queue_laws.specs.Chain.ChainAt.{opening, spending, closing}
-use Rattle.queue_laws.specs.Chain.ChainAnswers.{tail_place, tail_word}
-use Rattle.queue_laws.proofs.Chain.ChainAnswers.{tail_small}
-use Rattle.mem_blocks.specs.Web.{Block, Sitter, word_of, with_word}
-use Rattle.mem_blocks.specs.declared.hub.TheConstants.{TAIL}
+use Rattle.mem_blocks.specs.{Web.Block, Web.Sitter, Web.word_of, Web.with_word, declared.hub.TheConstants.TAIL}
 use Rattle.shared_parties.specs.declared.known.CallState.{CallState}
-use Rattle.shared_chain.specs.ChainCalls.{OutChain, SlotsAs, ChainLent}
-use Rattle.shared_chain.specs.Rule.{Codes}
-use Rattle.shared_chain.specs.Steps.{HoldsBy, BlockStep}
-use Rattle.shared_chain.proofs.Frames.Blocks.{there_same}
-use Rattle.shared_chain.proofs.Frames.Slots.{tail_worded, step_none, none_held}
+use Rattle.shared_chain.specs.{ChainCalls.OutChain, ChainCalls.SlotsAs, ChainCalls.ChainLent, Rule.Codes, Steps.HoldsBy, Steps.BlockStep}
+use Rattle.shared_chain.proofs.Frames.{Blocks.there_same, Slots.tail_worded, Slots.step_none, Slots.none_held}
 
 -- the tail's word, moved over a block's end
 opened_word : {A : Type 0} (c : Chain A) (who n : ℕ) → ChainOk c → (c.mover ≡ Opening who) × (c.tail ≡ n + 1) → (tail_word c + TAIL_STEP) % 2 ^ 64 ≡ tail_word (opened c)

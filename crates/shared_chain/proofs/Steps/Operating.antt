@@ -1,21 +1,12 @@
 -- The operation of a ready call's step may be done on the chain, and what it answered at run time is what it answered with names.
 use Rattle.std.proofs.Common.{ℕ, ◌+◌, ◌%◌, ◌^◌, ◌≡◌, ◌∙◌, true, Option, Some, None, List, [], refl, sym, ap, subst}
 use denote.RawPtr.{Ptr, InBlock, Testable, null_ptr}
-use Rattle.queue_laws.specs.Common.Vocabulary.{Word, Link, Op, Touch, Answer, Local}
-use Rattle.mem_blocks.specs.Web.{State, Block, Sitter, Allows, AllowsLink, sitter}
-use Rattle.mem_blocks.specs.declared.block.BlockPtr.{BlockPtr as Place}
-use Rattle.mem_blocks.specs.declared.hub.TheConstants.{TAIL}
-use Rattle.shared_parties.specs.declared.known.CallState.{CallState}
-use Rattle.shared_parties.specs.declared.known.InCall.{InCall}
-use Rattle.shared_parties.specs.Calling.{touched_list}
-use Rattle.queue_laws.specs.Common.Operations.{op_word, op_makes, answer_for}
-use Rattle.shared_chain.specs.Spots.{spot}
-use Rattle.shared_chain.specs.Names.{link_of, word_map, link_map, op_map, answer_map, is_set_once}
-use Rattle.shared_chain.specs.Rule.{Rule}
+use Rattle.queue_laws.specs.Common.{Vocabulary.Word, Vocabulary.Link, Vocabulary.Op, Vocabulary.Touch, Vocabulary.Answer, Vocabulary.Local, Operations.op_word, Operations.op_makes, Operations.answer_for}
+use Rattle.mem_blocks.specs.{Web.State, Web.Block, Web.Sitter, Web.Allows, Web.AllowsLink, Web.sitter, declared.block.BlockPtr.BlockPtr as Place, declared.hub.TheConstants.TAIL}
+use Rattle.shared_parties.specs.{declared.known.CallState.CallState, declared.known.InCall.InCall, Calling.touched_list}
+use Rattle.shared_chain.specs.{Spots.spot, Names.link_of, Names.word_map, Names.link_map, Names.op_map, Names.answer_map, Names.is_set_once, Rule.Rule, Turning.CanOperate, Turning.Operated, Turning.carried_place}
 use Rattle.shared_chain.specs.Steps.{MayDo, MayTouch, fresh_at, op_place, word_index, link_makes, hand_by, slot_block, carried_by, Follows, FollowsLink, FollowsGrant}
-use Rattle.shared_chain.specs.Turning.{CanOperate, Operated, carried_place}
-use Rattle.shared_chain.proofs.Steps.Allowed.{IsWordOp, IsRead, allows_word, allows_added, allows_link, allows_store}
-use Rattle.shared_chain.proofs.Steps.Asking.{allows_grant, allows_refusal}
+use Rattle.shared_chain.proofs.Steps.{Allowed.IsWordOp, Allowed.IsRead, Allowed.allows_word, Allowed.allows_added, Allowed.allows_link, Allowed.allows_store, Asking.allows_grant, Asking.allows_refusal}
 
 -- the operation with names that one at run time stands for
 abbrev Named : {T : Type 0} → Op (Place T) → Op ℕ → Type 0

@@ -6,38 +6,15 @@ use mathlib.Core.List.{IsPrefix}
 use lib.ListN.{get_elem?}
 use denote.RawPtr.{Ptr}
 use Rattle.atomic_table.proofs.Lists.{set_again}
-use Rattle.queue_laws.specs.Common.Vocabulary.{Reply, Effect, Next, BLOCK_SLOTS}
+use Rattle.queue_laws.specs.{Common.Vocabulary.Reply, Common.Vocabulary.Effect, Common.Vocabulary.Next, Common.Vocabulary.BLOCK_SLOTS, Chain.ChainCells.Chain, Chain.ChainCells.queue_of, Chain.ChainCells.ChainOk, Chain.ChainCells.HoldsOnly, Chain.ChainCells.Nothing, Chain.ChainTransitions.given_up, Chain.ChainPasses.spare_in}
 use Rattle.queue_steps.specs.Kinds.{call_value}
-use Rattle.queue_laws.specs.Chain.ChainCells.{Chain, queue_of, ChainOk, HoldsOnly, Nothing}
-use Rattle.queue_laws.specs.Chain.ChainTransitions.{given_up}
-use Rattle.queue_laws.specs.Chain.ChainPasses.{spare_in}
-use Rattle.queue_laws.proofs.Chain.ChainEarly.{early, unbound}
-use Rattle.queue_laws.proofs.Chain.ChainStepOk.{GivesUp}
-use Rattle.queue_laws.proofs.Chain.ChainGiven.{given_ok, passes_given, holds_given, spares_given}
-use Rattle.queue_laws.proofs.Chain.ChainPasses.{passes_same}
+use Rattle.queue_laws.proofs.Chain.{ChainEarly.early, ChainEarly.unbound, ChainStepOk.GivesUp, ChainGiven.given_ok, ChainGiven.passes_given, ChainGiven.holds_given, ChainGiven.spares_given, ChainPasses.passes_same}
 use Rattle.mem_blocks.specs.Web.{Block, Home, State, Sitter, sitter, vacant, word_of, KeepsRule, Allows}
-use Rattle.mem_blocks.specs.declared.block.BlockPtr.{BlockPtr as Place}
-use Rattle.mem_blocks.specs.declared.hub.TheConstants.{PARTIES}
-use Rattle.shared_parties.specs.declared.known.CallState.{CallState}
-use Rattle.shared_parties.specs.declared.known.InCall.{InCall}
-use Rattle.shared_parties.specs.declared.known.Known.{Known}
-use Rattle.shared_parties.specs.declared.known.Work.TheVariants as work
-use Rattle.shared_parties.specs.CallStates.{idle}
-use Rattle.shared_parties.specs.Calling.{Standing}
-use Rattle.shared_parties.specs.Quitting.{its_call}
-use Rattle.shared_parties.proofs.Callings.{others_stay}
-use Rattle.shared_parties.proofs.Quits.{quit, quits}
-use Rattle.shared_chain.specs.Spots.{spot}
-use Rattle.shared_chain.specs.Names.{link_of, name_map}
-use Rattle.shared_chain.specs.ChainCalls.{OutChain, PassesOut, chain_calls}
-use Rattle.shared_chain.specs.Rule.{Rule}
-use Rattle.shared_chain.specs.Steps.{slot_block, hand_by, carried_by, fresh_at}
-use Rattle.shared_chain.specs.Turning.{Carries}
-use Rattle.shared_chain.specs.Quitting.{MayQuit, HasLeft, ShowsPlace}
-use Rattle.shared_chain.proofs.Frames.Blocks.{word_same, codes_left}
-use Rattle.shared_chain.proofs.CallLaws.{chain_call_laws}
-use Rattle.shared_chain.proofs.Frames.Links.{nothing_lent}
-use Rattle.shared_chain.proofs.Frames.Slots.{all_vacant}
+use Rattle.mem_blocks.specs.declared.{block.BlockPtr.BlockPtr as Place, hub.TheConstants.PARTIES}
+use Rattle.shared_parties.specs.{declared.known.CallState.CallState, declared.known.InCall.InCall, declared.known.Known.Known, declared.known.Work.Work as work, CallStates.idle, Calling.Standing, Quitting.its_call}
+use Rattle.shared_parties.proofs.{Callings.others_stay, Quits.quit, Quits.quits}
+use Rattle.shared_chain.specs.{Spots.spot, Names.link_of, Names.name_map, ChainCalls.OutChain, ChainCalls.PassesOut, ChainCalls.chain_calls, Rule.Rule, Steps.slot_block, Steps.hand_by, Steps.carried_by, Steps.fresh_at, Turning.Carries, Quitting.MayQuit, Quitting.HasLeft, Quitting.ShowsPlace}
+use Rattle.shared_chain.proofs.{Frames.Blocks.word_same, Frames.Blocks.codes_left, CallLaws.chain_call_laws, Frames.Links.nothing_lent, Frames.Slots.all_vacant}
 
 -- a block that is given up is no part of the queue
 queue_given : {A : Type 0} (c : Chain A) (spare : Option ℕ) → queue_of (given_up c spare) ≡ queue_of c

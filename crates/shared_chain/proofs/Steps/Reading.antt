@@ -1,38 +1,20 @@
 -- The read of an item: its slot goes back vacant. Where the walk waits for the slot its reader walks on, and the reader of the last slot begins the walk.
 use Rattle.std.proofs.Common.{ℕ, ◌+◌, ◌/◌, ◌%◌, ◌<◌, ◌≡◌, ◌≢◌, ◌==◌, ◌∙◌, not, inl, inr, Bool, true, false, if◌then◌else◌, Option, Ok, Some, None, List, length, refl, sym, ap, subst, arith, bit_and, bit_or, get_or}
-use Rattle.std.proofs.lemmas.Bool.Decides.{eqb_tells}
-use Rattle.std.proofs.lemmas.Nat.{and_or_self}
+use Rattle.std.proofs.lemmas.{Bool.Decides.eqb_tells, Nat.and_or_self}
 use mathlib.Core.Option.{some}
 use lib.ListN.{get_elem?}
 use denote.RawPtr.{Ptr}
-use Rattle.queue_laws.specs.Common.Puts.{put}
-use Rattle.queue_laws.proofs.Common.Puts.{put_same, put_other}
+use Rattle.queue_laws.specs.{Common.Puts.put, Chain.ChainTransitions.reads, Chain.ChainTransitions.walk_after, Chain.ChainFacts.head_of, Chain.ChainFacts.Got, Chain.ChainAt.Only, Chain.ChainAt.IsLast, Chain.ChainAt.reading, Chain.ChainAt.beginning, Chain.ChainAnswers.IsState, Chain.ChainAnswers.is_done, Chain.ChainAnswers.waits_at, Chain.ChainPasses.spare_in}
+use Rattle.queue_laws.proofs.{Common.Puts.put_same, Common.Puts.put_other, Chain.ChainReads.own_item, Chain.ChainRead.waits_is, Chain.ChainAnswers.head_offset, Chain.ChainHolds.after_read, Chain.ChainHolds.after_read_on}
 use Rattle.queue_laws.specs.Common.Vocabulary.{Reply, Word, Op, Touch, Local, Next, BLOCK_SLOTS, WRITE, READ, DESTROY}
-use Rattle.queue_steps.specs.State.{State}
-use Rattle.queue_steps.specs.ChainWords.{offset_of}
-use Rattle.queue_steps.specs.UnboundedNext.{at, ends, walks_on}
-use Rattle.queue_steps.specs.declared.steps.unbounded.UnboundedLocal.TheVariants as chain
+use Rattle.queue_steps.specs.{State.State, ChainWords.offset_of, UnboundedNext.at, UnboundedNext.ends, UnboundedNext.walks_on, declared.steps.unbounded.UnboundedLocal.UnboundedLocal as chain}
 use Rattle.queue_laws.specs.Chain.ChainCells.{Wrote, Reader, Reading, Done, Walk, Before, Walker, Waits, GivenUp, ChainOk, WalkOk, Read, Passed, HoldsOnly, Nothing, reader_of, item_at, LAST}
-use Rattle.queue_laws.specs.Chain.ChainTransitions.{reads, walk_after}
-use Rattle.queue_laws.proofs.Chain.ChainReads.{own_item}
-use Rattle.queue_laws.proofs.Chain.ChainRead.{waits_is}
-use Rattle.queue_laws.specs.Chain.ChainFacts.{head_of, Got}
-use Rattle.queue_laws.specs.Chain.ChainAt.{Only, IsLast, reading, beginning}
-use Rattle.queue_laws.specs.Chain.ChainAnswers.{IsState, is_done, waits_at}
-use Rattle.queue_laws.proofs.Chain.ChainAnswers.{head_offset}
-use Rattle.queue_laws.specs.Chain.ChainPasses.{spare_in}
-use Rattle.queue_laws.proofs.Chain.ChainHolds.{after_read, after_read_on}
 use Rattle.mem_blocks.specs.Web.{Block, Sitter, gives, block, Lives, word_of, with_word, with_home, vacant, May, sitter_acted}
-use Rattle.shared_parties.specs.declared.known.CallState.{CallState}
-use Rattle.shared_parties.specs.Calling.{touched_list}
-use Rattle.shared_chain.specs.Spots.{spot}
-use Rattle.shared_chain.specs.ChainCalls.{OutChain}
-use Rattle.shared_chain.specs.Rule.{home_of, plain_state, BlockIs, Codes}
-use Rattle.shared_chain.specs.Steps.{BlockStep, HoldsBy, carried_by}
-use Rattle.shared_chain.proofs.Frames.Blocks.{alive_is}
+use Rattle.shared_parties.specs.{declared.known.CallState.CallState, Calling.touched_list}
+use Rattle.shared_chain.specs.{Spots.spot, ChainCalls.OutChain, Rule.home_of, Rule.plain_state, Rule.BlockIs, Rule.Codes, Steps.BlockStep, Steps.HoldsBy, Steps.carried_by}
+use Rattle.shared_chain.proofs.{Frames.Blocks.alive_is, Steps.Walking.IsRead, Steps.Walking.walk_goes}
 use Rattle.shared_chain.proofs.Frames.Homes.{turned, AllBut, SlotTurns, turns_not, turns_both, turns_word, turns_home, codes_turned, not_given, home_set, word_set, word_kept}
 use Rattle.shared_chain.proofs.Frames.States.{still_tested, state_is, others_out, Leaves, acts_first, load_step, or_step, none_out, walks_none, idles}
-use Rattle.shared_chain.proofs.Steps.Walking.{IsRead, walk_goes}
 
 -- no walk has begun while the last slot is not read
 before_last : (readers : ℕ → Reader) (b : ℕ) (w : Walk) → WalkOk readers b w → readers (item_at b LAST) ≢ Done → w ≡ Before

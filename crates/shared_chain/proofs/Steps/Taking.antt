@@ -3,32 +3,14 @@ use Rattle.std.proofs.Common.{ℕ, ◌+◌, ◌*◌, ◌%◌, ◌<◌, ◌≡◌
 use Rattle.std.proofs.lemmas.Bool.Decides.{eqb_tells}
 use denote.RawPtr.{Ptr}
 use Rattle.queue_laws.specs.Common.Vocabulary.{Call, Word, Link, Op, Touch, Answer, Local, Next, BLOCK_SLOTS, TAIL_STEP}
-use Rattle.queue_steps.specs.State.{State}
-use Rattle.queue_steps.specs.Words.{tail_of}
-use Rattle.queue_steps.specs.ChainWords.{offset_of}
-use Rattle.queue_steps.specs.UnboundedNext.{unbounded_next, chain_head_found}
-use Rattle.queue_steps.specs.declared.steps.unbounded.UnboundedLocal.TheVariants as chain
-use Rattle.queue_laws.specs.Common.Puts.{put}
-use Rattle.queue_laws.proofs.Common.Puts.{put_ok, put_other}
-use Rattle.queue_laws.specs.Common.Stand.{empty_handed}
-use Rattle.queue_laws.specs.Chain.ChainFacts.{place, head_of, HeadIs, HeadBlockIs, IsMore}
+use Rattle.queue_steps.specs.{State.State, Words.tail_of, ChainWords.offset_of, UnboundedNext.unbounded_next, UnboundedNext.chain_head_found, declared.steps.unbounded.UnboundedLocal.UnboundedLocal as chain}
+use Rattle.queue_laws.specs.{Common.Puts.put, Common.Stand.empty_handed, Chain.ChainFacts.place, Chain.ChainFacts.head_of, Chain.ChainFacts.HeadIs, Chain.ChainFacts.HeadBlockIs, Chain.ChainFacts.IsMore, Chain.ChainTransitions.taken, Chain.ChainAfter.if_taken, Chain.ChainAt.At, Chain.ChainAt.taking, Chain.ChainAnswers.Answers, Chain.ChainAnswers.head_word, Chain.ChainAnswers.head_place, Chain.ChainAnswers.is_done, Chain.ChainPasses.spare_in}
+use Rattle.queue_laws.proofs.{Common.Puts.put_ok, Common.Puts.put_other, Chain.ChainReads.front_is, Chain.ChainAnswers.head_offset, Chain.ChainAnswers.same_head}
 use Rattle.queue_laws.specs.Chain.ChainCells.{Writer, Free, Unread, Reading, Passer, Stands, Passing, ChainOk, Write, Read, HoldsOnly, Nothing, reader_of, item_at}
-use Rattle.queue_laws.specs.Chain.ChainTransitions.{taken}
-use Rattle.queue_laws.proofs.Chain.ChainReads.{front_is}
-use Rattle.queue_laws.specs.Chain.ChainAfter.{if_taken}
-use Rattle.queue_laws.specs.Chain.ChainAt.{At, taking}
-use Rattle.queue_laws.specs.Chain.ChainAnswers.{Answers, head_word, head_place, is_done}
-use Rattle.queue_laws.proofs.Chain.ChainAnswers.{head_offset, same_head}
-use Rattle.queue_laws.specs.Chain.ChainPasses.{spare_in}
-use Rattle.mem_blocks.specs.Web.{Block, Sitter, word_of, with_word}
-use Rattle.mem_blocks.specs.declared.hub.TheConstants.{HEAD}
+use Rattle.mem_blocks.specs.{Web.Block, Web.Sitter, Web.word_of, Web.with_word, declared.hub.TheConstants.HEAD}
 use Rattle.shared_parties.specs.declared.known.CallState.{CallState}
-use Rattle.shared_chain.specs.ChainCalls.{OutChain, HasOut, ChainLent, has_slot}
-use Rattle.shared_chain.specs.Rule.{home_of, Codes}
-use Rattle.shared_chain.specs.Steps.{HoldsBy, BlockStep}
-use Rattle.shared_chain.proofs.Frames.Blocks.{word_same}
-use Rattle.shared_chain.proofs.Steps.Loads.{head_spare}
-use Rattle.shared_chain.proofs.Frames.Slots.{there_like, head_worded, none_held, none_holds, step_by, step_none}
+use Rattle.shared_chain.specs.{ChainCalls.OutChain, ChainCalls.HasOut, ChainCalls.ChainLent, ChainCalls.has_slot, Rule.home_of, Rule.Codes, Steps.HoldsBy, Steps.BlockStep}
+use Rattle.shared_chain.proofs.{Frames.Blocks.word_same, Steps.Loads.head_spare, Frames.Slots.there_like, Frames.Slots.head_worded, Frames.Slots.none_held, Frames.Slots.none_holds, Frames.Slots.step_by, Frames.Slots.step_none}
 
 -- where the passer is after the item n was taken: the party, where that is the last of its block
 abbrev Passes_on : ℕ → ℕ → Passer → Type 0

@@ -3,22 +3,9 @@ use Rattle.std.proofs.Common.{ℕ, ◌≡◌, ◌∙◌, true, Option, Some, Non
 use denote.RawPtr.{Ptr, null_ptr}
 use Rattle.atomic_table.specs.Table.{rest}
 use Rattle.queue_laws.specs.Common.Vocabulary.{Call, Word, Op, Touch, Local}
-use Rattle.mem_blocks.specs.Web.{Block, Hand, Sitter, alive_at}
-use Rattle.mem_blocks.specs.Seats.{Sits, Same}
-use Rattle.mem_blocks.specs.declared.block.BlockPtr.{BlockPtr as Place}
-use Rattle.mem_blocks.specs.declared.web.Seat.{Seat}
-use Rattle.mem_blocks.specs.declared.web.Web.{Web}
-use Rattle.shared_parties.specs.declared.known.CallState.{CallState}
-use Rattle.shared_parties.specs.declared.known.InCall.{InCall}
-use Rattle.shared_parties.specs.declared.known.Work.TheVariants as work
-use Rattle.shared_parties.specs.Calling.{touched_list, handed_by, lies_in}
-use Rattle.shared_parties.specs.CallsAt.{Ready}
-use Rattle.shared_parties.specs.Called.{call_of_work, begun_by}
-use Rattle.shared_chain.specs.Spots.{spot}
-use Rattle.shared_chain.specs.ChainCalls.{chain_calls}
-use Rattle.shared_chain.specs.Names.{link_of, name_map, local_map, op_map, state_block}
-use Rattle.shared_chain.specs.Steps.{slot_block, hand_by, HoldsBy, MayTouch}
-use Rattle.shared_chain.specs.Turning.{unnamed, call_at, CanDo, CanOperate, CanTouch, Swapped, Touched}
+use Rattle.mem_blocks.specs.{Web.Block, Web.Hand, Web.Sitter, Web.alive_at, Seats.Sits, Seats.Same, declared.block.BlockPtr.BlockPtr as Place, declared.web.Seat.Seat, declared.web.Web.Web}
+use Rattle.shared_parties.specs.{declared.known.CallState.CallState, declared.known.InCall.InCall, declared.known.Work.Work as work, Calling.touched_list, Calling.handed_by, Calling.lies_in, CallsAt.Ready, Called.call_of_work, Called.begun_by}
+use Rattle.shared_chain.specs.{Spots.spot, ChainCalls.chain_calls, Names.link_of, Names.name_map, Names.local_map, Names.op_map, Names.state_block, Steps.slot_block, Steps.hand_by, Steps.HoldsBy, Steps.MayTouch, Turning.unnamed, Turning.call_at, Turning.CanDo, Turning.CanOperate, Turning.CanTouch, Turning.Swapped, Turning.Touched}
 
 -- a block that lives is what it is made of
 pub carried_block : {T : Type 0} (y : Block T) → y.alive ≡ true → y ≡ alive_at y.at y.next y.words y.homes

@@ -1,29 +1,16 @@
 -- The walk over a passed block: a load of a slot's state, and the mark that leaves the walk to the slot's reader. The last step takes the block out.
 use Rattle.std.proofs.Common.{ℕ, ◌+◌, ◌<◌, ◌≡◌, ◌≢◌, ◌==◌, ◌∙◌, not, inl, inr, Bool, true, false, if◌then◌else◌, Option, Ok, None, List, [], length, refl, sym, ap, subst, arith, bit_and, bit_or}
-use Rattle.std.proofs.lemmas.Bool.Decides.{eqb_tells}
-use Rattle.std.proofs.lemmas.Nat.{and_or_self}
+use Rattle.std.proofs.lemmas.{Bool.Decides.eqb_tells, Nat.and_or_self}
 use mathlib.Core.Option.{some}
 use lib.ListN.{get_elem?}
 use denote.RawPtr.{Ptr}
-use Rattle.queue_laws.specs.Common.Puts.{put}
-use Rattle.queue_laws.proofs.Common.Puts.{put_same, put_other}
-use Rattle.queue_steps.specs.State.{State}
-use Rattle.queue_steps.specs.UnboundedNext.{at, ends, walks_on}
-use Rattle.queue_laws.specs.Common.Vocabulary.{Reply, Word, Op, Touch, Local, WRITE, READ, DESTROY}
-use Rattle.queue_steps.specs.declared.steps.unbounded.UnboundedLocal.TheVariants as chain
+use Rattle.queue_laws.specs.{Common.Puts.put, Common.Vocabulary.Reply, Common.Vocabulary.Word, Common.Vocabulary.Op, Common.Vocabulary.Touch, Common.Vocabulary.Local, Common.Vocabulary.WRITE, Common.Vocabulary.READ, Common.Vocabulary.DESTROY, Chain.ChainTransitions.walked, Chain.ChainTransitions.walk_after, Chain.ChainFacts.IsNamed, Chain.ChainAt.Only, Chain.ChainAt.walking, Chain.ChainAt.destroying, Chain.ChainAnswers.IsState, Chain.ChainAnswers.is_wrote, Chain.ChainAnswers.is_done, Chain.ChainAnswers.waits_at}
+use Rattle.queue_laws.proofs.{Common.Puts.put_same, Common.Puts.put_other, Chain.ChainAnswers.done_is, Chain.ChainHolds.after_walk_on}
+use Rattle.queue_steps.specs.{State.State, UnboundedNext.at, UnboundedNext.ends, UnboundedNext.walks_on, declared.steps.unbounded.UnboundedLocal.UnboundedLocal as chain}
 use Rattle.queue_laws.specs.Chain.ChainCells.{Reader, Reading, Done, Walk, Before, Walker, Waits, GivenUp, Chain, ChainOk, WalkOk, IsWalked, Read, Passed, HoldsOnly, reader_of, item_at, LAST}
-use Rattle.queue_laws.specs.Chain.ChainTransitions.{walked, walk_after}
-use Rattle.queue_laws.specs.Chain.ChainFacts.{IsNamed}
-use Rattle.queue_laws.specs.Chain.ChainAt.{Only, walking, destroying}
-use Rattle.queue_laws.specs.Chain.ChainAnswers.{IsState, is_wrote, is_done, waits_at}
-use Rattle.queue_laws.proofs.Chain.ChainAnswers.{done_is}
-use Rattle.queue_laws.proofs.Chain.ChainHolds.{after_walk_on}
 use Rattle.mem_blocks.specs.Web.{Block, Sitter, block, Lives, word_of, with_word, without, vacant}
 use Rattle.shared_parties.specs.declared.known.CallState.{CallState}
-use Rattle.shared_chain.specs.Spots.{spot}
-use Rattle.shared_chain.specs.ChainCalls.{OutChain, ChainLent}
-use Rattle.shared_chain.specs.Rule.{home_of, BlockIs, Codes}
-use Rattle.shared_chain.specs.Steps.{BlockStep, HoldsBy}
+use Rattle.shared_chain.specs.{Spots.spot, ChainCalls.OutChain, ChainCalls.ChainLent, Rule.home_of, Rule.BlockIs, Rule.Codes, Steps.BlockStep, Steps.HoldsBy}
 use Rattle.shared_chain.proofs.Frames.Blocks.{alive_is}
 use Rattle.shared_chain.proofs.Frames.Homes.{turned, AllBut, SlotTurns, turns_not, turns_word, codes_turned, codes_gone, all_vacant, read_home, slot_vacant, home_kept, word_set}
 use Rattle.shared_chain.proofs.Frames.States.{still_tested, state_is, Leaves, load_step, or_step, no_lent, walks_none, idles, Emptied, walks_left}

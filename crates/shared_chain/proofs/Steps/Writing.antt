@@ -3,30 +3,16 @@ use Rattle.std.proofs.Common.{ℕ, zero, suc, ◌+◌, ◌/◌, ◌%◌, ◌<◌
 use Rattle.std.proofs.lemmas.Nat.{and_or_self}
 use mathlib.Core.Option.{some}
 use denote.RawPtr.{Ptr}
-use Rattle.queue_laws.specs.Common.Puts.{put}
-use Rattle.queue_laws.proofs.Common.Puts.{put_same, put_other}
+use Rattle.queue_laws.specs.{Common.Puts.put, Chain.ChainTransitions.written, Chain.ChainFacts.open_tail_of, Chain.ChainFacts.Claimed, Chain.ChainFacts.HasSpare, Chain.ChainAt.Only, Chain.ChainAt.writing, Chain.ChainAnswers.IsState, Chain.ChainAnswers.is_wrote}
+use Rattle.queue_laws.proofs.{Common.Puts.put_same, Common.Puts.put_other, Chain.ChainReads.own_item, Chain.ChainHolds.after_write}
 use Rattle.queue_laws.specs.Common.Vocabulary.{Word, Op, Touch, Local, Next, PushKind, BLOCK_SLOTS, WRITE, READ, DESTROY}
-use Rattle.queue_steps.specs.State.{State}
-use Rattle.queue_steps.specs.BoundedNext.{pushed_reply}
-use Rattle.queue_steps.specs.ChainWords.{offset_of}
-use Rattle.queue_steps.specs.declared.steps.unbounded.UnboundedLocal.TheVariants as chain
+use Rattle.queue_steps.specs.{State.State, BoundedNext.pushed_reply, ChainWords.offset_of, declared.steps.unbounded.UnboundedLocal.UnboundedLocal as chain}
 use Rattle.queue_laws.specs.Chain.ChainCells.{Writing, Wrote, Reader, Unread, Reading, Done, GivenUp, ChainOk, ItemOk, Write, HoldsOnly, Nothing, item_at}
-use Rattle.queue_laws.specs.Chain.ChainTransitions.{written}
-use Rattle.queue_laws.proofs.Chain.ChainReads.{own_item}
-use Rattle.queue_laws.specs.Chain.ChainFacts.{open_tail_of, Claimed, HasSpare}
-use Rattle.queue_laws.specs.Chain.ChainAt.{Only, writing}
-use Rattle.queue_laws.specs.Chain.ChainAnswers.{IsState, is_wrote}
-use Rattle.queue_laws.proofs.Chain.ChainHolds.{after_write}
 use Rattle.mem_blocks.specs.Web.{Block, Sitter, gives, block, Lives, word_of, with_word, with_home, vacant, full, AllVacant, sitter_acted}
-use Rattle.shared_parties.specs.declared.known.CallState.{CallState}
-use Rattle.shared_parties.specs.Calling.{touched_list}
-use Rattle.shared_chain.specs.Spots.{spot}
-use Rattle.shared_chain.specs.ChainCalls.{OutChain}
-use Rattle.shared_chain.specs.Rule.{home_of, plain_state, BlockIs, Codes}
-use Rattle.shared_chain.specs.Steps.{BlockStep, HoldsBy, HoldsFor, fresh_at, carried_by}
-use Rattle.shared_chain.proofs.Frames.Blocks.{alive_is}
+use Rattle.shared_parties.specs.{declared.known.CallState.CallState, Calling.touched_list}
+use Rattle.shared_chain.specs.{Spots.spot, ChainCalls.OutChain, Rule.home_of, Rule.plain_state, Rule.BlockIs, Rule.Codes, Steps.BlockStep, Steps.HoldsBy, Steps.HoldsFor, Steps.fresh_at, Steps.carried_by}
+use Rattle.shared_chain.proofs.Frames.{Blocks.alive_is, States.still_tested, States.state_is, States.Leaves, States.acts_first, States.or_step, States.none_out, States.idles}
 use Rattle.shared_chain.proofs.Frames.Homes.{SlotTurns, turns_both, turns_word, turns_home, codes_turned, not_given, home_set, word_set, word_kept}
-use Rattle.shared_chain.proofs.Frames.States.{still_tested, state_is, Leaves, acts_first, or_step, none_out, idles}
 
 -- the reader of an item has its slot only once it is written
 abbrev pub OutWrote : {A : Type 0} → OutChain A → Type 0

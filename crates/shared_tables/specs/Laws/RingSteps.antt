@@ -7,34 +7,13 @@ use lib.ListN.{get_elem?}
 use Rattle.atomic_table.specs.Table.{Act, keeps, takes, gives, Valid, carried_after, homes_after, rest}
 use Rattle.atomic_table.proofs.Lists.{set_here, set_else}
 use Rattle.queue_laws.specs.Common.Vocabulary.{Call, Reply, Effect, Kind, Word, Op, Touch, Answer, Next}
-use Rattle.queue_steps.specs.State.{State}
-use Rattle.queue_steps.specs.Words.{IsRing}
-use Rattle.queue_steps.specs.Next.{CanNext, next_of}
-use Rattle.queue_laws.specs.Common.Puts.{put}
-use Rattle.queue_laws.proofs.Common.Puts.{put_ok, put_same}
-use Rattle.queue_laws.specs.Ring.RingCells.{Cell, Ring, queue_of, RingOk, owner, HoldsNone}
-use Rattle.queue_laws.specs.Ring.RingWords.{Codes, item_in}
+use Rattle.queue_steps.specs.{State.State, Words.IsRing, Next.CanNext, Next.next_of}
+use Rattle.queue_laws.specs.{Common.Puts.put, Ring.RingCells.Cell, Ring.RingCells.Ring, Ring.RingCells.queue_of, Ring.RingCells.RingOk, Ring.RingCells.owner, Ring.RingCells.HoldsNone, Ring.RingWords.Codes, Ring.RingWords.item_in, Common.Effects.Touches, Common.Effects.with_effect, Common.Stand.Stand, Ring.RingAt.At, Ring.RingAt.closing, Ring.RingPasses.Lent, Common.Operations.op_word, Common.Operations.op_makes, Common.Operations.answer_for}
+use Rattle.queue_laws.proofs.{Common.Puts.put_ok, Common.Puts.put_same, Ring.RingAt.at_stays, Ring.RingRanks.rank, Ring.RingStepOk.NextOk as RingNextOk, Ring.RingStepOk.StepOk, Ring.RingStepOk.operates_on, Ring.RingEarly.early, Ring.RingStart.at_first, Ring.RingStart.at_touches, Ring.RingStart.at_coming, Ring.RingStart.at_word, Ring.RingStep.step_good, Ring.RingFronts.may_front, Ring.RingHands.lent_stays, Ring.RingHands.Shift, Ring.RingHands.Rests, Ring.RingHands.Claims, Ring.RingHands.GoesOn, Ring.RingHands.Returns, Common.Moments.seen_map}
 use Rattle.queue_laws.specs.Ring.RingShared.{Shared, HasPlace, HasWord, word_at, put_word, CanOperate, CanTouch, answered, operated, touched, handed}
-use Rattle.queue_laws.specs.Common.Effects.{Touches, with_effect}
-use Rattle.queue_laws.specs.Common.Stand.{Stand}
-use Rattle.queue_laws.specs.Ring.RingAt.{At, closing}
-use Rattle.queue_laws.proofs.Ring.RingAt.{at_stays}
-use Rattle.queue_laws.proofs.Ring.RingRanks.{rank}
-use Rattle.queue_laws.proofs.Ring.RingStepOk.{NextOk as RingNextOk, StepOk, operates_on}
-use Rattle.queue_laws.proofs.Ring.RingEarly.{early}
-use Rattle.queue_laws.proofs.Ring.RingStart.{at_first, at_touches, at_coming, at_word}
-use Rattle.queue_laws.proofs.Ring.RingStep.{step_good}
-use Rattle.queue_laws.proofs.Ring.RingFronts.{may_front}
-use Rattle.queue_laws.proofs.Ring.RingHands.{lent_stays, Shift, Rests, Claims, GoesOn, Returns}
-use Rattle.queue_laws.specs.Ring.RingPasses.{Lent}
-use Rattle.own_cells.specs.OneRing.RingWords.{words_behind}
-use Rattle.own_cells.specs.declared.ring.ring_words.TheConstants.{STAMPS}
-use Rattle.queue_laws.proofs.Common.Moments.{seen_map}
+use Rattle.own_cells.specs.{OneRing.RingWords.words_behind, declared.ring.ring_words.TheConstants.STAMPS}
 use Rattle.shared_parties.specs.Calling.{touched_list, lies_in, handed_by, HasTouched, NextOk, CallLaws}
-use Rattle.shared_tables.specs.TableRule.{found_by, TableStepOk, TakesOff, OpensIn, TableLaws}
-use Rattle.queue_laws.specs.Common.Operations.{op_word, op_makes, answer_for}
-use Rattle.shared_tables.specs.RingTable.{home_when, home_of, Homes, ring_words, word_index, RingCoded, ring_calls, ring_table}
-use Rattle.shared_tables.specs.Laws.RingWaitFree.{ring_wait_free}
+use Rattle.shared_tables.specs.{TableRule.found_by, TableRule.TableStepOk, TableRule.TakesOff, TableRule.OpensIn, TableRule.TableLaws, RingTable.home_when, RingTable.home_of, RingTable.Homes, RingTable.ring_words, RingTable.word_index, RingTable.RingCoded, RingTable.ring_calls, RingTable.ring_table, Laws.RingWaitFree.ring_wait_free}
 
 -- the table has the word
 place_below : (cap : ℕ) (w : Word ℕ) → HasPlace cap w → word_index w < cap + STAMPS

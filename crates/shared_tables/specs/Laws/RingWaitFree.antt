@@ -1,11 +1,7 @@
 -- The wait-free calls on a ring take one step or two.
 use Rattle.std.specs.Prelude.{◌≡◌, ℕ, Bool, true, false}
 use Rattle.queue_laws.specs.Common.Vocabulary.{Call, Kind, Answer, Local, BoundedLocal, Next}
-use Rattle.queue_steps.specs.declared.steps.bounded.BoundedLocal.TheVariants as ring
-use Rattle.queue_steps.specs.BoundedNext.{bounded_begin}
-use Rattle.queue_steps.specs.Kinds.{call_kind}
-use Rattle.queue_steps.specs.Next.{CanNext, next_of}
-use Rattle.queue_steps.specs.WaitFree.{is_wait_free, EndsBefore, EndsWaitFree}
+use Rattle.queue_steps.specs.{declared.steps.bounded.BoundedLocal.BoundedLocal as ring, BoundedNext.bounded_begin, Kinds.call_kind, Next.CanNext, Next.next_of, WaitFree.is_wait_free, WaitFree.EndsBefore, WaitFree.EndsWaitFree}
 
 module _ (cap : ℕ) where
   abbrev RingEndsBefore : ℕ → Next ℕ → Type 0

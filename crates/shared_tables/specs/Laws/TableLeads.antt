@@ -1,29 +1,13 @@
 -- The laws of `Site` for a queue in a table: where a call stands after a step is what the step told.
 use Rattle.std.proofs.Common.{◌≡◌, ℕ, suc, [], Option, Some, None, refl, ap, sym, ◌∙◌, subst, inl, inr}
 use Rattle.atomic_table.specs.Seated.{TableId}
-use Rattle.queue_laws.specs.Common.Vocabulary.{Call, Op, Touch, Answer, Local, Next, SOLO_STEPS}
-use Rattle.queue_steps.specs.Effect.{after}
-use Rattle.queue_steps.specs.Kinds.{call_kind, call_value, with_value}
-use Rattle.queue_steps.specs.Next.{CanNext, next_of, first_local}
-use Rattle.queue_steps.specs.Parties.{View, SharedCall}
+use Rattle.queue_laws.specs.Common.{Vocabulary.Call, Vocabulary.Op, Vocabulary.Touch, Vocabulary.Answer, Vocabulary.Local, Vocabulary.Next, Vocabulary.SOLO_STEPS, Effects.Touches, Operations.answer_for}
+use Rattle.queue_steps.specs.{Effect.after, Kinds.call_kind, Kinds.call_value, Kinds.with_value, Next.CanNext, Next.next_of, Next.first_local, Parties.View, Parties.SharedCall}
 use Rattle.queue_laws.proofs.Common.Runs.{cap_after}
-use Rattle.queue_laws.specs.Common.Effects.{Touches}
-use Rattle.shared_parties.specs.declared.known.CallState.{CallState}
-use Rattle.shared_parties.specs.declared.known.InCall.{InCall}
-use Rattle.shared_parties.specs.declared.known.Work.TheVariants as work
-use Rattle.shared_parties.specs.Known.{party}
-use Rattle.shared_tables.specs.Seats.{view_at}
-use Rattle.shared_parties.specs.CallStates.{idle}
-use Rattle.shared_tables.specs.AtTable.{TableSeat, IsAt}
-use Rattle.shared_parties.specs.Calling.{cap_of, handed_by, first_of, Opens}
-use Rattle.shared_tables.specs.TableRule.{TableOf, TableLaws, InTable}
-use Rattle.queue_laws.specs.Common.Operations.{answer_for}
+use Rattle.shared_parties.specs.{declared.known.CallState.CallState, declared.known.InCall.InCall, declared.known.Work.Work as work, Known.party, CallStates.idle, Calling.cap_of, Calling.handed_by, Calling.first_of, Calling.Opens, CallsAt.begun_at, Called.call_of_work}
+use Rattle.shared_tables.specs.{Seats.view_at, AtTable.TableSeat, AtTable.IsAt, TableRule.TableOf, TableRule.TableLaws, TableRule.InTable}
 use Rattle.shared_tables.specs.TableTurns.{After, Follows, call_at, CanDo, NoBlock, NoGift, TableCan, TableDoes, TableStands, TableEnded}
-use Rattle.shared_parties.specs.CallsAt.{begun_at}
-use Rattle.shared_parties.specs.Called.{call_of_work}
-use Rattle.shared_parties.proofs.Called.{whole}
-use Rattle.shared_parties.proofs.Histories.{prefix_self}
-use Rattle.shared_parties.proofs.SharedCalls.{quiet}
+use Rattle.shared_parties.proofs.{Called.whole, Histories.prefix_self, SharedCalls.quiet}
 use Rattle.call_driver.specs.Leads.{Leads, GoesOn}
 use Rattle.call_driver.proofs.LeadsThrough.{leads-through}
 

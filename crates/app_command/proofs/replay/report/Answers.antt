@@ -1,5 +1,4 @@
-use Rattle.app_command.proofs.Reporting.{within_limit, reported}
-use Rattle.app_command.proofs.Taking.{takes-on}
+use Rattle.app_command.proofs.{Reporting.within_limit, Reporting.reported, Taking.takes-on}
 use Rattle.app_command.proofs.replay.report.Goals as goal
 
 pub take_lines-requires : goal.take_lines-requires

@@ -1,6 +1,5 @@
 use Rattle.std.proofs.Common.{ℕ, OnOk, replicate, string_bytes, ap, subst, sym}
-use Rattle.app_command.specs.Takes.{Takes}
-use Rattle.app_command.specs.Turns.{turn_count}
+use Rattle.app_command.specs.{Takes.Takes, Turns.turn_count}
 use Rattle.app_command.proofs.replay.take_line.Goals as goal
 
 pub returns-in-Run : goal.returns-in-Run

@@ -1,5 +1,4 @@
-use Rattle.std.proofs.Common.{rules}
-use Rattle.std.proofs.lemmas.List.{take_more}
+use Rattle.std.proofs.{Common.rules, lemmas.List.take_more}
 use Rattle.app_command.proofs.Playing.{put_more, put_part}
 use Rattle.app_command.proofs.script.put_replies.Goals as goal
 

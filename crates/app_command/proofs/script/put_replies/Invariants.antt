@@ -1,6 +1,5 @@
 use Rattle.std.proofs.Common.{take, ◌++◌}
-use Rattle.app_text.specs.Replies.{replies_text}
-use Rattle.app_text.specs.Streams.{LeavesRest}
+use Rattle.app_text.specs.{Replies.replies_text, Streams.LeavesRest}
 use Rattle.app_command.proofs.script.put_replies.Given as goal
 
 -- the replies so far are put

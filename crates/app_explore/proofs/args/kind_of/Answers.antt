@@ -1,11 +1,7 @@
 use Rattle.std.proofs.Common.{◌≡◌, ◌≢◌, ◌∙◌, ◌++◌, ℕ, List, Bool, true, ap, codes, drop, length, sym}
 use Rattle.std.specs.Fmt.{decimal}
-use Rattle.std.proofs.lemmas.Bool.Decides.{Decides-eqb}
-use Rattle.std.proofs.lemmas.Slice.Eq.{starts_is}
-use Rattle.std.proofs.lemmas.Str.Pattern.{starts_text}
-use Rattle.app_text.specs.KindNames.{IsCapacity, IsKindName, kind_text}
-use Rattle.app_text.specs.declared.args.KindName.{KindName}
-use Rattle.app_text.specs.declared.args.KindName.TheVariants as kind
+use Rattle.std.proofs.lemmas.{Bool.Decides.Decides-eqb, Slice.Eq.starts_is, Str.Pattern.starts_text}
+use Rattle.app_text.specs.{KindNames.IsCapacity, KindNames.IsKindName, KindNames.kind_text, declared.args.KindName.KindName, declared.args.KindName.KindName as kind}
 use Rattle.app_explore.proofs.args.kind_of.Goals as goal
 
 no_capacity : (word digits : List ℕ) → ((k : KindName) → IsKindName k → kind_text k ≢ word) → word ≡ codes "bounded:" ++ digits → (n : ℕ) → IsCapacity n → decimal n ≢ digits

@@ -1,8 +1,7 @@
 use Rattle.std.proofs.Common.{◌∙◌, ◌+◌, ap, map, drop, refl, string_bytes, sym}
 use Rattle.app_explore.specs.Lanes.{widest}
-use Rattle.app_explore.proofs.Drawing.{widest_more, widest_same, widest_past}
+use Rattle.app_explore.proofs.{Drawing.widest_more, Drawing.widest_same, Drawing.widest_past, lanes.widest.Goals.then-width-len, lanes.widest.Goals.else-width-len}
 use Rattle.app_explore.proofs.lanes.widest.Goals as goal
-use Rattle.app_explore.proofs.lanes.widest.Goals.{then-width-len, else-width-len}
 
 pub loop-cell-init : goal.loop-cell-init
 loop-cell-init g c = refl

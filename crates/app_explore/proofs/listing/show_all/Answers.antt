@@ -1,8 +1,7 @@
 use Rattle.std.proofs.Common.{◌≡◌, ◌∙◌, ℕ, List, ap, map, string_bytes, subst}
 use Rattle.std.specs.List.{AllZip}
 use Rattle.std.proofs.lemmas.Result.{IfOk-from_err}
-use Rattle.machine_explore.specs.Certified.{IsOutcomeOf}
-use Rattle.machine_explore.specs.declared.schedule.Move.{Move}
+use Rattle.machine_explore.specs.{Certified.IsOutcomeOf, declared.schedule.Move.Move}
 use Rattle.app_explore.specs.Outcomes.{AreInOrder, text_of}
 use Rattle.app_explore.proofs.listing.show_all.Goals as goal
 

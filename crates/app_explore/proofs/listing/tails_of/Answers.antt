@@ -1,6 +1,5 @@
 use Rattle.std.proofs.Common.{◌≡◌, ◌++◌, ◌∙◌, ◌∷◌, [], ap, map, string_bytes, sym, take}
-use Rattle.std.proofs.lemmas.List.{map-append, take_all}
-use Rattle.std.proofs.lemmas.Result.{IfOk-from_err}
+use Rattle.std.proofs.lemmas.{List.map-append, List.take_all, Result.IfOk-from_err}
 use Rattle.app_explore.specs.Tails.{figure_tail, tail_line}
 use Rattle.app_explore.proofs.Tallies.{told_more}
 use Rattle.app_explore.proofs.listing.tails_of.Goals as goal

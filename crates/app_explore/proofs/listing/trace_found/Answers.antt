@@ -1,8 +1,7 @@
 use Rattle.std.proofs.Common.{◌∙◌, ◌-◌, List, Some, ap, subst, sym}
 use Rattle.std.proofs.lemmas.Option.{slice_get-get_or}
 use Rattle.std.specs.Prelude.{slice_get}
-use Rattle.machine_explore.specs.Traces.{IsTraceOf}
-use Rattle.machine_explore.specs.declared.schedule.Move.{Move}
+use Rattle.machine_explore.specs.{Traces.IsTraceOf, declared.schedule.Move.Move}
 use Rattle.app_explore.proofs.listing.trace_found.Goals as goal
 
 pub returns : goal.returns

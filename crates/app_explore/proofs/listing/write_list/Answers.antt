@@ -1,8 +1,6 @@
 use Rattle.std.proofs.Common.{◌≡◌, ◌∙◌, ◌++◌, ap, length, map, string_bytes, sym}
 use Rattle.std.proofs.lemmas.List.{length-map}
-use Rattle.app_explore.specs.Listings.{outcome_lines}
-use Rattle.app_explore.specs.Outcomes.{text_of}
-use Rattle.app_explore.specs.Tails.{figure_tail, last_text, tail_line, without_order}
+use Rattle.app_explore.specs.{Listings.outcome_lines, Outcomes.text_of, Tails.figure_tail, Tails.last_text, Tails.tail_line, Tails.without_order}
 use Rattle.app_explore.proofs.listing.write_list.Goals as goal
 
 pub returns : goal.returns

@@ -1,6 +1,5 @@
 use Rattle.std.proofs.Common.{◌≡◌, Less, map, nat_cmp, string_bytes}
-use Rattle.std.specs.Cmp.Lexicographic.{slice_cmp}
-use Rattle.std.specs.List.{AllAdjacentBelow}
+use Rattle.std.specs.{Cmp.Lexicographic.slice_cmp, List.AllAdjacentBelow}
 use Rattle.app_explore.proofs.outcomes.are_in_order.Given as goal
 
 -- those up to here are in order

@@ -1,5 +1,4 @@
-use Rattle.std.proofs.Common.{ap, map, string_bytes}
-use Rattle.std.proofs.lemmas.Result.{IfOk-from_err}
+use Rattle.std.proofs.{Common.ap, Common.map, Common.string_bytes, lemmas.Result.IfOk-from_err}
 use Rattle.app_explore.specs.Outcomes.{text_of}
 use Rattle.app_explore.proofs.Mapped.{mapped_more, mapped_all}
 use Rattle.app_explore.proofs.outcomes.texts_of.Goals as goal

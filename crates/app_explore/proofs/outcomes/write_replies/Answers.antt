@@ -1,5 +1,5 @@
 use Rattle.std.proofs.Common.{◌<◌, length, string_bytes, Ok}
-use Rattle.queue_steps.specs.declared.model.Reply.TheVariants as reply
+use Rattle.queue_steps.specs.declared.model.Reply.{Reply as reply}
 use Rattle.app_text.specs.Replies.{reply_text}
 use Rattle.app_explore.proofs.Replying.{listed_more, piece_more}
 use Rattle.app_explore.proofs.outcomes.write_replies.Goals as goal

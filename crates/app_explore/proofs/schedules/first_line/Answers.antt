@@ -1,7 +1,6 @@
 use Rattle.std.proofs.Common.{◌≡◌, ◌∙◌, ℕ, ap, ◌<◌, ◌⊎◌, inl, inr}
 use Rattle.queue_steps.specs.declared.sizes.TheConstants.{SOLO_STEPS}
-use Rattle.app_text.specs.declared.actions.Action.TheVariants as action
-use Rattle.app_text.specs.declared.actions.ReplayLine.{ReplayLine}
+use Rattle.app_text.specs.declared.actions.{Action.Action as action, ReplayLine.ReplayLine}
 use Rattle.app_explore.specs.Schedules.{party_of, plain_line, row_length}
 use Rattle.app_explore.proofs.Moving.{first_is_run, first_is_plain}
 use Rattle.app_explore.proofs.schedules.first_line.Goals as goal

@@ -1,6 +1,5 @@
 use Rattle.std.proofs.Common.{codes, ap, string_bytes}
-use Rattle.app_text.specs.Actions.{action_text}
-use Rattle.app_text.specs.Calls.{call_text}
+use Rattle.app_text.specs.{Actions.action_text, Calls.call_text}
 use Rattle.app_explore.proofs.Moving.{line_written}
 use Rattle.app_explore.proofs.schedules.write_line.Goals as goal
 

@@ -1,7 +1,6 @@
 use Rattle.std.proofs.Common.{◌≡◌, ◌∙◌, ℕ, List, ap, map, string_bytes, subst}
 use Rattle.machine_explore.specs.Waiting.{HasNoOtherWait, wait_of}
-use Rattle.app_explore.specs.Outcomes.{AreInOrder}
-use Rattle.app_explore.specs.WaitLines.{wait_text}
+use Rattle.app_explore.specs.{Outcomes.AreInOrder, WaitLines.wait_text}
 use Rattle.app_explore.proofs.waits.all_waits.Goals as goal
 
 pub returns : goal.returns

@@ -1,7 +1,6 @@
 use Rattle.std.proofs.Common.{◌≡◌, ◌∙◌, ◌++◌, ◌∷◌, [], List, ap, map, subst, sym}
 use Rattle.std.specs.List.{All}
-use Rattle.std.proofs.lemmas.List.{map-append}
-use Rattle.std.proofs.lemmas.List.Elements.{All-push}
+use Rattle.std.proofs.lemmas.List.{map-append, Elements.All-push}
 use Rattle.machine_explore.specs.Waiting.{Waiting, wait_of}
 use Rattle.app_explore.specs.Waits.{IsShownWait}
 use Rattle.app_explore.proofs.waits.show_each.Goals as goal

@@ -1,8 +1,7 @@
 use Rattle.std.proofs.Common.{◌≡◌, ◌∙◌, ◌-◌, ◌++◌, List, Some, ap, map, subst, sym}
 use Rattle.std.proofs.lemmas.Option.{slice_get-get_or, slice_get-map}
 use Rattle.std.specs.Prelude.{option_map, slice_get}
-use Rattle.machine_explore.specs.Traces.{Seen}
-use Rattle.machine_explore.specs.Waiting.{wait_of}
+use Rattle.machine_explore.specs.{Traces.Seen, Waiting.wait_of}
 use Rattle.app_explore.specs.Schedules.{MakeAll, move_lines, schedule_text}
 use Rattle.app_explore.proofs.waits.wait_schedule.Goals as goal
 

@@ -1,6 +1,5 @@
 use Rattle.std.proofs.Common.{arith}
-use Rattle.app_text.proofs.ReadArgs.{capacity_word}
-use Rattle.app_text.proofs.ReadLoad.{other_number}
+use Rattle.app_text.proofs.{ReadArgs.capacity_word, ReadLoad.other_number}
 use Rattle.app_text.specs.KindNames.{IsCapacity}
 use Rattle.app_text.proofs.args.parse_capacity.Goals as goal
 

@@ -1,7 +1,6 @@
 use Rattle.std.proofs.Common.{inl, inr, rules, tests}
-use Rattle.app_text.proofs.ReadArgs.{no_such_count}
+use Rattle.app_text.proofs.{ReadArgs.no_such_count, args.parse_parties.Goals.then-count-eq0-via-then-count-eq0, args.parse_parties.Goals.then-count-eq0-via-else-count-eq0+then-count-gt-MOST_PARTIES}
 use Rattle.app_text.proofs.args.parse_parties.Goals as goal
-use Rattle.app_text.proofs.args.parse_parties.Goals.{then-count-eq0-via-then-count-eq0, then-count-eq0-via-else-count-eq0+then-count-gt-MOST_PARTIES}
 
 pub returns-then-count-eq0 : goal.returns-then-count-eq0
 returns-then-count-eq0 c =

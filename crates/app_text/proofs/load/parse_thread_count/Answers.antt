@@ -1,8 +1,7 @@
 use Rattle.std.proofs.Common.{arith, rules, tests}
 use Rattle.app_text.specs.KindNames.{IsThreadCount}
-use Rattle.app_text.proofs.ReadLoad.{other_number, thread_word}
+use Rattle.app_text.proofs.{ReadLoad.other_number, ReadLoad.thread_word, load.parse_thread_count.Goals.then-count-eq0-via-then-count-eq0, load.parse_thread_count.Goals.then-count-eq0-via-else-count-eq0+then-count-gt-MOST_THREADS}
 use Rattle.app_text.proofs.load.parse_thread_count.Goals as goal
-use Rattle.app_text.proofs.load.parse_thread_count.Goals.{then-count-eq0-via-then-count-eq0, then-count-eq0-via-else-count-eq0+then-count-gt-MOST_THREADS}
 
 pub returns-then-count-eq0 : goal.returns-then-count-eq0
 returns-then-count-eq0 c =

@@ -1,7 +1,6 @@
 use Rattle.std.proofs.Common.{rules, tests}
-use Rattle.app_text.proofs.Writing.{writes-more, writes-kept, slice_from}
+use Rattle.app_text.proofs.{Writing.writes-more, Writing.writes-kept, Writing.slice_from, streams.write_text.Goals.in-Ok, streams.write_text.Goals.in-Err}
 use Rattle.app_text.proofs.streams.write_text.Goals as goal
-use Rattle.app_text.proofs.streams.write_text.Goals.{in-Ok, in-Err}
 
 pub loop-preserved : goal.loop-preserved
 loop-preserved g c = elim c.match-write.branch [

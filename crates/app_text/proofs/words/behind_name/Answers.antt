@@ -1,8 +1,6 @@
 use Rattle.std.proofs.Common.{◌∙◌, ap}
-use Rattle.std.proofs.lemmas.Iterator.{items_from_collect}
-use Rattle.std.proofs.lemmas.Iterator.Adapters.{YieldsList-from_skip, YieldsList-from_vec}
-use Rattle.std.specs.Iterator.Adapters.{skip_source}
-use Rattle.std.specs.Vec.Iter.{into_iter_items, into_iter_len}
+use Rattle.std.proofs.lemmas.Iterator.{items_from_collect, Adapters.YieldsList-from_skip, Adapters.YieldsList-from_vec}
+use Rattle.std.specs.{Iterator.Adapters.skip_source, Vec.Iter.into_iter_items, Vec.Iter.into_iter_len}
 use Rattle.app_text.proofs.words.behind_name.Goals as goal
 
 pub returns : goal.returns

@@ -1,6 +1,5 @@
 use Rattle.std.proofs.Common.{◌≡◌, Bool, true, subst}
-use Rattle.queue_steps.specs.declared.model.Call.TheVariants as call
-use Rattle.queue_steps.specs.declared.model.Reply.TheVariants as reply
+use Rattle.queue_steps.specs.declared.model.{Call.Call as call, Reply.Reply as reply}
 use Rattle.concurrent_queue.specs.Shared.{Calls}
 use Rattle.app_threads.proofs.EndWorks.{sees_left}
 use Rattle.app_threads.proofs.channel.items_left.Goals as goal

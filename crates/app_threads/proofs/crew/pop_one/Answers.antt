@@ -1,8 +1,5 @@
 use Rattle.std.proofs.Common.{Ok, Err, [], ◌∷◌}
-use Rattle.queue_steps.specs.declared.model.Call.TheVariants as call
-use Rattle.queue_steps.specs.declared.model.Reply.TheVariants as reply
-use Rattle.queue_steps.specs.declared.model.Effect.TheVariants as effect
-use Rattle.queue_steps.specs.declared.errors.PopError.TheVariants as pop
+use Rattle.queue_steps.specs.declared.{model.Call.Call as call, model.Reply.Reply as reply, model.Effect.Effect as effect, errors.PopError.PopError as pop}
 use Rattle.app_threads.proofs.Works.{first_acts, pop_quits}
 use Rattle.app_threads.proofs.crew.pop_one.Goals as goal
 

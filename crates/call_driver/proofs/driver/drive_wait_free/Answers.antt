@@ -1,6 +1,5 @@
 use Rattle.std.proofs.Common.{◌≡◌, ◌-◌, refl, ap}
-use Rattle.queue_steps.specs.declared.sizes.TheConstants.{SOLO_STEPS}
-use Rattle.queue_steps.specs.Kinds.{call_kind}
+use Rattle.queue_steps.specs.{declared.sizes.TheConstants.SOLO_STEPS, Kinds.call_kind}
 use Rattle.call_driver.proofs.Going.{first-step, step, replies, again, ends-first, ends-step}
 use Rattle.call_driver.proofs.driver.drive_wait_free.Goals as goal
 

@@ -1,7 +1,5 @@
 use Rattle.std.proofs.Common.{◌-◌, ◌+◌}
-use Rattle.queue_steps.specs.declared.sizes.TheConstants.{SOLO_STEPS, WAIT_FREE_STEPS}
-use Rattle.queue_steps.specs.Next.{next_of}
-use Rattle.queue_steps.specs.WaitFree.{EndsBefore}
+use Rattle.queue_steps.specs.{declared.sizes.TheConstants.SOLO_STEPS, declared.sizes.TheConstants.WAIT_FREE_STEPS, Next.next_of, WaitFree.EndsBefore}
 use Rattle.call_driver.specs.OnWay.{OnWay}
 use Rattle.call_driver.proofs.driver.drive_wait_free.Given as goal
 

@@ -1,6 +1,5 @@
 use Rattle.std.proofs.Common.{None, sym, ◌∙◌, subst}
-use Rattle.call_driver.proofs.Running.{EndsIn-step, EndsIn-reply, EndsIn-first}
-use Rattle.call_driver.proofs.Watching.{as_call, kind-as_call, look-answer}
+use Rattle.call_driver.proofs.{Running.EndsIn-step, Running.EndsIn-reply, Running.EndsIn-first, Watching.as_call, Watching.kind-as_call, Watching.look-answer}
 use Rattle.queue_steps.specs.LookNext.{IsLookNext}
 use Rattle.queue_steps.proofs.LookNext.{look_next-first, look_next}
 use Rattle.call_driver.proofs.own.observe.Goals as goal

@@ -1,7 +1,5 @@
 use Rattle.std.proofs.Common.{◌-◌, None}
-use Rattle.queue_steps.specs.LookNext.{IsLookNext}
-use Rattle.queue_steps.specs.Next.{CanNext, next_of}
-use Rattle.queue_steps.specs.declared.sizes.TheConstants.{SOLO_STEPS}
+use Rattle.queue_steps.specs.{LookNext.IsLookNext, Next.CanNext, Next.next_of, declared.sizes.TheConstants.SOLO_STEPS}
 use Rattle.call_driver.specs.EndsIn.{EndsIn, Answered}
 use Rattle.call_driver.proofs.Watching.{as_call}
 use Rattle.call_driver.proofs.own.observe.Given as goal

@@ -1,9 +1,6 @@
-use Rattle.std.proofs.Common.{subst}
-use Rattle.std.proofs.lemmas.List.{take_all}
-use Rattle.std.proofs.lemmas.List.Elements.{All-more}
+use Rattle.std.proofs.{Common.subst, lemmas.List.take_all, lemmas.List.Elements.All-more}
 use Rattle.std.specs.List.{All}
-use Rattle.machine_explore.specs.Positions.{Standing}
-use Rattle.machine_explore.specs.Tables.{EndsAmong}
+use Rattle.machine_explore.specs.{Positions.Standing, Tables.EndsAmong}
 use Rattle.machine_explore.proofs.check.all_end_among.Goals as goal
 
 pub loop-position-preserved : goal.loop-position-preserved

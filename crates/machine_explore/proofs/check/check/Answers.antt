@@ -1,7 +1,6 @@
 use Rattle.std.proofs.Common.{subst}
 use Rattle.std.specs.List.{All}
-use Rattle.machine_explore.specs.Explored.{HasNoOther}
-use Rattle.machine_explore.specs.Tables.{EndsAmong}
+use Rattle.machine_explore.specs.{Explored.HasNoOther, Tables.EndsAmong}
 use Rattle.machine_explore.proofs.NoOther.{answered, no_other}
 use Rattle.machine_explore.proofs.check.check.Goals as goal
 

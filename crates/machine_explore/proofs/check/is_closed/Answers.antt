@@ -1,10 +1,7 @@
 use Rattle.std.proofs.Common.{◌≡◌, ◌≤◌, ◌<◌, ◌∙◌, ap, arith, length, subst, slice_index_or}
-use Rattle.std.proofs.lemmas.List.{take_all}
-use Rattle.std.proofs.lemmas.List.Elements.{All-more}
-use Rattle.std.specs.Prelude.{Contains}
-use Rattle.std.specs.List.{All}
-use Rattle.machine_explore.specs.Positions.{Standing}
-use Rattle.machine_explore.specs.Tables.{IsInside}
+use Rattle.std.proofs.lemmas.List.{take_all, Elements.All-more}
+use Rattle.std.specs.{Prelude.Contains, List.All}
+use Rattle.machine_explore.specs.{Positions.Standing, Tables.IsInside}
 use Rattle.machine_explore.proofs.check.is_closed.Goals as goal
 
 pub loop-index-preserved : goal.loop-index-preserved

@@ -1,6 +1,5 @@
 use Rattle.std.proofs.Common.{◌<◌, below_more, arith, subst}
-use Rattle.machine_explore.specs.Moves.{led}
-use Rattle.machine_explore.specs.Tables.{Stays}
+use Rattle.machine_explore.specs.{Moves.led, Tables.Stays}
 use Rattle.machine_explore.proofs.check.stays.Goals as goal
 
 pub loop-party-init : goal.loop-party-init

@@ -1,6 +1,5 @@
 use Rattle.std.proofs.Common.{ℕ, ◌<◌}
-use Rattle.machine_explore.specs.Moves.{led}
-use Rattle.machine_explore.specs.Tables.{Stays}
+use Rattle.machine_explore.specs.{Moves.led, Tables.Stays}
 use Rattle.machine_explore.proofs.check.stays.Given as goal
 
 abbrev pub invariant-loop-party : goal.invariant-loop-party

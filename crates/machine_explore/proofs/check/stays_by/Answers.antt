@@ -1,6 +1,5 @@
-use Rattle.machine_explore.proofs.Staying.{stays_both, stays_granted, stays_unasked}
+use Rattle.machine_explore.proofs.{Staying.stays_both, Staying.stays_granted, Staying.stays_unasked, check.stays_by.Goals.else-refuses-via-then-refuses+else-asks, check.stays_by.Goals.else-refuses-via-else-refuses}
 use Rattle.machine_explore.proofs.check.stays_by.Goals as goal
-use Rattle.machine_explore.proofs.check.stays_by.Goals.{else-refuses-via-then-refuses+else-asks, else-refuses-via-else-refuses}
 
 pub returns-then-asks : goal.returns-then-asks
 returns-then-asks g c = stays_both c.args.program.now.parties.items c.args.positions.now c.args.position.now c.args.party c.args.refuses c.leads_to-then-asks.result (c.in_ok-leads_to.ensures c.if-not-branch.false) c.leads_to-then-asks.ensures

@@ -1,9 +1,7 @@
 use Rattle.std.proofs.Common.{map, subst}
 use Rattle.std.specs.List.{All}
-use Rattle.machine_explore.specs.Waiting.{HasNoOtherWait, wait_key, wait_of}
-use Rattle.machine_explore.specs.WaitTables.{HasWaitsAt}
-use Rattle.machine_explore.proofs.NoOther.{answered}
-use Rattle.machine_explore.proofs.Waited.{no_other_wait}
+use Rattle.machine_explore.specs.{Waiting.HasNoOtherWait, Waiting.wait_key, Waiting.wait_of, WaitTables.HasWaitsAt}
+use Rattle.machine_explore.proofs.{NoOther.answered, Waited.no_other_wait}
 use Rattle.machine_explore.proofs.check_waits.check_waits.Goals as goal
 
 pub returns : goal.returns

@@ -1,7 +1,6 @@
 use Rattle.std.proofs.Common.{◌≡◌, ◌∙◌, ◌<◌, ap, arith, length, map, subst}
 use Rattle.std.specs.Prelude.{Contains}
-use Rattle.machine_explore.specs.Waiting.{side_at, side_key, wait_key, wait_of}
-use Rattle.machine_explore.specs.declared.waiting.Side.{Side}
+use Rattle.machine_explore.specs.{Waiting.side_at, Waiting.side_key, Waiting.wait_key, Waiting.wait_of, declared.waiting.Side.Side}
 use Rattle.machine_explore.proofs.check_waits.has_wait.Goals as goal
 
 pub returns-then-waiter-other : goal.returns-then-waiter-other

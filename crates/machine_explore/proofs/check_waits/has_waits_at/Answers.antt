@@ -1,6 +1,5 @@
 use Rattle.std.proofs.Common.{◌<◌, arith, below_more, map}
-use Rattle.machine_explore.specs.Waiting.{wait_key, wait_of}
-use Rattle.machine_explore.specs.WaitTables.{HasWaitsOf}
+use Rattle.machine_explore.specs.{Waiting.wait_key, Waiting.wait_of, WaitTables.HasWaitsOf}
 use Rattle.machine_explore.proofs.check_waits.has_waits_at.Goals as goal
 
 pub loop-waiter-init : goal.loop-waiter-init

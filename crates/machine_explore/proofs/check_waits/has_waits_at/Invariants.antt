@@ -1,6 +1,5 @@
 use Rattle.std.proofs.Common.{ℕ, ◌<◌, map}
-use Rattle.machine_explore.specs.Waiting.{wait_key, wait_of}
-use Rattle.machine_explore.specs.WaitTables.{HasWaitsOf}
+use Rattle.machine_explore.specs.{Waiting.wait_key, Waiting.wait_of, WaitTables.HasWaitsOf}
 use Rattle.machine_explore.proofs.check_waits.has_waits_at.Given as goal
 
 abbrev pub invariant-loop-waiter : goal.invariant-loop-waiter

@@ -1,7 +1,6 @@
 use Rattle.std.proofs.Common.{◌<◌, arith, below_more, map}
 use Rattle.std.specs.Prelude.{Contains}
-use Rattle.machine_explore.specs.Waiting.{wait_key, wait_of}
-use Rattle.machine_explore.specs.WaitTables.{WaitsThere, key_there}
+use Rattle.machine_explore.specs.{Waiting.wait_key, Waiting.wait_of, WaitTables.WaitsThere, WaitTables.key_there}
 use Rattle.machine_explore.proofs.check_waits.has_waits_of.Goals as goal
 
 pub returns-then-not-branch : goal.returns-then-not-branch

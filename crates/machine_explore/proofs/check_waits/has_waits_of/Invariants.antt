@@ -1,7 +1,6 @@
 use Rattle.std.proofs.Common.{ℕ, ◌<◌, map}
 use Rattle.std.specs.Prelude.{Contains}
-use Rattle.machine_explore.specs.Waiting.{wait_key, wait_of}
-use Rattle.machine_explore.specs.WaitTables.{WaitsThere, key_there}
+use Rattle.machine_explore.specs.{Waiting.wait_key, Waiting.wait_of, WaitTables.WaitsThere, WaitTables.key_there}
 use Rattle.machine_explore.proofs.check_waits.has_waits_of.Given as goal
 
 abbrev pub invariant-loop-other : goal.invariant-loop-other

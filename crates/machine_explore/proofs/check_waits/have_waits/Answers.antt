@@ -1,10 +1,6 @@
-use Rattle.std.proofs.Common.{map, subst}
-use Rattle.std.proofs.lemmas.List.{take_all}
-use Rattle.std.proofs.lemmas.List.Elements.{All-more}
+use Rattle.std.proofs.{Common.map, Common.subst, lemmas.List.take_all, lemmas.List.Elements.All-more}
 use Rattle.std.specs.List.{All}
-use Rattle.machine_explore.specs.Positions.{Standing}
-use Rattle.machine_explore.specs.Waiting.{wait_key, wait_of}
-use Rattle.machine_explore.specs.WaitTables.{HasWaitsAt}
+use Rattle.machine_explore.specs.{Positions.Standing, Waiting.wait_key, Waiting.wait_of, WaitTables.HasWaitsAt}
 use Rattle.machine_explore.proofs.check_waits.have_waits.Goals as goal
 
 pub loop-position-preserved : goal.loop-position-preserved

@@ -1,7 +1,6 @@
 use Rattle.std.specs.List.{All}
 use Rattle.std.proofs.Common.{map, take}
-use Rattle.machine_explore.specs.Waiting.{wait_key, wait_of}
-use Rattle.machine_explore.specs.WaitTables.{HasWaitsAt}
+use Rattle.machine_explore.specs.{Waiting.wait_key, Waiting.wait_of, WaitTables.HasWaitsAt}
 use Rattle.machine_explore.proofs.check_waits.have_waits.Given as goal
 
 abbrev pub invariant-loop-position : goal.invariant-loop-position

@@ -1,5 +1,4 @@
-use Rattle.machine_explore.proofs.Rounds.{away_by, away_first, never_back, not_quiet}
-use Rattle.machine_explore.proofs.Waits.{on_first, on_more}
+use Rattle.machine_explore.proofs.{Rounds.away_by, Rounds.away_first, Rounds.never_back, Rounds.not_quiet, Waits.on_first, Waits.on_more}
 use Rattle.machine_explore.proofs.check_waits.may_go_round.Goals as goal
 
 pub loop-init : goal.loop-init

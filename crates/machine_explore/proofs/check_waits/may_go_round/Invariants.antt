@@ -1,5 +1,4 @@
-use Rattle.machine_explore.proofs.Rounds.{IsAway}
-use Rattle.machine_explore.proofs.Waits.{IsOn}
+use Rattle.machine_explore.proofs.{Rounds.IsAway, Waits.IsOn}
 use Rattle.machine_explore.proofs.check_waits.may_go_round.Given as goal
 
 abbrev pub invariant-loop : goal.invariant-loop

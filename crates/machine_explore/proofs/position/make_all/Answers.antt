@@ -3,7 +3,7 @@ use Rattle.std.proofs.lemmas.List.{take_all, take_more}
 use Rattle.std.specs.Prelude.{slice_index_or}
 use Rattle.machine_steps.specs.Machine.{world_of}
 use Rattle.machine_explore.specs.Starts.{IsPrepared}
-use Rattle.queue_steps.specs.declared.model.Call.TheVariants as call
+use Rattle.queue_steps.specs.declared.model.Call.{Call as call}
 use Rattle.machine_explore.proofs.Starting.{prepared-more}
 use Rattle.machine_explore.proofs.position.make_all.Goals as goal
 

@@ -1,8 +1,7 @@
 use Rattle.std.proofs.Common.{◌∙◌, ap, sym, true}
 use Rattle.std.proofs.lemmas.Bool.{not-true}
-use Rattle.machine_steps.specs.Machine.{event_of, world_of}
+use Rattle.machine_steps.specs.{Machine.event_of, Machine.world_of, World.call_at}
 use Rattle.machine_memory.specs.declared.types.Event.TheVariants.{Step}
-use Rattle.machine_steps.specs.World.{call_at}
 use Rattle.machine_replay.proofs.Engine.MachineRuns.{none-there}
 use Rattle.machine_explore.proofs.Starting.{making-done, making-first, making-next}
 use Rattle.machine_explore.proofs.position.make_alone.Goals as goal

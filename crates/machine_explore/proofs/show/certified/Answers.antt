@@ -1,9 +1,7 @@
 use Rattle.std.proofs.Common.{◌+◌, List, ℕ, subst, sym, take}
 use Rattle.std.proofs.lemmas.List.{take_all}
 use Rattle.std.specs.List.{AllZip}
-use Rattle.machine_explore.specs.Certified.{IsOutcomeOf}
-use Rattle.machine_explore.specs.Positions.{Outcome}
-use Rattle.machine_explore.specs.declared.schedule.Move.{Move}
+use Rattle.machine_explore.specs.{Certified.IsOutcomeOf, Positions.Outcome, declared.schedule.Move.Move}
 use Rattle.machine_explore.proofs.Pairs.{all_zip_taken}
 use Rattle.machine_explore.proofs.show.certified.Goals as goal
 

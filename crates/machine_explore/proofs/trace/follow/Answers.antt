@@ -1,7 +1,6 @@
 use Rattle.std.proofs.Common.{List, ℕ, subst, sym}
 use Rattle.machine_steps.specs.Left.{left_of}
-use Rattle.machine_explore.specs.Positions.{Outcome}
-use Rattle.machine_explore.specs.Traces.{IsTraceOf}
+use Rattle.machine_explore.specs.{Positions.Outcome, Traces.IsTraceOf}
 use Rattle.machine_explore.proofs.Showing.{shows}
 use Rattle.machine_explore.proofs.trace.follow.Goals as goal
 

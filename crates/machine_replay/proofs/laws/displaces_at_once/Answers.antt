@@ -1,5 +1,4 @@
-use Rattle.machine_replay.proofs.Traces.AtOnce.{displaces_at_once}
-use Rattle.machine_replay.proofs.Replays.SkipsAll.{skipped_is_exact}
+use Rattle.machine_replay.proofs.{Traces.AtOnce.displaces_at_once, Replays.SkipsAll.skipped_is_exact}
 use Rattle.machine_replay.proofs.laws.displaces_at_once.Goals as goal
 
 pub returns : goal.returns

@@ -1,5 +1,4 @@
-use Rattle.machine_replay.proofs.Progress.SoloRun.{solo_calls}
-use Rattle.machine_replay.proofs.Progress.SoloCalls.{solo_runs}
+use Rattle.machine_replay.proofs.Progress.{SoloRun.solo_calls, SoloCalls.solo_runs}
 use Rattle.machine_replay.proofs.laws.solo_calls_reply.Goals as goal
 
 pub returns-clause-lists : goal.returns-clause-lists

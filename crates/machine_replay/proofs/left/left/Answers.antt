@@ -1,6 +1,5 @@
 use Rattle.std.proofs.Common.{◌≡◌, ◌∙◌, ◌≤◌, ap, length, subst, sym, vec_capacity}
-use Rattle.machine_steps.specs.Left.{left_of, listed_in}
-use Rattle.machine_steps.specs.Machine.{world_of}
+use Rattle.machine_steps.specs.{Left.left_of, Left.listed_in, Machine.world_of}
 use Rattle.machine_replay.proofs.Engine.Gathering.{left-slots}
 use Rattle.machine_replay.proofs.left.left.Goals as goal
 

@@ -1,12 +1,8 @@
 use Rattle.std.proofs.Common.{arith, refl, ◌≡◌, ◌∙◌, ◌+◌, ◌<◌, ◌^◌, length, ap, subst, sym}
-use Rattle.std.proofs.lemmas.List.{length_push, map-id}
-use Rattle.std.proofs.lemmas.Iterator.Adapters.{YieldsList-from_vec}
-use Rattle.std.proofs.lemmas.Iterator.Consumers.{YieldsList-end}
-use Rattle.machine_replay.specs.Vocabulary.{Replay}
-use Rattle.machine_replay.specs.Conforms.{Conforms, capacity_of}
+use Rattle.std.proofs.lemmas.{List.length_push, List.map-id, Iterator.Adapters.YieldsList-from_vec, Iterator.Consumers.YieldsList-end}
+use Rattle.machine_replay.specs.{Vocabulary.Replay, Conforms.Conforms, Conforms.capacity_of}
 use Rattle.machine_memory.specs.Room.{HasRoom}
-use Rattle.machine_replay.proofs.Replays.Noting.{notes-first, notes-on, notes-next, notes-end, notes-played}
-use Rattle.machine_replay.proofs.Replays.OneOwnerRun.{one_owner}
+use Rattle.machine_replay.proofs.Replays.{Noting.notes-first, Noting.notes-on, Noting.notes-next, Noting.notes-end, Noting.notes-played, OneOwnerRun.one_owner}
 use Rattle.machine_replay.proofs.run.replay.Goals as goal
 
 pub handle-told-requires-clause-comes : goal.handle-told-requires-clause-comes

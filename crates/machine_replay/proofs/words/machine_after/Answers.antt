@@ -1,9 +1,6 @@
 use Rattle.std.proofs.Common.{◌≡◌, ◌∙◌, arith, ap, sym, subst, length, rules, tests}
-use Rattle.std.proofs.lemmas.List.{map-id}
-use Rattle.std.proofs.lemmas.Iterator.Adapters.{YieldsList-from_vec}
-use Rattle.std.proofs.lemmas.Iterator.Consumers.{YieldsList-end}
-use Rattle.machine_steps.specs.Left.{opening_world}
-use Rattle.machine_steps.specs.Machine.{world_of, PassesAll}
+use Rattle.std.proofs.lemmas.{List.map-id, Iterator.Adapters.YieldsList-from_vec, Iterator.Consumers.YieldsList-end}
+use Rattle.machine_steps.specs.{Left.opening_world, Machine.world_of, Machine.PassesAll}
 use Rattle.machine_replay.proofs.Engine.AllKinds.{in_order-first, in_order-can, in_order-next, has_machine}
 use Rattle.machine_replay.proofs.words.machine_after.Goals as goal
 

@@ -1,16 +1,8 @@
 -- What the calls leave of the queue of a chain of blocks.
 use Rattle.std.specs.Prelude.{bit_or}
 use Rattle.std.proofs.Common.{◌≡◌, ◌≢◌, ℕ, suc, ◌+◌, ◌-◌, ◌*◌, ◌/◌, ◌%◌, ◌<◌, ◌≤◌, true, List, [], ◌∷◌, ◌++◌, length, Option, Some, None, refl, arith, sym, ap, ◌∙◌, subst, inr}
-use Rattle.queue_steps.specs.declared.sizes.TheConstants.{LIMIT, BLOCK_SLOTS}
-use Rattle.queue_steps.specs.declared.steps.bounded.TheConstants.{MARK, TAIL_STEP}
-use Rattle.queue_steps.specs.declared.steps.unbounded.TheConstants.{WRITE, READ}
-use Rattle.queue_steps.specs.State.{State}
-use Rattle.queue_steps.specs.Effect.{rest}
-use Rattle.queue_steps.specs.Words.{IsWord, position_of, is_shut}
-use Rattle.queue_steps.specs.ChainWords.{offset_of, items_before}
-use Rattle.own_cells.specs.declared.chain.unbounded.Name.{Name}
-use Rattle.own_cells.specs.OneRing.Laws.Numbers.{odd_up, half_mark, odd_mark}
-use Rattle.own_cells.specs.OneChain.OwnChainCells.{Piece, OwnChain, piece_at, fresh_piece}
+use Rattle.queue_steps.specs.{declared.sizes.TheConstants.LIMIT, declared.sizes.TheConstants.BLOCK_SLOTS, declared.steps.bounded.TheConstants.MARK, declared.steps.bounded.TheConstants.TAIL_STEP, declared.steps.unbounded.TheConstants.WRITE, declared.steps.unbounded.TheConstants.READ, State.State, Effect.rest, Words.IsWord, Words.position_of, Words.is_shut, ChainWords.offset_of, ChainWords.items_before}
+use Rattle.own_cells.specs.{declared.chain.unbounded.Name.Name, OneRing.Laws.Numbers.odd_up, OneRing.Laws.Numbers.half_mark, OneRing.Laws.Numbers.odd_mark, OneChain.OwnChainCells.Piece, OneChain.OwnChainCells.OwnChain, OneChain.OwnChainCells.piece_at, OneChain.OwnChainCells.fresh_piece}
 use Rattle.own_cells.specs.OneChain.OwnChainOwned.{taken, accepted, cell_of, items_from, own_chain_queue, HoldsItems, Linked, IsBare, IsLaid, IsIdle}
 use Rattle.own_cells.specs.OneChain.Laws.OwnChainKeeps.{set_item, length-set_item, name-set_item, item-same, item-other, items_from-same, items_from-more, Linked-set, HoldsItems-push, HoldsItems-pop}
 use Rattle.own_cells.specs.OneChain.Laws.OwnChainChains.{lay-name, lay-name-new, laid_behind, chained, Linked-first, HoldsItems-first, Linked-lay, HoldsItems-lay, lay-same, length-chained, length-rest, piece-rest, cell-rest, Linked-rest, HoldsItems-rest}

@@ -2,25 +2,10 @@
 use Rattle.std.specs.Prelude.{◌==◌, slice_set, bit_or, nat_lt, is_some, if◌then◌else◌}
 use Rattle.std.proofs.Common.{◌≡◌, ◌≢◌, ℕ, zero, suc, ◌+◌, ◌-◌, ◌*◌, ◌%◌, ◌<◌, Bool, true, false, Option, Some, None, Ok, Err, refl, arith, ap, ◌∙◌}
 use Rattle.std.proofs.lemmas.List.{get_or-set_same}
-use Rattle.queue_steps.specs.declared.sizes.TheConstants.{BLOCK_SLOTS, SOLO_STEPS}
-use Rattle.queue_steps.specs.declared.model.Reply.TheVariants as reply
-use Rattle.queue_steps.specs.declared.errors.PopError.TheVariants as pop
-use Rattle.queue_steps.specs.declared.steps.types.Answer.TheVariants as answer
-use Rattle.queue_steps.specs.declared.steps.types.Link.TheVariants as link
-use Rattle.queue_steps.specs.declared.steps.types.Next.{Next}
-use Rattle.queue_steps.specs.declared.steps.types.Op.TheVariants as op
-use Rattle.queue_steps.specs.declared.steps.types.Word.TheVariants as word
-use Rattle.queue_steps.specs.declared.steps.types.Touch.TheVariants as touch
-use Rattle.queue_steps.specs.declared.steps.bounded.TheConstants.{TAIL_STEP}
-use Rattle.queue_steps.specs.declared.steps.unbounded.TheConstants.{WRITE, READ}
-use Rattle.queue_steps.specs.declared.steps.unbounded.UnboundedLocal.TheVariants as chain
-use Rattle.queue_steps.specs.Words.{IsWord, position_of, is_shut}
-use Rattle.queue_steps.specs.ChainWords.{block_at, offset_of}
+use Rattle.queue_steps.specs.{declared.sizes.TheConstants.BLOCK_SLOTS, declared.sizes.TheConstants.SOLO_STEPS, declared.model.Reply.Reply as reply, declared.errors.PopError.PopError as pop, declared.steps.types.Answer.Answer as answer, declared.steps.types.Link.Link as link, declared.steps.types.Next.Next, declared.steps.types.Op.Op as op, declared.steps.types.Word.Word as word, declared.steps.types.Touch.Touch as touch, declared.steps.bounded.TheConstants.TAIL_STEP, declared.steps.unbounded.TheConstants.WRITE, declared.steps.unbounded.TheConstants.READ, declared.steps.unbounded.UnboundedLocal.UnboundedLocal as chain, Words.IsWord, Words.position_of, Words.is_shut, ChainWords.block_at, ChainWords.offset_of}
 use Rattle.queue_steps.specs.UnboundedNext.{at, loads, ends, is_last_slot, takes, follows, awaits, walks, walks_on}
-use Rattle.own_cells.specs.declared.chain.unbounded.Name.{Name}
-use Rattle.own_cells.specs.OneRing.Laws.Numbers.{same_nat, equal_nat, apart_nat, less}
+use Rattle.own_cells.specs.{declared.chain.unbounded.Name.Name, OneRing.Laws.Numbers.same_nat, OneRing.Laws.Numbers.equal_nat, OneRing.Laws.Numbers.apart_nat, OneRing.Laws.Numbers.less, OneChain.Laws.OwnChainRuns.Ending, OneChain.Laws.OwnChainRuns.OwnChainEnds, OneChain.Laws.OwnChainRuns.place_below, OneChain.Laws.OwnChainRuns.Named-with, OneChain.Laws.OwnChainRuns.own_chain_step, OneChain.Laws.OwnChainRuns.bare_step, OneChain.Laws.OwnChainRuns.slot_step, OneChain.Laws.OwnChainRuns.set_cell}
 use Rattle.own_cells.specs.OneChain.OwnChainCells.{Piece, OwnChain, state_in, item_in, place_of, piece_of, with_piece, Named, CanFollow}
-use Rattle.own_cells.specs.OneChain.Laws.OwnChainRuns.{Ending, OwnChainEnds, place_below, Named-with, own_chain_step, bare_step, slot_step, set_cell}
 
 -- a pop that finds neither an item nor a head whose block is known not to be the last
 pub run-empty : {T : Type 0} (r : OwnChain T) (P : Ending T) → IsWord r.head → (offset_of r.head == BLOCK_SLOTS) ≡ false → (r.head % 2 == 1) ≡ false → r.head % 2 ≢ 1 → (position_of r.tail == position_of r.head) ≡ true

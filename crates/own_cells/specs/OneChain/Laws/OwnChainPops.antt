@@ -2,30 +2,11 @@
 use Rattle.std.specs.Prelude.{◌==◌, slice_set, get_or, bit_or, is_some, IsSome, if◌then◌else◌}
 use Rattle.std.proofs.Common.{◌≡◌, ◌≢◌, ◌⊎◌, ℕ, suc, ◌+◌, ◌-◌, ◌*◌, ◌/◌, ◌%◌, ◌<◌, Bool, true, false, List, length, Option, Some, None, Ok, Err, refl, arith, sym, ap, ◌∙◌, subst, inl, inr}
 use Rattle.std.proofs.lemmas.List.{get_or-set_same, get_or-set_other, length-set}
-use Rattle.queue_steps.specs.declared.sizes.TheConstants.{BLOCK_SLOTS, SOLO_STEPS}
-use Rattle.queue_steps.specs.declared.model.Call.TheVariants as call
-use Rattle.queue_steps.specs.declared.model.Reply.TheVariants as reply
-use Rattle.queue_steps.specs.declared.errors.PopError.TheVariants as pop
-use Rattle.queue_steps.specs.declared.steps.types.Word.TheVariants as word
-use Rattle.queue_steps.specs.declared.steps.bounded.TheConstants.{TAIL_STEP}
-use Rattle.queue_steps.specs.declared.steps.unbounded.TheConstants.{WRITE, READ}
-use Rattle.queue_steps.specs.declared.steps.unbounded.UnboundedLocal.TheVariants as chain
-use Rattle.queue_steps.specs.Effect.{rest}
-use Rattle.queue_steps.specs.Words.{position_of, is_shut}
-use Rattle.queue_steps.specs.ChainWords.{block_at, offset_of}
-use Rattle.queue_steps.specs.UnboundedNext.{loads, takes}
-use Rattle.own_cells.specs.declared.chain.unbounded.Name.{Name}
+use Rattle.queue_steps.specs.{declared.sizes.TheConstants.BLOCK_SLOTS, declared.sizes.TheConstants.SOLO_STEPS, declared.model.Call.Call as call, declared.model.Reply.Reply as reply, declared.errors.PopError.PopError as pop, declared.steps.types.Word.Word as word, declared.steps.bounded.TheConstants.TAIL_STEP, declared.steps.unbounded.TheConstants.WRITE, declared.steps.unbounded.TheConstants.READ, declared.steps.unbounded.UnboundedLocal.UnboundedLocal as chain, Effect.rest, Words.position_of, Words.is_shut, ChainWords.block_at, ChainWords.offset_of, UnboundedNext.loads, UnboundedNext.takes}
+use Rattle.own_cells.specs.{declared.chain.unbounded.Name.Name, OneRing.Laws.Numbers.equal_nat, OneRing.Laws.Numbers.apart_nat, OneRing.Laws.Numbers.is_equal, OneRing.Laws.Numbers.is_apart, OneRing.Laws.Numbers.same_or_not, OneRing.Laws.Numbers.equal_or_above, OneRing.Laws.Numbers.last_or_not, OneChain.OwnChainOwned.taken, OneChain.OwnChainOwned.accepted, OneChain.OwnChainOwned.cell_of, OneChain.OwnChainOwned.own_chain_owned, OneChain.OwnChainOwned.IsBare, OneChain.OwnChainOwned.IsIdle, OneChain.Laws.OwnChainRuns.OwnChainEnds, OneChain.Laws.OwnChainRuns.Named-with, OneChain.Laws.OwnChainRuns.place_below, OneChain.Laws.OwnChainRuns.set_cell, OneChain.Laws.OwnChainKeeps.cell_in, OneChain.Laws.OwnChainChains.rest-set, OneChain.Laws.OwnChainChains.IsEmptied-all, OneChain.Laws.OwnChainPop.run-empty, OneChain.Laws.OwnChainPop.run-known, OneChain.Laws.OwnChainPop.run-tail, OneChain.Laws.OwnChainPop.run-taken, OneChain.Laws.OwnChainPop.run-passed, OneChain.Laws.OwnChainPushes.place-is, OneChain.Laws.OwnChainPushes.named-at, OneChain.Laws.OwnChainPushes.last_name, OneChain.Laws.OwnChainPushes.last-is, OneChain.Laws.OwnChainSequential.Right, OneChain.Laws.OwnChainSequential.sequential}
 use Rattle.call_driver.specs.EndsIn.{Replied}
-use Rattle.own_cells.specs.OneRing.Laws.Numbers.{equal_nat, apart_nat, is_equal, is_apart, same_or_not, equal_or_above, last_or_not}
 use Rattle.own_cells.specs.OneChain.OwnChainCells.{Piece, OwnChain, piece_at, place_of, piece_of, with_piece, Named, CanFollow, IsEmptied}
-use Rattle.own_cells.specs.OneChain.OwnChainOwned.{taken, accepted, cell_of, own_chain_owned, IsBare, IsIdle}
-use Rattle.own_cells.specs.OneChain.Laws.OwnChainRuns.{OwnChainEnds, Named-with, place_below, set_cell}
-use Rattle.own_cells.specs.OneChain.Laws.OwnChainKeeps.{cell_in}
-use Rattle.own_cells.specs.OneChain.Laws.OwnChainChains.{rest-set, IsEmptied-all}
 use Rattle.own_cells.specs.OneChain.Laws.OwnChainLeaves.{Laid, head-offset, head-word, Moved, popped, passed, idle-popped, idle-passed, items-front, queue-popped, queue-passed}
-use Rattle.own_cells.specs.OneChain.Laws.OwnChainPop.{run-empty, run-known, run-tail, run-taken, run-passed}
-use Rattle.own_cells.specs.OneChain.Laws.OwnChainPushes.{place-is, named-at, last_name, last-is}
-use Rattle.own_cells.specs.OneChain.Laws.OwnChainSequential.{Right, sequential}
 
 -- the numbers tell of each block whether there is one behind it
 pub can-follow : {T : Type 0} (r : OwnChain T) (i : IsIdle r) (l : Laid r) (k : ℕ) → k < length r.pieces → CanFollow r (piece_at r.pieces k).name

@@ -1,38 +1,14 @@
 -- Every call on a ring ends with its reply: it is a call of the only party, whose steps are those of the laws of parties.
 use Rattle.std.specs.Prelude.{◌==◌, if◌then◌else◌}
 use Rattle.std.proofs.Common.{◌≡◌, ◌||◌, ℕ, zero, suc, ◌<◌, ◌≤◌, not, Bool, true, false, List, [], ◌∷◌, Option, Some, None, Err, refl, arith, sym, ap, ◌∙◌, subst, inl, inr}
-use Rattle.queue_steps.specs.State.{State, is_single_cap}
-use Rattle.queue_steps.specs.Effect.{after_from}
-use Rattle.queue_steps.specs.Kinds.{call_kind, call_value, filled}
-use Rattle.queue_steps.specs.Legal.{IsShown}
-use Rattle.queue_steps.specs.Next.{CanNext, next_of}
-use Rattle.queue_steps.specs.BoundedNext.{bounded_begin}
-use Rattle.queue_steps.specs.Replies.{IsRightAt, LacksMemory, Tells}
-use Rattle.queue_steps.specs.Words.{position_of}
-use Rattle.queue_steps.specs.Sequential.{Sequential, sequential_reply, sequential_state, moved}
+use Rattle.queue_steps.specs.{State.State, State.is_single_cap, Effect.after_from, Kinds.call_kind, Kinds.call_value, Kinds.filled, Legal.IsShown, Next.CanNext, Next.next_of, BoundedNext.bounded_begin, Replies.IsRightAt, Replies.LacksMemory, Replies.Tells, Words.position_of, Sequential.Sequential, Sequential.sequential_reply, Sequential.sequential_state, Sequential.moved}
 use Rattle.queue_steps.proofs.Rows.{does_row}
 use Rattle.queue_laws.specs.Common.Vocabulary.{Call, Reply, Effect, PushError, ForcePushError, Kind, Op, Touch, Answer, Next, SOLO_STEPS}
-use Rattle.queue_laws.specs.Common.Effects.{FrontOpen, with_effect}
-use Rattle.queue_laws.specs.Common.Moments.{SeenIn}
-use Rattle.queue_laws.proofs.Common.Alone.{Alone, alone_first, alone_more, only_seen}
-use Rattle.queue_laws.specs.Ring.RingShared.{answered, touched, handed}
-use Rattle.queue_laws.specs.Ring.RingCells.{Ring, queue_of, RingOk, HoldsNone}
-use Rattle.queue_laws.specs.Ring.RingWords.{Codes}
-use Rattle.queue_laws.proofs.Ring.RingIdle.{AtRest, at_rest}
-use Rattle.queue_laws.proofs.Ring.RingTransitions.{not_single}
-use Rattle.queue_laws.proofs.Ring.RingRanks.{rank, rank_some}
-use Rattle.queue_laws.proofs.Ring.RingSlots.{nobody}
-use Rattle.queue_laws.proofs.Ring.RingStepOk.{IsQuiet, NextOk}
-use Rattle.queue_laws.proofs.Ring.RingFronts.{may_front}
-use Rattle.queue_laws.proofs.Ring.RingStart.{at_first}
-use Rattle.queue_laws.proofs.Ring.RingStep.{step_good}
+use Rattle.queue_laws.specs.{Common.Effects.FrontOpen, Common.Effects.with_effect, Common.Moments.SeenIn, Ring.RingShared.answered, Ring.RingShared.touched, Ring.RingShared.handed, Ring.RingCells.Ring, Ring.RingCells.queue_of, Ring.RingCells.RingOk, Ring.RingCells.HoldsNone, Ring.RingWords.Codes}
+use Rattle.queue_laws.proofs.{Common.Alone.Alone, Common.Alone.alone_first, Common.Alone.alone_more, Common.Alone.only_seen, Ring.RingIdle.AtRest, Ring.RingIdle.at_rest, Ring.RingTransitions.not_single, Ring.RingRanks.rank, Ring.RingRanks.rank_some, Ring.RingSlots.nobody, Ring.RingStepOk.IsQuiet, Ring.RingStepOk.NextOk, Ring.RingFronts.may_front, Ring.RingStart.at_first, Ring.RingStep.step_good}
 use Rattle.call_driver.specs.EndsIn.{EndsIn, EndsRight, Released, Replied, Answered}
 use Rattle.own_cells.specs.OneRing.RingCells.{RingState, kind_of_ring, ring_touchable, ring_touched, ring_operable, ring_performed, ring_can_touch, ring_touches, ring_can_perform, ring_performs, ring_can_release, ring_releases}
-use Rattle.own_cells.specs.OneRing.RingOwned.{IsIdle, ring_queue, ring_owned}
-use Rattle.own_cells.specs.OneSlot.Laws.ComputedRuns.{EndsIn-step}
-use Rattle.own_cells.specs.OneRing.Laws.RingParty.{part, ring_of, nobody_holds, party_ok, party_codes}
-use Rattle.own_cells.specs.OneRing.Laws.RingRests.{rested_idle, rested_queue}
-use Rattle.own_cells.specs.OneRing.Laws.RingSame.{is_done, same_step}
+use Rattle.own_cells.specs.{OneRing.RingOwned.IsIdle, OneRing.RingOwned.ring_queue, OneRing.RingOwned.ring_owned, OneSlot.Laws.ComputedRuns.EndsIn-step, OneRing.Laws.RingParty.part, OneRing.Laws.RingParty.ring_of, OneRing.Laws.RingParty.nobody_holds, OneRing.Laws.RingParty.party_ok, OneRing.Laws.RingParty.party_codes, OneRing.Laws.RingRests.rested_idle, OneRing.Laws.RingRests.rested_queue, OneRing.Laws.RingSame.is_done, OneRing.Laws.RingSame.same_step}
 
 abbrev pub RingAnswers : {T : Type 0} → RingState T → Call T → Type 0
 RingAnswers r c = EndsRight ring_can_touch ring_touches ring_can_perform ring_performs ring_can_release ring_releases IsIdle ring_owned (kind_of_ring r) c r

@@ -1,16 +1,10 @@
 -- A ring with one owner between calls, as a ring of the laws of parties: nobody has a slot, and each is full or free by its position.
 use Rattle.std.proofs.Common.{◌≡◌, ℕ, zero, suc, ◌+◌, ◌-◌, ◌*◌, ◌/◌, ◌%◌, ◌<◌, ◌≤◌, List, length, Option, Some, None, refl, arith, sym, ap, ◌∙◌, subst, inl, inr, slice_get}
-use Rattle.std.proofs.Math.Nat.{div-add-mod, add-mod_right}
-use Rattle.std.proofs.lemmas.Bool.Decides.{eqb_tells}
-use Rattle.std.proofs.lemmas.Nat.{mod-mul-add}
+use Rattle.std.proofs.{Math.Nat.div-add-mod, Math.Nat.add-mod_right, lemmas.Bool.Decides.eqb_tells, lemmas.Nat.mod-mul-add}
 use Rattle.queue_steps.specs.Words.{position_of, is_shut, tail_of, slot_at}
-use Rattle.queue_laws.specs.Ring.RingShared.{Shared}
-use Rattle.queue_laws.specs.Ring.RingCells.{Cell, Free, Full, Ring, CellOk, RingOk, owner}
-use Rattle.queue_laws.specs.Ring.RingWords.{Codes, stamp_in, item_in}
+use Rattle.queue_laws.specs.Ring.{RingShared.Shared, RingCells.Cell, RingCells.Free, RingCells.Full, RingCells.Ring, RingCells.CellOk, RingCells.RingOk, RingCells.owner, RingWords.Codes, RingWords.stamp_in, RingWords.item_in}
 use Rattle.queue_laws.proofs.Ring.RingIdle.{NobodyHolds}
-use Rattle.own_cells.specs.OneRing.RingCells.{RingState, stamp_at, item_at}
-use Rattle.own_cells.specs.OneRing.RingOwned.{at_position, items_of, IsIdle, ring_queue}
-use Rattle.own_cells.specs.OneRing.Laws.Numbers.{below_or_not}
+use Rattle.own_cells.specs.OneRing.{RingCells.RingState, RingCells.stamp_at, RingCells.item_at, RingOwned.at_position, RingOwned.items_of, RingOwned.IsIdle, RingOwned.ring_queue, Laws.Numbers.below_or_not}
 
 -- a slot of the lap that n stands in
 pub first-slot : (n cap i : ℕ) → i < cap → slot_at cap (n - n % cap + i) ≡ i

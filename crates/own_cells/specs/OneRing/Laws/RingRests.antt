@@ -1,14 +1,9 @@
 -- A ring of the laws of parties of which nobody has a slot is one with one owner, between calls and in the same state.
 use Rattle.std.proofs.Common.{◌≡◌, ℕ, zero, suc, ◌+◌, ◌-◌, ◌%◌, ◌<◌, ◌≤◌, List, [], ◌∷◌, length, get_or, Option, Some, None, refl, ap, sym, ◌∙◌, subst, arith, slice_get}
 use Rattle.queue_steps.specs.Words.{position_of, is_shut, stamp_filled}
-use Rattle.queue_laws.proofs.Common.Tails.{position_tail, shut_tail}
-use Rattle.queue_laws.specs.Ring.RingCells.{Ring, queue_of, RingOk}
-use Rattle.queue_laws.specs.Ring.RingShared.{Shared}
-use Rattle.queue_laws.proofs.Ring.RingTransitions.{in_ring}
-use Rattle.queue_laws.specs.Ring.RingWords.{Codes}
-use Rattle.queue_laws.proofs.Ring.RingIdle.{AtRest}
-use Rattle.own_cells.specs.OneRing.RingCells.{RingState}
-use Rattle.own_cells.specs.OneRing.RingOwned.{at_position, HoldsItems, put_in, items_of, IsIdle, ring_queue}
+use Rattle.queue_laws.proofs.{Common.Tails.position_tail, Common.Tails.shut_tail, Ring.RingTransitions.in_ring, Ring.RingIdle.AtRest}
+use Rattle.queue_laws.specs.Ring.{RingCells.Ring, RingCells.queue_of, RingCells.RingOk, RingShared.Shared, RingWords.Codes}
+use Rattle.own_cells.specs.OneRing.{RingCells.RingState, RingOwned.at_position, RingOwned.HoldsItems, RingOwned.put_in, RingOwned.items_of, RingOwned.IsIdle, RingOwned.ring_queue}
 
 module _ {T : Type 0} where
   -- items that lie one after the other from position p on are the list of those positions

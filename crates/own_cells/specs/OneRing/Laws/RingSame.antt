@@ -4,14 +4,8 @@ use Rattle.std.proofs.Common.{◌≡◌, ℕ, ◌+◌, ◌%◌, ◌^◌, Bool, t
 use Rattle.std.proofs.Math.Nat.{mod-eq_of_lt}
 use prog.Atomic.{either}
 use Rattle.queue_steps.specs.State.{State}
-use Rattle.queue_laws.specs.Common.Vocabulary.{Word, Op, Touch}
-use Rattle.queue_laws.specs.Common.Stand.{Stand}
-use Rattle.queue_laws.specs.Ring.RingShared.{CanTouch, CanOperate, answered, operated, touched, handed, put_word}
-use Rattle.queue_laws.specs.Ring.RingCells.{Ring}
-use Rattle.queue_laws.specs.Ring.RingAt.{At, push_tail}
-use Rattle.own_cells.specs.OneRing.RingCells.{RingState, ring_touchable, ring_touched, ring_operable, ring_performed}
-use Rattle.own_cells.specs.OneRing.Laws.Numbers.{less}
-use Rattle.own_cells.specs.OneRing.Laws.RingParty.{part}
+use Rattle.queue_laws.specs.{Common.Vocabulary.Word, Common.Vocabulary.Op, Common.Vocabulary.Touch, Common.Stand.Stand, Ring.RingShared.CanTouch, Ring.RingShared.CanOperate, Ring.RingShared.answered, Ring.RingShared.operated, Ring.RingShared.touched, Ring.RingShared.handed, Ring.RingShared.put_word, Ring.RingCells.Ring, Ring.RingAt.At, Ring.RingAt.push_tail}
+use Rattle.own_cells.specs.OneRing.{RingCells.RingState, RingCells.ring_touchable, RingCells.ring_touched, RingCells.ring_operable, RingCells.ring_performed, Laws.Numbers.less, Laws.RingParty.part}
 
 -- an operation that calls on a ring do
 abbrev IsDone : Op ℕ → Type 0

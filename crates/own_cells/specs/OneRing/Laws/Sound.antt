@@ -1,9 +1,7 @@
 -- Between its calls a ring with one owner is sound.
 use Rattle.std.proofs.Common.{refl, arith, inl, inr}
 use Rattle.queue_steps.specs.Legal.{IsSoundOwned}
-use Rattle.own_cells.specs.OneRing.RingCells.{RingState}
-use Rattle.own_cells.specs.OneRing.RingOwned.{IsIdle, ring_owned}
-use Rattle.own_cells.specs.OneRing.Laws.RingParty.{length-items}
+use Rattle.own_cells.specs.OneRing.{RingCells.RingState, RingOwned.IsIdle, RingOwned.ring_owned, Laws.RingParty.length-items}
 
 pub ring_sound : {T : Type 0} (r : RingState T) → IsIdle r → IsSoundOwned (ring_owned r)
 ring_sound r idle =

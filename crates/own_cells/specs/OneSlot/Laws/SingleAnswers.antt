@@ -1,25 +1,9 @@
 -- Every call on one slot ends with its reply.
 use Rattle.std.specs.Prelude.{◌≡◌, ℕ, Bool, true, false, Option, Some, None, refl}
 use Rattle.std.proofs.Common.{inl, sym, subst}
-use Rattle.queue_steps.specs.declared.model.Call.{Call}
-use Rattle.queue_steps.specs.declared.model.Call.TheVariants as call
-use Rattle.queue_steps.specs.declared.model.Reply.{Reply}
-use Rattle.queue_steps.specs.declared.steps.types.Kind.TheVariants as kind
-use Rattle.queue_steps.specs.declared.steps.types.Kind.{Kind}
-use Rattle.queue_steps.specs.declared.steps.types.Local.{Local}
-use Rattle.queue_steps.specs.declared.steps.types.Local.TheVariants as local
-use Rattle.queue_steps.specs.declared.steps.types.Answer.{Answer}
-use Rattle.queue_steps.specs.declared.steps.types.Answer.TheVariants as answer
-use Rattle.queue_steps.specs.declared.steps.types.Op.{Op}
-use Rattle.queue_steps.specs.declared.steps.types.Touch.TheVariants as touch
-use Rattle.queue_steps.specs.Next.{CanNext, next_of, first_local}
-use Rattle.queue_steps.specs.Kinds.{call_kind, call_value, filled}
-use Rattle.queue_steps.specs.declared.sizes.TheConstants.{SOLO_STEPS}
-use Rattle.queue_steps.specs.Sequential.{Sequential}
-use Rattle.queue_steps.specs.SingleNext.{is_marked}
-use Rattle.own_cells.specs.declared.slot.single.Single.{Single}
+use Rattle.queue_steps.specs.{declared.model.Call.Call, declared.model.Call.Call as call, declared.model.Reply.Reply, declared.steps.types.Kind.Kind as kind, declared.steps.types.Kind.Kind, declared.steps.types.Local.Local, declared.steps.types.Local.Local as local, declared.steps.types.Answer.Answer, declared.steps.types.Answer.Answer as answer, declared.steps.types.Op.Op, declared.steps.types.Touch.Touch as touch, Next.CanNext, Next.next_of, Next.first_local, Kinds.call_kind, Kinds.call_value, Kinds.filled, declared.sizes.TheConstants.SOLO_STEPS, Sequential.Sequential, SingleNext.is_marked}
+use Rattle.own_cells.specs.{declared.slot.single.Single.Single, OneSlot.Laws.ComputedRuns.Outcome, OneSlot.Laws.ComputedRuns.run_from, OneSlot.Laws.ComputedRuns.EndsIn-run}
 use Rattle.call_driver.specs.EndsIn.{EndsRight, Released, Replied, Answered}
-use Rattle.own_cells.specs.OneSlot.Laws.ComputedRuns.{Outcome, run_from, EndsIn-run}
 use Rattle.own_cells.specs.OneSlot.SingleCells.{IsIdle, single_owned, single_touchable, single_operable, single_touched, single_performed, single_can_touch, single_can_perform, single_touches, single_performs, single_can_release, single_releases, word_for}
 
 -- the test of `CanNext` for one slot

@@ -1,8 +1,7 @@
 -- Between its calls a queue of one slot with one owner is sound.
 use Rattle.std.proofs.Common.{◌≤◌, length, Option, Some, None, refl, arith, inl}
 use Rattle.queue_steps.specs.Legal.{IsSoundOwned}
-use Rattle.own_cells.specs.OneSlot.SingleCells.{items_in, single_owned, IsIdle}
-use Rattle.own_cells.specs.declared.slot.single.Single.{Single}
+use Rattle.own_cells.specs.{OneSlot.SingleCells.items_in, OneSlot.SingleCells.single_owned, OneSlot.SingleCells.IsIdle, declared.slot.single.Single.Single}
 
 one_at_most : {T : Type 0} (item : Option T) → length (items_in item) ≤ 1
 one_at_most None = omega arith

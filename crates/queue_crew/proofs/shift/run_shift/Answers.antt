@@ -1,5 +1,4 @@
-use Rattle.queue_crew.proofs.Counts.{as_many, posts_counted, some_posts}
-use Rattle.queue_crew.proofs.Pieces.{has_worked}
+use Rattle.queue_crew.proofs.{Counts.as_many, Counts.posts_counted, Counts.some_posts, Pieces.has_worked}
 use Rattle.queue_crew.proofs.shift.run_shift.Goals as goal
 
 pub run-ran-requires-clause-fits : goal.run-ran-requires-clause-fits

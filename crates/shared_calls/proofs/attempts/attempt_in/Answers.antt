@@ -3,9 +3,7 @@ use Rattle.queue_laws.specs.Common.Vocabulary.{Call, Reply}
 use Rattle.queue_steps.specs.Kinds.{call_value}
 use Rattle.shared_chain.specs.Turning.{ChainEnded}
 use Rattle.shared_calls.specs.InWeb.{EndedAt}
-use Rattle.shared_calls.proofs.GivesUp.{matched, ToldIn, told_free}
-use Rattle.shared_calls.proofs.Wakes.{wakes_free, rests_ended}
-use Rattle.shared_calls.proofs.attempts.attempt_in.Goals.{in-Break, in-Continue}
+use Rattle.shared_calls.proofs.{GivesUp.matched, GivesUp.ToldIn, GivesUp.told_free, Wakes.wakes_free, Wakes.rests_ended, attempts.attempt_in.Goals.in-Break, attempts.attempt_in.Goals.in-Continue}
 use Rattle.shared_calls.proofs.attempts.attempt_in.Goals as goal
 
 pub run-begun-requires : goal.run-begun-requires

@@ -1,7 +1,6 @@
 use Rattle.std.proofs.Common.{sym, subst, ◌∙◌}
 use Rattle.shared_chain.specs.Turning.{ChainEnded}
-use Rattle.shared_calls.proofs.Wakes.{wakes_free, rests_ended}
-use Rattle.shared_calls.proofs.chain.answer.Goals.{in-Break, in-Continue}
+use Rattle.shared_calls.proofs.{Wakes.wakes_free, Wakes.rests_ended, chain.answer.Goals.in-Break, chain.answer.Goals.in-Continue}
 use Rattle.shared_calls.proofs.chain.answer.Goals as goal
 
 pub run-begun-requires : goal.run-begun-requires

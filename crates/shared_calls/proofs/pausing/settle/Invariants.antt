@@ -1,8 +1,6 @@
 use Rattle.std.proofs.Common.{◌-◌, ◌<◌, ◌≤◌}
 use Rattle.queue_laws.specs.Common.Vocabulary.{Call}
-use Rattle.shared_calls.specs.Pausing.{IsStood}
-use Rattle.shared_calls.specs.Settling.{left_at, MayWait}
-use Rattle.shared_calls.specs.Halts.{next_at}
+use Rattle.shared_calls.specs.{Pausing.IsStood, Settling.left_at, Settling.MayWait, Halts.next_at}
 use Rattle.shared_calls.proofs.pausing.settle.Given as goal
 
 -- some call stands there, whichever stood at first; and after each turn it is a step nearer to where it has had no effect

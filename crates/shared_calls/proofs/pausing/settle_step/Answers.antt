@@ -1,11 +1,8 @@
 use Rattle.std.proofs.Common.{◌≡◌, ◌-◌, ◌∙◌, false, sym, ap, subst, arith}
 use Rattle.queue_laws.specs.Common.Vocabulary.{Next, SOLO_STEPS}
 use Rattle.call_driver.proofs.Going.{replies, again, step}
-use Rattle.shared_calls.specs.Early.{is_early}
-use Rattle.shared_calls.specs.Settling.{left_at, MayWait}
-use Rattle.shared_calls.specs.Halts.{next_at}
-use Rattle.shared_calls.proofs.Filling.{is_filled, filled_as}
-use Rattle.shared_calls.proofs.Settling.{nearer, left_late, left_early}
+use Rattle.shared_calls.specs.{Early.is_early, Settling.left_at, Settling.MayWait, Halts.next_at}
+use Rattle.shared_calls.proofs.{Filling.is_filled, Filling.filled_as, Settling.nearer, Settling.left_late, Settling.left_early}
 use Rattle.shared_calls.proofs.pausing.settle_step.Goals as goal
 
 pub next-todo-requires-clause-of : goal.next-todo-requires-clause-of

@@ -1,8 +1,7 @@
 use Rattle.std.proofs.Common.{◌+◌, ◌&&◌, ◌∙◌, ap, sym, rules, arith}
 use Rattle.mem_blocks.specs.Web.{block}
-use Rattle.shared_chain.proofs.Finishing.Leftovers.{slot_stays, none_held, told_on}
+use Rattle.shared_chain.proofs.{Finishing.Leftovers.slot_stays, Finishing.Leftovers.none_held, Finishing.Leftovers.told_on, ending.empty_block.Goals.then-empty, ending.empty_block.Goals.else-empty}
 use Rattle.shared_chain.proofs.ending.empty_block.Goals as goal
-use Rattle.shared_chain.proofs.ending.empty_block.Goals.{then-empty, else-empty}
 
 pub empty_slot-vacated-requires-clause-left : goal.empty_slot-vacated-requires-clause-left
 empty_slot-vacated-requires-clause-left g c =

@@ -1,10 +1,8 @@
 use Rattle.std.proofs.Common.{◌∙◌, ℕ, None, List, [], drop, sym, ap, subst}
 use contract.BorrowLft.{⊑_meet, ⊑_static}
 use Rattle.mem_blocks.specs.Web.{Block}
-use Rattle.queue_steps.specs.Effect.{after}
-use Rattle.queue_steps.specs.Legal.{IsShown}
-use Rattle.own_cells.specs.OneChain.ChainMemory.{own_chain_in, AreHeld}
-use Rattle.own_cells.specs.OneChain.OwnChainOwned.{own_chain_owned, IsIdle}
+use Rattle.queue_steps.specs.{Effect.after, Legal.IsShown}
+use Rattle.own_cells.specs.OneChain.{ChainMemory.own_chain_in, ChainMemory.AreHeld, OwnChainOwned.own_chain_owned, OwnChainOwned.IsIdle}
 use Rattle.shared_chain.specs.Ending.{gone_first}
 use Rattle.shared_chain.proofs.Finishing.Finished.{gone_take, keeps_held, keeps_idle, keeps_shown, all_whole}
 use Rattle.shared_chain.proofs.ending.end.Goals as goal

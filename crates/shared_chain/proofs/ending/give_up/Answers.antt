@@ -1,10 +1,8 @@
 use Rattle.std.proofs.Common.{◌≡◌, ◌∙◌, ℕ, ◌+◌, List, sym, ap, subst}
 use Rattle.mem_blocks.specs.Web.{Block, block, Lives}
-use Rattle.queue_steps.specs.Words.{position_of}
-use Rattle.queue_steps.specs.ChainWords.{offset_of, items_before}
+use Rattle.queue_steps.specs.{Words.position_of, ChainWords.offset_of, ChainWords.items_before}
 use Rattle.own_cells.specs.OneChain.ChainMemory.{block_of}
-use Rattle.shared_chain.specs.Ending.{LeadsTo, IntoBlock}
-use Rattle.shared_chain.specs.Leftover.{BlocksLeft}
+use Rattle.shared_chain.specs.{Ending.LeadsTo, Ending.IntoBlock, Leftover.BlocksLeft}
 use Rattle.shared_chain.proofs.Finishing.Abandoned.{blocks_left, front_left}
 use Rattle.shared_chain.proofs.ending.give_up.Goals as goal
 

@@ -1,8 +1,6 @@
 use Rattle.std.proofs.Common.{◌≡◌, ℕ, ◌-◌, Some, ◌⊎◌, inl, inr, List, ◌+◌, ap, subst, ◌∙◌, ◌<◌, length, sym, le_refl}
-use Rattle.mem_blocks.specs.Web.{Block, block, without}
-use Rattle.mem_blocks.specs.declared.sizes.TheConstants.{SLOTS}
-use Rattle.queue_steps.specs.Words.{position_of}
-use Rattle.queue_steps.specs.ChainWords.{items_before}
+use Rattle.mem_blocks.specs.{Web.Block, Web.block, Web.without, declared.sizes.TheConstants.SLOTS}
+use Rattle.queue_steps.specs.{Words.position_of, ChainWords.items_before}
 use Rattle.own_cells.specs.OneChain.ChainMemory.{block_of}
 use Rattle.shared_chain.specs.Leftover.{Emptied, BlocksLeft, IsHere}
 use Rattle.shared_chain.proofs.Finishing.Leftovers.{number_fits, next_fits, items_fit, items_small, here_within, emptied_next, emptied_lives, emptied_vacant, same_behind, fewer_behind, left_behind, here_behind}

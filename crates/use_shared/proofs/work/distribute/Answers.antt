@@ -1,6 +1,5 @@
 use Rattle.std.proofs.Common.{ℕ, List, ap, sym, subst, refl, ◌∙◌}
-use Rattle.queue_steps.specs.Shares.{Share, IsEntire}
-use Rattle.queue_steps.specs.Parties.{View}
+use Rattle.queue_steps.specs.{Shares.Share, Shares.IsEntire, Parties.View}
 use Rattle.use_shared.specs.Work.{Took}
 use Rattle.use_shared.proofs.WorkShifts.{close_takes_none, each_once, none_left, all_took, all_drained}
 use Rattle.use_shared.proofs.work.distribute.Goals as goal

@@ -1,5 +1,5 @@
 use Rattle.std.proofs.Common.{◌∙◌}
-use Rattle.queue_steps.specs.declared.errors.PopError.TheVariants as pop
+use Rattle.queue_steps.specs.declared.errors.PopError.{PopError as pop}
 use Rattle.law_parties.proofs.Drained.{saw_drained}
 use Rattle.use_shared.proofs.WorkShifts.{took_one, took_no_more, has_taken}
 use Rattle.use_shared.proofs.work.take_all.Goals as goal

@@ -1,6 +1,5 @@
 use Rattle.std.proofs.Common.{◌+◌, ◌*◌, ◌∙◌, arith}
-use Rattle.app_threads.proofs.Works.{one_more, sums_fit}
-use Rattle.app_threads.proofs.EndWorks.{parted_work}
+use Rattle.app_threads.proofs.{Works.one_more, Works.sums_fit, EndWorks.parted_work}
 use Rattle.app_threads.proofs.ends.PassingCrew.join.Goals as goal
 
 pub both-requires-clause-fits : goal.both-requires-clause-fits

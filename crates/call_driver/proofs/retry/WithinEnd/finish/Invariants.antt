@@ -1,6 +1,5 @@
 use Rattle.std.proofs.Common.{◌-◌}
-use Rattle.queue_steps.specs.declared.sizes.TheConstants.{SOLO_STEPS}
-use Rattle.queue_steps.specs.declared.model.Call.{Call}
+use Rattle.queue_steps.specs.declared.{sizes.TheConstants.SOLO_STEPS, model.Call.Call}
 use Rattle.call_driver.specs.OnWay.{Before}
 use Rattle.call_driver.proofs.retry.WithinEnd.finish.Given as goal
 

@@ -1,10 +1,6 @@
 use Rattle.std.proofs.Common.{◌∙◌, sym, ap, subst}
-use Rattle.shared_tables.specs.SlotTable.{slot_table}
-use Rattle.shared_tables.specs.RingTable.{ring_table}
-use Rattle.concurrent_queue.specs.declared.party.SeatPlace.{SeatPlace}
-use Rattle.concurrent_queue.specs.Comes.{Comes}
-use Rattle.concurrent_queue.specs.Shared.{QueueId, PartyView, IsHeld, form_id, party_view_of}
-use Rattle.concurrent_queue.specs.Standing.{IsSeatOf}
+use Rattle.shared_tables.specs.{SlotTable.slot_table, RingTable.ring_table}
+use Rattle.concurrent_queue.specs.{declared.party.SeatPlace.SeatPlace, Comes.Comes, Shared.QueueId, Shared.PartyView, Shared.IsHeld, Shared.form_id, Shared.party_view_of, Standing.IsSeatOf}
 use Rattle.concurrent_queue.proofs.TableCalls.{held_here}
 use Rattle.concurrent_queue.proofs.shared.ConcurrentQueue.begin_as.Goals as goal
 

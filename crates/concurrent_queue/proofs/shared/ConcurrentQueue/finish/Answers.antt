@@ -1,11 +1,8 @@
 use Rattle.std.proofs.Common.{rules, Some, None, ◌≡◌, ◌∙◌, refl, ap, sym, subst}
 use Rattle.atomic_table.specs.Seated.{TableId}
 use Rattle.mem_blocks.specs.Laid.{WebId}
-use Rattle.queue_steps.specs.Legal.{IsShown}
-use Rattle.queue_steps.specs.Shares.{IsEntire}
-use Rattle.shared_parties.specs.declared.known.CallState.{CallState}
-use Rattle.shared_parties.specs.CallStates.{IsResting, IsLoneSeat}
-use Rattle.queue_steps.specs.Effect.{after}
+use Rattle.queue_steps.specs.{Legal.IsShown, Shares.IsEntire, Effect.after}
+use Rattle.shared_parties.specs.{declared.known.CallState.CallState, CallStates.IsResting, CallStates.IsLoneSeat}
 use Rattle.concurrent_queue.specs.Shared.{at_table, in_web, name_at, known_at, form_id, IsFreeAt}
 use Rattle.concurrent_queue.proofs.PartyViews.{finishes}
 use Rattle.concurrent_queue.proofs.shared.ConcurrentQueue.finish.Goals as goal

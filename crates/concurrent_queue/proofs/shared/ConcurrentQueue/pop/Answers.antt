@@ -1,11 +1,7 @@
 use Rattle.std.proofs.Common.{rules, ap, subst, ◌∙◌, sym}
-use Rattle.queue_steps.specs.declared.model.Call.TheVariants as call
+use Rattle.queue_steps.specs.declared.model.Call.{Call as call}
 use Rattle.concurrent_queue.specs.Shared.{QueueId, form_id, IsHeld, Calls, party_view_of}
-use Rattle.concurrent_queue.proofs.PartyViews.{pop_reply}
-use Rattle.concurrent_queue.proofs.TableCalls.{begins_here, ends_here}
-use Rattle.concurrent_queue.proofs.WebParties.{web_ends}
-use Rattle.concurrent_queue.proofs.shared.ConcurrentQueue.pop.Given.{Over}
-use Rattle.concurrent_queue.proofs.shared.ConcurrentQueue.pop.Goals.{In-Pop, in-Single-Table+in-Break, in-Single-Table+in-Continue, in-Ring-Table+in-Break-begun, in-Ring-Table+in-Continue-begun, in-Chain-Web}
+use Rattle.concurrent_queue.proofs.{PartyViews.pop_reply, TableCalls.begins_here, TableCalls.ends_here, WebParties.web_ends, shared.ConcurrentQueue.pop.Given.Over, shared.ConcurrentQueue.pop.Goals.In-Pop, shared.ConcurrentQueue.pop.Goals.in-Single-Table+in-Break, shared.ConcurrentQueue.pop.Goals.in-Single-Table+in-Continue, shared.ConcurrentQueue.pop.Goals.in-Ring-Table+in-Break-begun, shared.ConcurrentQueue.pop.Goals.in-Ring-Table+in-Continue-begun, shared.ConcurrentQueue.pop.Goals.in-Chain-Web}
 use Rattle.concurrent_queue.proofs.shared.ConcurrentQueue.pop.Goals as goal
 
 pub run-begun-requires : goal.run-begun-requires

@@ -1,8 +1,6 @@
 use Rattle.std.proofs.Common.{refl, ap, ◌∙◌}
 use Rattle.concurrent_queue.specs.Shared.{QueueId, form_id}
-use Rattle.concurrent_queue.proofs.TableCalls.{begins_here, ends_here}
-use Rattle.concurrent_queue.proofs.WebParties.{web_ends}
-use Rattle.concurrent_queue.proofs.shared.Form.run.Goals.{in-Single-Table, in-Ring-Table, in-Chain-Web}
+use Rattle.concurrent_queue.proofs.{TableCalls.begins_here, TableCalls.ends_here, WebParties.web_ends, shared.Form.run.Goals.in-Single-Table, shared.Form.run.Goals.in-Ring-Table, shared.Form.run.Goals.in-Chain-Web}
 use Rattle.concurrent_queue.proofs.shared.Form.run.Goals as goal
 
 pub run-requires-clause-rests : goal.run-requires-clause-rests

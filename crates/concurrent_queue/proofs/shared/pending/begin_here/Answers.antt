@@ -1,10 +1,8 @@
 use Rattle.std.proofs.Common.{◌-◌, refl, sym, subst}
 use Rattle.queue_steps.specs.declared.sizes.TheConstants.{SOLO_STEPS}
 use Rattle.shared_parties.specs.Calling.{cap_of}
-use Rattle.concurrent_queue.specs.declared.party.SeatPlace.TheVariants as place
-use Rattle.concurrent_queue.specs.Shared.{Calls, party_view_of}
-use Rattle.concurrent_queue.proofs.TableCalls.{begins_here, ends_here}
-use Rattle.concurrent_queue.proofs.Stops.{started}
+use Rattle.concurrent_queue.specs.{declared.party.SeatPlace.SeatPlace as place, Shared.Calls, Shared.party_view_of}
+use Rattle.concurrent_queue.proofs.{TableCalls.begins_here, TableCalls.ends_here, Stops.started}
 use Rattle.concurrent_queue.proofs.shared.pending.begin_here.Goals as goal
 
 pub set_out-requires : goal.set_out-requires

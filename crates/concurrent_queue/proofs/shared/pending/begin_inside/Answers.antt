@@ -2,10 +2,8 @@ use Rattle.std.proofs.Common.{rules, ◌∙◌, refl, sym, ap, subst}
 use Rattle.shared_chain.specs.Turning.{web_of}
 use Rattle.shared_calls.specs.InWeb.{RestsAt, EndedAt}
 use Rattle.shared_calls.proofs.Wakes.{wakes_free, rests_ended}
-use Rattle.concurrent_queue.specs.declared.party.SeatPlace.TheVariants as place
-use Rattle.concurrent_queue.specs.Shared.{QueueId, Calls, party_view_of}
-use Rattle.concurrent_queue.proofs.StopsIn.{started_in}
-use Rattle.concurrent_queue.proofs.WebParties.{web_ends}
+use Rattle.concurrent_queue.specs.{declared.party.SeatPlace.SeatPlace as place, Shared.QueueId, Shared.Calls, Shared.party_view_of}
+use Rattle.concurrent_queue.proofs.{StopsIn.started_in, WebParties.web_ends}
 use Rattle.concurrent_queue.proofs.shared.pending.begin_inside.Goals as goal
 
 pub set_out-begun-requires : goal.set_out-begun-requires

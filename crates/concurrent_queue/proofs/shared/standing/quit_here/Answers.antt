@@ -1,12 +1,9 @@
 use Rattle.std.proofs.Common.{◌≡◌, ◌∙◌, ℕ, Option, sym, ap, subst}
 use Rattle.atomic_table.specs.declared.shared.Seat.{Seat}
-use Rattle.shared_parties.specs.declared.known.CallState.{CallState}
+use Rattle.shared_parties.specs.{declared.known.CallState.CallState, Quitting.its_call}
 use Rattle.shared_calls.specs.declared.left.Left.{Left}
 use Rattle.queue_steps.specs.Kinds.{call_value}
-use Rattle.shared_parties.specs.Quitting.{its_call}
-use Rattle.concurrent_queue.specs.Begun.{Begun}
-use Rattle.concurrent_queue.specs.Pending.{StopsHere}
-use Rattle.concurrent_queue.specs.SawMore.{SawMore}
+use Rattle.concurrent_queue.specs.{Begun.Begun, Pending.StopsHere, SawMore.SawMore}
 use Rattle.concurrent_queue.proofs.Quits.{given_back}
 use Rattle.concurrent_queue.proofs.shared.standing.quit_here.Goals as goal
 

@@ -1,13 +1,10 @@
 use Rattle.std.proofs.Common.{◌≡◌, ◌∙◌, sym, ap, subst}
 use Rattle.mem_blocks.specs.declared.block.BlockPtr.{BlockPtr as Link}
 use Rattle.shared_chain.specs.declared.web.ChainWeb.{ChainWeb}
-use Rattle.shared_calls.specs.declared.chain.Asking.{Asking}
-use Rattle.shared_calls.specs.declared.left.Left.{Left}
+use Rattle.shared_calls.specs.declared.{chain.Asking.Asking, left.Left.Left}
 use Rattle.queue_steps.specs.Kinds.{call_value}
 use Rattle.shared_parties.specs.Quitting.{its_call}
-use Rattle.concurrent_queue.specs.Begun.{Begun}
-use Rattle.concurrent_queue.specs.Pending.{StopsInside}
-use Rattle.concurrent_queue.specs.SawMore.{SawMore}
+use Rattle.concurrent_queue.specs.{Begun.Begun, Pending.StopsInside, SawMore.SawMore}
 use Rattle.concurrent_queue.proofs.Quits.{given_back_in}
 use Rattle.concurrent_queue.proofs.shared.standing.quit_inside.Goals as goal
 

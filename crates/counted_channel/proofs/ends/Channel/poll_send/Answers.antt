@@ -1,6 +1,5 @@
-use Rattle.counted_channel.proofs.Polls.{end_calls, end_waits, saw_full, full_back}
+use Rattle.counted_channel.proofs.{Polls.end_calls, Polls.end_waits, Polls.saw_full, Polls.full_back, ends.Channel.poll_send.Goals.in-Done, ends.Channel.poll_send.Goals.in-Closed, ends.Channel.poll_send.Goals.in-NoMemory, ends.Channel.poll_send.Goals.in-Full, ends.Channel.poll_send.Goals.in-Busy}
 use Rattle.counted_channel.proofs.ends.Channel.poll_send.Goals as goal
-use Rattle.counted_channel.proofs.ends.Channel.poll_send.Goals.{in-Done, in-Closed, in-NoMemory, in-Full, in-Busy}
 
 pub returns-clause-polls : goal.returns-clause-polls
 returns-clause-polls g c =

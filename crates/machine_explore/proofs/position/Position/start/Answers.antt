@@ -1,8 +1,6 @@
 use Rattle.std.proofs.Common.{◌≡◌, ◌∙◌, [], ap, length, subst, sym}
-use Rattle.machine_steps.specs.Left.{opening_world}
-use Rattle.machine_steps.specs.Machine.{world_of}
-use Rattle.machine_explore.specs.Positions.{no_progress}
-use Rattle.machine_explore.specs.Starts.{IsPrepared}
+use Rattle.machine_steps.specs.{Left.opening_world, Machine.world_of}
+use Rattle.machine_explore.specs.{Positions.no_progress, Starts.IsPrepared}
 use Rattle.std.specs.Prelude.{replicate}
 use Rattle.machine_explore.proofs.Starting.{prepared-first}
 use Rattle.machine_explore.proofs.position.Position.start.Goals as goal

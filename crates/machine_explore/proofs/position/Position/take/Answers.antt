@@ -2,8 +2,7 @@ use Rattle.std.proofs.Common.{◌≡◌, ◌≤◌, ◌∙◌, true, ap, arith, 
 use Rattle.std.proofs.lemmas.List.{set_past}
 use Rattle.machine_replay.specs.Conforms.{party_of}
 use Rattle.machine_steps.specs.Machine.{event_of, world_of}
-use Rattle.machine_explore.specs.Moves.{advanced, led}
-use Rattle.machine_explore.specs.Positions.{Standing, progress_of}
+use Rattle.machine_explore.specs.{Moves.advanced, Moves.led, Positions.Standing, Positions.progress_of}
 use Rattle.machine_explore.proofs.Runs.{standing_is}
 use Rattle.machine_explore.proofs.position.Position.take.Goals as goal
 

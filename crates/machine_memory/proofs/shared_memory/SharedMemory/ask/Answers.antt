@@ -1,5 +1,4 @@
-use Rattle.std.proofs.Common.{rules, arith}
-use Rattle.std.proofs.lemmas.Grind.{common_steps}
+use Rattle.std.proofs.{Common.rules, Common.arith, lemmas.Grind.common_steps}
 use Rattle.machine_memory.proofs.Presence.{granted-present, present-few}
 use Rattle.machine_memory.proofs.shared_memory.SharedMemory.ask.Goals as goal
 

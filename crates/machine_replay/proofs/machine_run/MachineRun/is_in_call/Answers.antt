@@ -1,6 +1,5 @@
 use Rattle.std.proofs.Common.{sym, ◌∙◌}
-use Rattle.machine_replay.proofs.Replays.CallsTold.{machine_run-call}
-use Rattle.machine_replay.proofs.Engine.MachineRuns.{machine_run-skip, none-there}
+use Rattle.machine_replay.proofs.{Replays.CallsTold.machine_run-call, Engine.MachineRuns.machine_run-skip, Engine.MachineRuns.none-there}
 use Rattle.machine_replay.proofs.machine_run.MachineRun.is_in_call.Goals as goal
 
 pub returns-clause-exact : goal.returns-clause-exact

@@ -1,8 +1,7 @@
 use Rattle.std.proofs.Common.{◌≡◌, Some, arith, slice_set}
 use Rattle.std.proofs.lemmas.Grind.{common_steps}
 use Rattle.machine_memory.specs.declared.types.Event.TheVariants.{Step}
-use Rattle.machine_steps.specs.World.{call_at}
-use Rattle.machine_steps.specs.Machine.{CanHandle, world_of}
+use Rattle.machine_steps.specs.{World.call_at, Machine.CanHandle, Machine.world_of}
 use Rattle.machine_steps.proofs.Handling.{handles-met, handles-step, met_if}
 use Rattle.machine_steps.proofs.machine.Machine.handle_met.Goals as goal
 

@@ -1,5 +1,4 @@
-use Rattle.std.proofs.Common.{true, arith, rules}
-use Rattle.std.proofs.lemmas.Grind.{common_steps}
+use Rattle.std.proofs.{Common.true, Common.arith, Common.rules, lemmas.Grind.common_steps}
 use Rattle.machine_steps.proofs.machine.Machine.step.Goals as goal
 
 pub touch-carried-requires-clause-can : goal.touch-carried-requires-clause-can

@@ -1,8 +1,7 @@
 use denote.RattleType.{RattleType}
 use denote.Param.Send.{IsSend, Frees}
 use Rattle.std.specs.declared.alloc.Allocator as Allocator
-use Rattle.mem_blocks.specs.Web.{alive_at}
-use Rattle.mem_blocks.specs.contracts.block.Loose.{the_row}
+use Rattle.mem_blocks.specs.{Web.alive_at, contracts.block.Loose.the_row}
 use Rattle.mem_blocks.proofs.Sent.{lying_sent}
 
 pub send : (S A : RattleType) (g : Allocator.Ghosts A.Denot) → IsSend S → IsSend A → Frees g g.dealloc_token → IsSend (the_row S A g)

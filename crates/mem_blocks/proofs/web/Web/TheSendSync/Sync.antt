@@ -3,8 +3,7 @@ use denote.Param.Send.{IsSend, IsSync, Frees, sendable}
 use denote.Struct.Struct.{Struct}
 use denote.Struct.Owning.{shape}
 use Rattle.std.specs.declared.alloc.Allocator as Allocator
-use Rattle.mem_blocks.specs.declared.web.WebRule.{Ghosts}
-use Rattle.mem_blocks.specs.contracts.web.Web.{the_row, the_type}
+use Rattle.mem_blocks.specs.{declared.web.WebRule.Ghosts, contracts.web.Web.the_row, contracts.web.Web.the_type}
 use Rattle.mem_blocks.proofs.Sent.{shares_sent}
 
 pub sync : (S V K P A : RattleType) (g : Ghosts P.Denot S.Denot V.Denot K.Denot) (ga : Allocator.Ghosts A.Denot) → IsSend S → IsSend A → Frees ga ga.dealloc_token → IsSync (the_row S V K P A g ga)

@@ -1,10 +1,8 @@
 use Rattle.std.proofs.Common.{ℕ, ◌++◌, ◌∷◌, [], ap, ◌∙◌, arith, rules, subst}
 use Rattle.std.proofs.lemmas.Result.{IfOk-from_err}
-use Rattle.own_cells.specs.OneRing.RingOpening.{Opened}
-use Rattle.own_cells.specs.declared.ring.ring_words.TheConstants.{STAMPS}
+use Rattle.own_cells.specs.{OneRing.RingOpening.Opened, declared.ring.ring_words.TheConstants.STAMPS}
 use Rattle.queue_laws.proofs.Common.Filling.{at_end}
-use Rattle.own_cells.proofs.OneRing.Filling.{room_before}
-use Rattle.own_cells.proofs.OneRing.Openings.{Opened-more}
+use Rattle.own_cells.proofs.OneRing.{Filling.room_before, Openings.Opened-more}
 use Rattle.own_cells.proofs.ring.bounded.first_words.Goals as goal
 
 pub loop-slot-preserved : goal.loop-slot-preserved

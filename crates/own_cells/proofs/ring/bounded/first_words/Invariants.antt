@@ -1,7 +1,5 @@
 use Rattle.std.proofs.Common.{◌≡◌, ◌+◌, ◌*◌, List, ℕ, ◌∷◌, vec_len, vec_capacity}
-use Rattle.own_cells.specs.OneRing.RingOpening.{Opened}
-use Rattle.own_cells.specs.OneRing.RingWords.{words_behind}
-use Rattle.own_cells.specs.declared.ring.ring_words.TheConstants.{STAMPS}
+use Rattle.own_cells.specs.{OneRing.RingOpening.Opened, OneRing.RingWords.words_behind, declared.ring.ring_words.TheConstants.STAMPS}
 use Rattle.own_cells.proofs.ring.bounded.first_words.Given as goal
 
 -- the stamps so far, behind the other words, and there is room for the others

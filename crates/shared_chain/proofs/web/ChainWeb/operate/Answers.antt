@@ -1,8 +1,7 @@
 use Rattle.std.proofs.Common.{ap, sym, subst, rules}
 use Rattle.queue_laws.specs.Common.Vocabulary.{Op}
 use Rattle.mem_blocks.specs.Web.{AllowsLink, if_unset}
-use Rattle.shared_chain.specs.Rule.{Rule}
-use Rattle.shared_chain.specs.Steps.{FollowsLink}
+use Rattle.shared_chain.specs.{Rule.Rule, Steps.FollowsLink}
 use Rattle.shared_chain.proofs.Steps.Operating.{named, may_do, may_store, may_read, may_lead}
 use Rattle.shared_chain.proofs.web.ChainWeb.operate.Goals as goal
 

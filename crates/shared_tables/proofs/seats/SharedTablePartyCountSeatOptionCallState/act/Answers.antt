@@ -1,6 +1,5 @@
 use Rattle.std.proofs.Common.{rules, ◌∙◌, sym, subst}
-use Rattle.shared_parties.specs.declared.count.Change.TheVariants as change
-use Rattle.shared_parties.specs.PartyCount.{MayAct}
+use Rattle.shared_parties.specs.{declared.count.Change.Change as change, PartyCount.MayAct}
 use Rattle.shared_tables.proofs.Crowds.{recounts}
 use Rattle.shared_tables.proofs.seats.SharedTablePartyCountSeatOptionCallState.act.Goals as goal
 

@@ -1,9 +1,7 @@
 use Rattle.std.proofs.Common.{sym, subst, ◌∙◌}
-use Rattle.use_owner.specs.Pool.{Places, IsOut}
-use Rattle.use_owner.specs.PoolRings.{places_of}
-use Rattle.use_owner.proofs.PoolRings.{gives_back, spent_pool}
+use Rattle.use_owner.specs.{Pool.Places, Pool.IsOut, PoolRings.places_of}
+use Rattle.use_owner.proofs.{PoolRings.gives_back, PoolRings.spent_pool, pool.Pool.give_back.Goals.in-Ok, pool.Pool.give_back.Goals.in-Err}
 use Rattle.use_owner.proofs.pool.Pool.give_back.Goals as goal
-use Rattle.use_owner.proofs.pool.Pool.give_back.Goals.{in-Ok, in-Err}
 
 pub invariant_of-self : goal.invariant_of-self
 invariant_of-self g c =

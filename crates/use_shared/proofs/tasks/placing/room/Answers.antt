@@ -1,6 +1,5 @@
 use Rattle.std.proofs.Common.{◌≡◌, ◌∷◌, [], ◌++◌, length, replicate, None, ap, ◌∙◌, arith}
-use Rattle.std.proofs.lemmas.List.{length-replicate, replicate_more}
-use Rattle.std.proofs.lemmas.Result.{IfOk-from_err}
+use Rattle.std.proofs.lemmas.{List.length-replicate, List.replicate_more, Result.IfOk-from_err}
 use Rattle.use_shared.proofs.tasks.placing.room.Goals as goal
 
 pub returns-in_err-clone : goal.returns-in_err-clone

@@ -1,7 +1,6 @@
 use Rattle.std.proofs.Common.{arith, ap}
 use Rattle.own_cells.specs.OneChain.LinkedBlocks.{own_chain_view}
-use Rattle.own_cells.proofs.OneChain.Pieces.{length-pieces_of}
-use Rattle.own_cells.proofs.OneChain.Linked.{oldest, blocks_in}
+use Rattle.own_cells.proofs.OneChain.{Pieces.length-pieces_of, Linked.oldest, Linked.blocks_in}
 use Rattle.own_cells.proofs.chain.unbounded.LinkedBlocks.ask.Goals as goal
 
 pub returns-in-None : goal.returns-in-None

@@ -1,8 +1,6 @@
 use Rattle.std.proofs.Common.{◌∙◌}
 use Rattle.own_cells.specs.OneChain.LinkedBlocks.{own_chain_view}
-use Rattle.own_cells.proofs.OneChain.Linked.{Knows-named, lives}
-use Rattle.own_cells.proofs.OneChain.Layings.{emptied-vacant}
-use Rattle.own_cells.proofs.OneChain.OwnChainBegins.{idle-used_up, used_up-last}
+use Rattle.own_cells.proofs.OneChain.{Linked.Knows-named, Linked.lives, Layings.emptied-vacant, OwnChainBegins.idle-used_up, OwnChainBegins.used_up-last}
 use Rattle.own_cells.proofs.chain.unbounded.LinkedBlocks.end.Goals as goal
 
 pub lift-requires : goal.lift-requires

@@ -1,7 +1,5 @@
 use Rattle.std.proofs.Common.{◌^◌, ◌<◌, arith, ap, ◌∙◌, [], ◌∷◌, ◌++◌}
-use Rattle.own_cells.proofs.OneChain.Pieces.{length-pieces_of}
-use Rattle.own_cells.proofs.OneChain.Linked.{oldest, blocks_in}
-use Rattle.own_cells.proofs.OneChain.Layings.{spare-made, laid-linked, laid-view}
+use Rattle.own_cells.proofs.OneChain.{Pieces.length-pieces_of, Linked.oldest, Linked.blocks_in, Layings.spare-made, Layings.laid-linked, Layings.laid-view}
 use Rattle.own_cells.proofs.chain.unbounded.LinkedBlocks.lay.Goals as goal
 
 pub overflow_add-self : goal.overflow_add-self

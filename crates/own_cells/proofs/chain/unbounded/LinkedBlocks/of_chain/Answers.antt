@@ -1,6 +1,5 @@
 use Rattle.std.proofs.Common.{◌≡◌, ◌+◌, ◌-◌, ◌∙◌, ◌^◌, ◌≤◌, length, sym, subst, arith, rules}
-use Rattle.own_cells.proofs.OneChain.ChainBegins.{count_none, count_some, count_short}
-use Rattle.own_cells.proofs.chain.unbounded.LinkedBlocks.of_chain.Goals.{in-None, in-Some}
+use Rattle.own_cells.proofs.{OneChain.ChainBegins.count_none, OneChain.ChainBegins.count_some, OneChain.ChainBegins.count_short, chain.unbounded.LinkedBlocks.of_chain.Goals.in-None, chain.unbounded.LinkedBlocks.of_chain.Goals.in-Some}
 use Rattle.own_cells.proofs.chain.unbounded.LinkedBlocks.of_chain.Goals as goal
 
 pub invariant_of-result : goal.invariant_of-result

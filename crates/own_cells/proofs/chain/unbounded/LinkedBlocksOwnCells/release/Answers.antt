@@ -1,6 +1,5 @@
 use Rattle.std.proofs.Common.{◌∙◌}
-use Rattle.own_cells.proofs.OneChain.Linked.{Knows-named, lives}
-use Rattle.own_cells.proofs.OneChain.Layings.{lifted-linked, lifted-view, emptied-vacant}
+use Rattle.own_cells.proofs.OneChain.{Linked.Knows-named, Linked.lives, Layings.lifted-linked, Layings.lifted-view, Layings.emptied-vacant}
 use Rattle.own_cells.proofs.chain.unbounded.LinkedBlocksOwnCells.release.Goals as goal
 
 pub lift-loose-requires : goal.lift-loose-requires

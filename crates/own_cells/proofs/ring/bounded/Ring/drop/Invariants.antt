@@ -1,6 +1,5 @@
-use Rattle.std.specs.Prelude.{slice_index_or}
+use Rattle.std.specs.{Prelude.slice_index_or, Mem.Slots.slots_len, Mem.Slots.slots_filled}
 use Rattle.std.proofs.Common.{◌≡◌, ℕ, ◌<◌, ◌≤◌, true, false}
-use Rattle.std.specs.Mem.Slots.{slots_len, slots_filled}
 use Rattle.own_cells.proofs.ring.bounded.Ring.drop.Given as goal
 
 -- the slots before this one are empty, and the others are not

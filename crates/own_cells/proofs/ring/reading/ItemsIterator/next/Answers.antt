@@ -1,8 +1,7 @@
 use Rattle.std.proofs.Common.{◌≡◌, ◌<◌, ap, sym, ◌∙◌, arith}
 use Rattle.own_cells.specs.OneRing.RingCells.{RingState}
-use Rattle.own_cells.proofs.OneRing.ItemsLeft.{full, reads, reads-on, reads-round, one_fewer}
+use Rattle.own_cells.proofs.{OneRing.ItemsLeft.full, OneRing.ItemsLeft.reads, OneRing.ItemsLeft.reads-on, OneRing.ItemsLeft.reads-round, OneRing.ItemsLeft.one_fewer, ring.reading.ItemsIterator.next.Goals.then-self-ring, ring.reading.ItemsIterator.next.Goals.else-self-ring}
 use Rattle.own_cells.proofs.ring.reading.ItemsIterator.next.Goals as goal
-use Rattle.own_cells.proofs.ring.reading.ItemsIterator.next.Goals.{then-self-ring, else-self-ring}
 
 pub unreachable-requires : goal.unreachable-requires
 unreachable-requires g c =

@@ -1,8 +1,7 @@
 use Rattle.std.proofs.Common.{ℕ, [], ◌∷◌, ◌++◌, ap, sym, subst, ◌∙◌, append_assoc, length-append, arith}
 use Rattle.std.specs.Vec.Iter.{into_iter_items}
 use Rattle.use_shared.specs.Sharing.{Moves, none, below}
-use Rattle.use_shared.proofs.Moving.{one_more}
-use Rattle.use_shared.proofs.Places.{outcome_at, number_below, number_after}
+use Rattle.use_shared.proofs.{Moving.one_more, Places.outcome_at, Places.number_below, Places.number_after}
 use Rattle.use_shared.proofs.tasks.executor.Executor+Running+K+T+Finished+K+T+A.start.Goals as goal
 
 pub new-requires-clause-of : goal.new-requires-clause-of
