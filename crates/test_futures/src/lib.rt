@@ -4,14 +4,8 @@
 #[cfg(test)]
 mod asserts;
 #[cfg(test)]
-mod idle;
-#[cfg(test)]
 mod kit;
 #[cfg(test)]
 mod opening;
 #[cfg(test)]
-mod pools;
-#[cfg(test)]
 mod stories;
-#[cfg(test)]
-mod tasks;
