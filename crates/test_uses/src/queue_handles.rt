@@ -30,7 +30,7 @@ fn opened(rt: &impl Abort, alloc: Global, cap: Option<usize>) -> Handle<u64> {
 }
 
 /// What a handle comes to that ends the sharing.
-fn end(handle: Handle<u64>) -> Came {
+fn finished(handle: Handle<u64>) -> Came {
     match handle.finish() {
         Ok(alone) => Ok(alone.len()),
         Err(Unfinished::Shared(_)) => Err("shared"),
@@ -43,15 +43,15 @@ fn end_by_first(one: Handle<u64>, other: Handle<u64>, second: End) -> Came
     requires { other.queue ≡ one.queue }
 {
     match second {
-        End::Joined => end(one.join(other)),
+        End::Joined => finished(one.join(other)),
         End::Kept => {
-            let came = end(one);
+            let came = finished(one);
             drop(other);
             came
         }
         End::Dropped => {
             drop(other);
-            end(one)
+            finished(one)
         }
     }
 }
@@ -104,5 +104,5 @@ fn what_a_handle_comes_to(rt: HostRuntime) {
 #[test]
 fn sent_by_a_thread_with_a_handle(rt: HostRuntime) {
     let (sum, handle) = sum_of_a_thread(rt, rt.alloc(), 1000).expect(&rt, "memory");
-    is(&rt, (sum, end(handle)), (499_500, Ok(0)));
+    is(&rt, (sum, finished(handle)), (499_500, Ok(0)));
 }
