@@ -8,6 +8,7 @@ ghost use Rattle.counted_channel.specs.Counting.{IsEndSeat, stake_at};
 use crate::calls::WaitedQueue;
 use crate::counting::{EndSeat, SharedCounts, leave, part, unite};
 use crate::waiting::Awaited;
+use crate::waking::close;
 use concurrent_queue::Party;
 use std::alloc::Allocator;
 
@@ -92,8 +93,8 @@ pub(crate) fn end_one<T, A: Allocator>(
 {
     let SideEnd { mut party, place } = end;
     let last = leave(words, place, word);
-    if let Some(owed) = queue.close_after(&mut party, last) {
-        awaited.notify_all(owed);
+    if last {
+        close(queue, awaited, &mut party);
     }
     (party, last)
 }

@@ -71,3 +71,8 @@ module _ {T : Type 0} where
   pub ended_last : (v w : PartyView T) (last : Bool) → last ≡ true → (closed : Bool) → Calls v call.Close (reply.Close closed) w → Ends v w last
   ended_last v w true is closed called = ((closed, called), close_sees v w closed called)
   ended_last v w false is closed called = cc
+
+  -- another has done nothing
+  pub ended_other : (v w : PartyView T) (last : Bool) → last ≡ false → w ≡ v → Ends v w last
+  ended_other v w true is same = cc
+  ended_other v w false is same = same

@@ -1,5 +1,5 @@
 -- Which replies of the queue a channel's answers are, and what its last end does.
-use Rattle.std.specs.Prelude.{◌≡◌, Bool, true, false, Result, Ok, Err, Option, Some, None}
+use Rattle.std.specs.Prelude.{◌≡◌, Bool, true, false, Result, Ok, Err, Option}
 use Rattle.queue_steps.specs.{declared.model.Call.Call as call, declared.model.Reply.Reply, declared.model.Reply.Reply as reply, declared.errors.PopError.PopError as pop, declared.errors.PushError.PushError as push, declared.errors.ForcePushError.ForcePushError as force, Effect.after}
 use Rattle.concurrent_queue.specs.Shared.{PartyView, Calls}
 use Rattle.counted_channel.specs.declared.calls.{errors.SendError.SendError, errors.SendError.SendError as send, errors.Disconnected.Disconnected, waited.Pushed.Pushed, waited.Pushed.Pushed as put, waited.ForcePushed.ForcePushed, waited.ForcePushed.ForcePushed as forced, waited.Popped.Popped, waited.Popped.Popped as taken}

@@ -6,7 +6,7 @@ ghost use Rattle.queue_steps.specs.declared.model.Call.TheVariants as call;
 ghost use Rattle.queue_steps.specs.declared.model.Reply.TheVariants as reply;
 ghost use Rattle.queue_steps.specs.Shares.{IsEntire};
 ghost use Rattle.concurrent_queue.specs.Shared.{Calls, IsPartyOf, Parts, Joins, Finishes};
-ghost use Rattle.counted_channel.specs.QueueCalls.Calls.{Ends, HasSeenClosed, pushed, force_pushed, popped};
+ghost use Rattle.counted_channel.specs.QueueCalls.Calls.{HasSeenClosed, pushed, force_pushed, popped};
 ghost use Rattle.counted_channel.specs.QueueCalls.Looks.{FullKeepsTicket, EmptyKeepsTicket};
 
 use crate::calls::waiters::{OwesAll, OwesOne};
@@ -182,19 +182,6 @@ impl<T, A: Allocator> WaitedQueue<T, A> {
     {
         let closed = self.queue.close(party);
         (closed, owes_end(party))
-    }
-
-    /// Closes the queue where the end that has ended was the last of its side.
-    pub fn close_after(&self, party: &mut Party<T>, last: bool) -> Option<OwesEnd>
-        requires { IsPartyOf party.old self.now }
-        ensures { Ends party.old party.new last }
-    {
-        if last {
-            let (_, owed) = self.close(party);
-            Some(owed)
-        } else {
-            None
-        }
     }
 
     pub fn is_closed(&self, party: &mut Party<T>) -> bool
