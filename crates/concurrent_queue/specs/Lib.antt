@@ -4,6 +4,7 @@ pub mod Calling
 pub mod Begun
 pub mod Pending
 pub mod Standing
+pub mod Leaves
 pub mod Comes
 pub mod SawMore
 pub mod TryErrors

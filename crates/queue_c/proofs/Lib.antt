@@ -1,3 +1,4 @@
 pub mod Handles
 pub mod Splitting
+pub mod Turns
 pub mod Values

@@ -8,17 +8,17 @@ ghost use Rattle.queue_c.specs.Fits.{Fits};
 use crate::answers::Answer;
 use call_driver::gate::Open;
 use concurrent_queue::{ConcurrentQueue, Outcome, Party, Pending};
-use queue_steps::model::Call;
+use queue_steps::model::{Call, Reply};
 use std::alloc::{AllocError, Global};
 use std::sync::Arc;
 
-/// What a party is doing.
+/// What a party is doing: it is between its calls, or a call of it is pending. Each has a place of its own, so that a call writes only one that it needs.
 #[derive(Drop)]
-pub(crate) enum Turn {
-    /// It is between its calls. The party is away only within a call.
-    Resting(Option<Party<u64>>),
-    /// A call of it is pending.
-    Calling(Pending<u64>),
+pub(crate) struct Turn {
+    /// The party, between its calls.
+    party: Option<Party<u64>>,
+    /// Its pending call.
+    pending: Option<Pending<u64>>,
 }
 
 /// A party of a queue of words, and a share in keeping that queue.
@@ -53,35 +53,62 @@ pub(crate) enum Finished {
     Busy(End),
 }
 
-/// Begins a call of this party. `W` tells the calls apart.
+/// Begins a call of this party, which is kept if it is pending. `W` tells the calls apart.
 #[inline(always)]
-fn begin<W>(shared: &ConcurrentQueue<u64>, party: Party<u64>, call: Call<u64>) -> Outcome<u64>
-    requires { IsPartyOf party shared.now }
-    ensures { Begins party call result }
+fn begin<W>(
+    shared: &ConcurrentQueue<u64>,
+    party: Party<u64>,
+    call: Call<u64>,
+    kept: &mut Option<Pending<u64>>,
+) -> Option<(Party<u64>, Reply<u64>)>
+    requires is_party { IsPartyOf party shared.now }
+    requires none { kept.old ≡ None }
+    ensures { Begins party call result kept.new }
 {
     if call.is_wait_free() {
         let mut party = party;
         let reply = shared.answer_wait_free(&Open, &mut party, call);
-        return Outcome::Done(party, reply);
+        return Some((party, reply));
     }
-    match shared.begin_as::<W>(party, call) {
-        Outcome::Done(party, reply) => Outcome::Done(party, reply),
-        Outcome::Pending(pending) => Outcome::Pending(pending),
+    match shared.begin_into::<W>(party, call, kept) {
+        Some((party, reply)) => Some((party, reply)),
+        None => None,
+    }
+}
+
+impl Turn {
+    /// The party is between its calls.
+    fn resting(party: Party<u64>) -> Turn
+        ensures { (result.party ≡ Some party) × (result.pending ≡ None) }
+    {
+        Turn {
+            party: Some(party),
+            pending: None,
+        }
+    }
+
+    /// This call of it is pending.
+    fn calling(pending: Pending<u64>) -> Turn
+        ensures { (result.party ≡ None) × (result.pending ≡ Some pending) }
+    {
+        Turn {
+            party: None,
+            pending: Some(pending),
+        }
     }
 }
 
 impl End {
-    ghost use Rattle.queue_c.specs.declared.end.Turn.TheVariants as turn;
     ghost use Rattle.queue_c.specs.Ends.{IsRoom, IsNew, Takes, Resumes, SplitsEnd, FinishesEnd};
 
     fn of(alloc: Global, queue: ConcurrentQueue<u64>, party: Party<u64>) -> Result<End, AllocError>
         requires { IsPartyOf party queue }
-        ensures { IfOk result (λ e. (arc_value e.queue ≡ queue) × (e.turn ≡ turn.Resting (Some party))) }
+        ensures { IfOk result (λ e. (arc_value e.queue ≡ queue) × (e.turn.party ≡ Some party)) }
     {
         match Arc::new(alloc, queue) {
             Ok(queue) => Ok(End {
                 queue,
-                turn: Turn::Resting(Some(party)),
+                turn: Turn::resting(party),
             }),
             Err(_) => Err(AllocError),
         }
@@ -111,22 +138,16 @@ impl End {
         ensures queue { arc_value self.new.queue ≡ arc_value self.old.queue }
         ensures turn { Takes call self.old.turn result self.new.turn }
     {
-        let Turn::Resting(place) = &mut self.turn else {
+        let Some(party) = self.turn.party.take() else {
             return Answer::Busy;
         };
-        let Some(party) = place.take() else {
-            unreachable!()
-        };
         let shared: &ConcurrentQueue<u64> = &self.queue;
-        match begin::<W>(shared, party, call) {
-            Outcome::Done(party, reply) => {
-                *place = Some(party);
+        match begin::<W>(shared, party, call, &mut self.turn.pending) {
+            Some((party, reply)) => {
+                self.turn.party = Some(party);
                 Answer::Reply(reply)
             }
-            Outcome::Pending(pending) => {
-                self.turn = Turn::Calling(pending);
-                Answer::Pending
-            }
+            None => Answer::Pending,
         }
     }
 
@@ -136,21 +157,22 @@ impl End {
         ensures turn { Resumes self.turn result.1 result.0.turn }
     {
         let End { queue, turn } = self;
-        let pending = match turn {
-            Turn::Calling(pending) => pending,
-            Turn::Resting(party) => {
-                let turn = Turn::Resting(party);
-                return (End { queue, turn }, Answer::Idle);
-            }
+        let Turn { party, pending } = turn;
+        let Some(pending) = pending else {
+            let turn = Turn {
+                party,
+                pending: None,
+            };
+            return (End { queue, turn }, Answer::Idle);
         };
         let shared: &ConcurrentQueue<u64> = &queue;
         match shared.resume(pending) {
             Outcome::Done(party, reply) => {
-                let turn = Turn::Resting(Some(party));
+                let turn = Turn::resting(party);
                 (End { queue, turn }, Answer::Reply(reply))
             }
             Outcome::Pending(pending) => {
-                let turn = Turn::Calling(pending);
+                let turn = Turn::calling(pending);
                 (End { queue, turn }, Answer::Pending)
             }
         }
@@ -161,29 +183,29 @@ impl End {
         ensures { SplitsEnd self result.1 result.0 }
     {
         let End { queue, turn } = self;
-        let party = match turn {
-            Turn::Resting(Some(party)) => party,
-            Turn::Resting(None) => unreachable!(),
-            Turn::Calling(pending) => {
-                let turn = Turn::Calling(pending);
-                return (End { queue, turn }, Err(Refusal::Pending));
-            }
+        let Turn { party, pending } = turn;
+        let Some(party) = party else {
+            let turn = Turn {
+                party: None,
+                pending,
+            };
+            return (End { queue, turn }, Err(Refusal::Pending));
         };
         let Ok(other) = Arc::try_clone(&queue) else {
-            let turn = Turn::Resting(Some(party));
+            let turn = Turn::resting(party);
             return (End { queue, turn }, Err(Refusal::NoMemory));
         };
         let shared: &ConcurrentQueue<u64> = &queue;
         match shared.split(party) {
             Ok((first, second)) => {
-                let turn = Turn::Resting(Some(first));
+                let turn = Turn::resting(first);
                 let end = End { queue, turn };
                 let queue = other;
-                let turn = Turn::Resting(Some(second));
+                let turn = Turn::resting(second);
                 (end, Ok(End { queue, turn }))
             }
             Err(party) => {
-                let turn = Turn::Resting(Some(party));
+                let turn = Turn::resting(party);
                 (End { queue, turn }, Err(Refusal::TooMany))
             }
         }
@@ -201,13 +223,13 @@ impl End {
         ensures { FinishesEnd self result }
     {
         let End { queue, turn } = self;
-        let party = match turn {
-            Turn::Resting(Some(party)) => party,
-            Turn::Resting(None) => unreachable!(),
-            Turn::Calling(pending) => {
-                let turn = Turn::Calling(pending);
-                return Finished::Busy(End { queue, turn });
-            }
+        let Turn { party, pending } = turn;
+        let Some(party) = party else {
+            let turn = Turn {
+                party: None,
+                pending,
+            };
+            return Finished::Busy(End { queue, turn });
         };
         match Arc::try_unwrap(queue) {
             Ok(queue) => match queue.finish(party) {
@@ -215,7 +237,7 @@ impl End {
                 Err(_) => Finished::Lost,
             },
             Err(queue) => {
-                let turn = Turn::Resting(Some(party));
+                let turn = Turn::resting(party);
                 Finished::Shared(End { queue, turn })
             }
         }

@@ -1,10 +1,11 @@
 //! Calls that never wait: one that meets another call half done is handed back as it stands, and taken up again later.
-ghost use Rattle.std.specs.Prelude.{◌≡◌, None};
+ghost use Rattle.std.specs.Prelude.{◌≡◌, None, Some};
 ghost use Rattle.concurrent_queue.specs.declared.party.SeatPlace.TheVariants as place;
 ghost use Rattle.concurrent_queue.specs.Begun.{Begun as SpecBegun};
 ghost use Rattle.concurrent_queue.specs.declared.shared.Form.TheVariants as form;
 ghost use Rattle.concurrent_queue.specs.Calling.{IsHeldAt, IsHeldIn};
-ghost use Rattle.concurrent_queue.specs.Comes.{Comes};
+ghost use Rattle.concurrent_queue.specs.Comes.{Comes, ComesInto};
+ghost use Rattle.concurrent_queue.specs.Leaves.{LeavesHere, LeavesInside};
 ghost use Rattle.concurrent_queue.specs.Pending.{StopsHere, StopsInside};
 ghost use Rattle.concurrent_queue.specs.OneHeap.{IsOneHeap};
 ghost use Rattle.concurrent_queue.specs.Shared.{IsPartyOf, party_view_of};
@@ -16,6 +17,7 @@ use crate::party::{Party, SeatPlace};
 use crate::shared::ConcurrentQueue;
 use atomic_table::Seat;
 use call_driver::gate::Open;
+use call_driver::site::Site;
 use mem_blocks::item::Place;
 use mem_blocks::null_testable::NullTestable;
 use mem_blocks::web::Rested;
@@ -24,7 +26,7 @@ use shared_calls::allocated_chain::AllocatedChain;
 use shared_calls::beginning::{FastSteps, OnChain, OnSlot};
 use shared_calls::chain::Asking;
 use shared_calls::left::Left;
-use shared_calls::pausing::{set_out, take_up};
+use shared_calls::pausing::{carry_on, take_up};
 use shared_chain::source::Granting;
 use shared_parties::known::CallState;
 use shared_tables::table::SharedTable;
@@ -110,37 +112,132 @@ impl<T, A: Allocator> Pending<T, A> {
     }
 }
 
-/// Sets out on a call at a table of any kind.
+/// Keeps a call on its way, where none is kept.
+fn keep<T, A: Allocator>(pending: Pending<T, A>, kept: &mut Option<Pending<T, A>>)
+    requires { kept.old ≡ None }
+    ensures { kept.new ≡ Some pending }
+{
+    let none = std::mem::replace(kept, Some(pending));
+    let None = none else { unreachable!() };
+}
+
+/// Goes on with a call at a table that has left its fast steps.
+#[cold]
+#[inline(never)]
+fn go_on_here<T, K: Stopping<T>, A: Allocator>(
+    table: &SharedTable<T, K, A>,
+    seat: Seat<Option<T>, CallState<T>>,
+    left: Left<T, usize>,
+    kept: &mut Option<Pending<T, A>>,
+) -> Option<(Party<T>, Reply<T>)>
+    requires none { kept.old ≡ None }
+    requires left { (v : SpecBegun T) × LeavesHere ⟦<SharedTable<T, K, A> as Site>⟧ K.layout table.now.table.shared.table_id table.now left seat v }
+    ensures { (v : SpecBegun T) → LeavesHere ⟦<SharedTable<T, K, A> as Site>⟧ K.layout table.now.table.shared.table_id table.now left seat v → ComesInto v.party v.call result kept.new }
+{
+    let mut seat = seat;
+    match carry_on::<SharedTable<T, K, A>, Open>(table, &Open, &mut seat, left) {
+        ControlFlow::Break(reply) => Some((Party::at(SeatPlace::Table(seat)), reply)),
+        ControlFlow::Continue(left) => {
+            keep(K::stopped(seat, left), kept);
+            None
+        }
+    }
+}
+
+/// The same. What is lent there is this function's own, so that the fast steps clear none of it.
+#[inline(always)]
+fn go_on_here_apart<T, K: Stopping<T>, A: Allocator>(
+    table: &SharedTable<T, K, A>,
+    seat: Seat<Option<T>, CallState<T>>,
+    left: Left<T, usize>,
+    kept: &mut Option<Pending<T, A>>,
+) -> Option<(Party<T>, Reply<T>)>
+    requires none { kept.old ≡ None }
+    requires left { (v : SpecBegun T) × LeavesHere ⟦<SharedTable<T, K, A> as Site>⟧ K.layout table.now.table.shared.table_id table.now left seat v }
+    ensures { (v : SpecBegun T) → LeavesHere ⟦<SharedTable<T, K, A> as Site>⟧ K.layout table.now.table.shared.table_id table.now left seat v → ComesInto v.party v.call result kept.new }
+{
+    match go_on_here(table, seat, left.apart(), kept) {
+        Some((party, reply)) => Some((party, reply)),
+        None => None,
+    }
+}
+
+/// Begins a call at a table of any kind.
 #[inline(always)]
 fn begin_here<T, K: Stopping<T>, A: Allocator, F: FastSteps<SharedTable<T, K, A>> + Drop, W>(
     steps: F,
     table: &SharedTable<T, K, A>,
     seat: Seat<Option<T>, CallState<T>>,
     call: Call<T>,
-) -> Outcome<T, A>
+    kept: &mut Option<Pending<T, A>>,
+) -> Option<(Party<T>, Reply<T>)>
     requires held { IsHeldAt K.layout table.now.table.shared.table_id seat }
-    ensures { Comes (party_view_of (place.Table seat)) call result }
+    requires none { kept.old ≡ None }
+    ensures { ComesInto (party_view_of (place.Table seat)) call result kept.new }
 {
     let mut seat = seat;
-    match set_out::<SharedTable<T, K, A>, Open, F, W>(steps, table, &Open, &mut seat, call) {
-        ControlFlow::Break(reply) => Outcome::Done(Party::at(SeatPlace::Table(seat)), reply),
-        ControlFlow::Continue(left) => Outcome::Pending(K::stopped(seat, left)),
+    match steps.run::<Open, W>(table, &Open, &mut seat, call) {
+        ControlFlow::Break(reply) => Some((Party::at(SeatPlace::Table(seat)), reply)),
+        ControlFlow::Continue(left) => go_on_here_apart(table, seat, left, kept),
     }
 }
 
-/// The same in a chain.
+/// Goes on with a call in a chain that has left its fast steps.
+#[cold]
+#[inline(never)]
+fn go_on_inside<T, A: NullTestable>(
+    queue: &AllocatedChain<T, A>,
+    asking: Asking<T, A, Granting>,
+    left: Left<T, Place<T>>,
+    kept: &mut Option<Pending<T, A>>,
+) -> Option<(Party<T>, Reply<T>)>
+    requires none { kept.old ≡ None }
+    requires left { (v : SpecBegun T) × LeavesInside ⟦<Asking<T, A, Granting> as Site>⟧ queue.now left asking v }
+    ensures { (v : SpecBegun T) → LeavesInside ⟦<Asking<T, A, Granting> as Site>⟧ queue.now left asking v → ComesInto v.party v.call result kept.new }
+{
+    let mut asking = asking;
+    match carry_on::<Asking<T, A, Granting>, Open>(queue, &Open, &mut asking, left) {
+        ControlFlow::Break(reply) => { Some((Party::at(SeatPlace::Web(asking.rests())), reply)) }
+        ControlFlow::Continue(left) => {
+            keep(Pending::at(CallPlace::Chain(asking, left)), kept);
+            None
+        }
+    }
+}
+
+/// The same. What is lent there is this function's own.
+#[inline(always)]
+fn go_on_inside_apart<T, A: NullTestable>(
+    queue: &AllocatedChain<T, A>,
+    asking: Asking<T, A, Granting>,
+    left: Left<T, Place<T>>,
+    kept: &mut Option<Pending<T, A>>,
+) -> Option<(Party<T>, Reply<T>)>
+    requires none { kept.old ≡ None }
+    requires left { (v : SpecBegun T) × LeavesInside ⟦<Asking<T, A, Granting> as Site>⟧ queue.now left asking v }
+    ensures { (v : SpecBegun T) → LeavesInside ⟦<Asking<T, A, Granting> as Site>⟧ queue.now left asking v → ComesInto v.party v.call result kept.new }
+{
+    match go_on_inside(queue, asking, left.apart(), kept) {
+        Some((party, reply)) => Some((party, reply)),
+        None => None,
+    }
+}
+
+/// Begins a call in a chain.
 #[inline(always)]
 fn begin_inside<T, A: NullTestable, W>(
     queue: &AllocatedChain<T, A>,
     rested: Rested<CallState<T>>,
     call: Call<T>,
-) -> Outcome<T, A>
+    kept: &mut Option<Pending<T, A>>,
+) -> Option<(Party<T>, Reply<T>)>
     requires held { IsHeldIn (form.Chain queue.now) (place.Web rested) }
-    ensures { Comes (party_view_of (place.Web rested)) call result }
+    requires none { kept.old ≡ None }
+    ensures { ComesInto (party_view_of (place.Web rested)) call result kept.new }
 {
     let mut rested = rested;
     let mut asking: Asking<T, A, Granting> = Asking::wake(&queue.chain, &mut rested);
-    let begun = set_out::<Asking<T, A, Granting>, Open, OnChain, W>(
+    let begun = <OnChain as FastSteps<Asking<T, A, Granting>>>::run::<Open, W>(
         OnChain,
         queue,
         &Open,
@@ -148,12 +245,8 @@ fn begin_inside<T, A: NullTestable, W>(
         call,
     );
     match begun {
-        ControlFlow::Break(reply) => {
-            Outcome::Done(Party::at(SeatPlace::Web(asking.rests())), reply)
-        }
-        ControlFlow::Continue(left) => {
-            Outcome::Pending(Pending::at(CallPlace::Chain(asking, left)))
-        }
+        ControlFlow::Break(reply) => { Some((Party::at(SeatPlace::Web(asking.rests())), reply)) }
+        ControlFlow::Continue(left) => go_on_inside_apart(queue, asking, left, kept),
     }
 }
 
@@ -199,21 +292,35 @@ impl<T, A: NullTestable> ConcurrentQueue<T, A> {
         requires is_party { IsPartyOf party self.now }
         ensures { Comes party call result }
     {
-        self.begin_as::<Begins>(party, call)
+        let mut kept = None;
+        match (self.begin_into::<Begins>(party, call, &mut kept), kept) {
+            (Some((party, reply)), None) => Outcome::Done(party, reply),
+            (None, Some(pending)) => Outcome::Pending(pending),
+            _ => unreachable!(),
+        }
     }
 
-    /// The same, in place where it is called. `W` tells the calls apart, so that each has fast steps of its own.
+    /// The same, in place where it is called: its party after the call, and its reply; or none, and the call is kept. `W` tells the calls apart, so that each has
+    /// fast steps of its own.
     #[inline(always)]
-    pub fn begin_as<W>(&self, party: Party<T>, call: Call<T>) -> Outcome<T, A>
+    pub fn begin_into<W>(
+        &self,
+        party: Party<T>,
+        call: Call<T>,
+        kept: &mut Option<Pending<T, A>>,
+    ) -> Option<(Party<T>, Reply<T>)>
         requires is_party { IsPartyOf party self.now }
-        ensures { Comes party call result }
+        requires none { kept.old ≡ None }
+        ensures { ComesInto party call result kept.new }
     {
         match self.form.seated(party.place) {
-            Seated::Slot(table, seat) => { begin_here::<_, _, _, _, W>(OnSlot, table, seat, call) }
-            Seated::Ring(table, seat) => {
-                begin_here::<_, _, _, _, W>(on_ring(table), table, seat, call)
+            Seated::Slot(table, seat) => {
+                begin_here::<_, _, _, _, W>(OnSlot, table, seat, call, kept)
             }
-            Seated::Chain(queue, rested) => begin_inside::<_, _, W>(queue, rested, call),
+            Seated::Ring(table, seat) => {
+                begin_here::<_, _, _, _, W>(on_ring(table), table, seat, call, kept)
+            }
+            Seated::Chain(queue, rested) => begin_inside::<_, _, W>(queue, rested, call, kept),
         }
     }
 

@@ -3,11 +3,11 @@ use Rattle.shared_chain.specs.Turning.{web_of}
 use Rattle.shared_calls.specs.InWeb.{RestsAt, EndedAt}
 use Rattle.shared_calls.proofs.Wakes.{wakes_free, rests_ended}
 use Rattle.concurrent_queue.specs.{declared.party.SeatPlace.SeatPlace as place, Shared.QueueId, Shared.Calls, Shared.party_view_of}
-use Rattle.concurrent_queue.proofs.{StopsIn.started_in, WebParties.web_ends}
+use Rattle.concurrent_queue.proofs.WebParties.{web_ends}
 use Rattle.concurrent_queue.proofs.shared.pending.begin_inside.Goals as goal
 
-pub set_out-begun-requires : goal.set_out-begun-requires
-set_out-begun-requires g c =
+pub run-begun-requires : goal.run-begun-requires
+run-begun-requires g c =
     let b = c.args in let s = c.wake-asking.ensures.seat in
     let rests : RestsAt (web_of b.queue.now.chain) b.rested = search rules in
     record { rests = (s.0, wakes_free _ b.rested c.wake-asking.result.seat.sitter rests s.1) }
@@ -17,7 +17,7 @@ at-requires g c =
     let b = c.args in let s = c.wake-asking.ensures.seat in let d = c.in-Break.ensures in let out = c.rests.ensures in
     let rests : RestsAt (web_of b.queue.now.chain) b.rested = search rules in
     let ended : EndedAt b.rested b.call c.in-Break.reply c.rests.result =
-    rests_ended b.rested c.rests.result c.wake-asking.result.seat.sitter c.set_out-begun.new.seat.seat.sitter b.call c.in-Break.reply s.1 d.0.1 d.1 out.0 (out.1 ∙ (d.0.0.0 ∙ sym rests.1)) out.2 in
+    rests_ended b.rested c.rests.result c.wake-asking.result.seat.sitter c.run-begun.new.seat.seat.sitter b.call c.in-Break.reply s.1 d.0.1 d.1 out.0 (out.1 ∙ (d.0.0.0 ∙ sym rests.1)) out.2 in
     (web_ends _ (place.Web c.rests.result) b.rested c.rests.result _ b.call _ _ refl c.requires.held.0 refl refl refl (ap (λ (z : QueueId). z.cap) c.requires.held.1) ended).0
 
 pub returns-in-Break : goal.returns-in-Break
@@ -25,17 +25,18 @@ returns-in-Break g c =
     let b = c.args in let s = c.wake-asking.ensures.seat in let d = c.in-Break.ensures in let out = c.rests.ensures in
     let rests : RestsAt (web_of b.queue.now.chain) b.rested = search rules in
     let ended : EndedAt b.rested b.call c.in-Break.reply c.rests.result =
-    rests_ended b.rested c.rests.result c.wake-asking.result.seat.sitter c.set_out-begun.new.seat.seat.sitter b.call c.in-Break.reply s.1 d.0.1 d.1 out.0 (out.1 ∙ (d.0.0.0 ∙ sym rests.1)) out.2 in
-    subst (λ p. Calls (party_view_of (place.Web b.rested)) b.call c.in-Break.reply p) (sym c.at.ensures)
-    (web_ends _ (place.Web c.rests.result) b.rested c.rests.result _ b.call _ _ refl c.requires.held.0 refl refl refl (ap (λ (z : QueueId). z.cap) c.requires.held.1) ended).1
+    rests_ended b.rested c.rests.result c.wake-asking.result.seat.sitter c.run-begun.new.seat.seat.sitter b.call c.in-Break.reply s.1 d.0.1 d.1 out.0 (out.1 ∙ (d.0.0.0 ∙ sym rests.1)) out.2 in (
+      subst (λ p. Calls (party_view_of (place.Web b.rested)) b.call c.in-Break.reply p) (sym c.at.ensures)
+          (web_ends _ (place.Web c.rests.result) b.rested c.rests.result _ b.call _ _ refl c.requires.held.0 refl refl refl (ap (λ (z : QueueId). z.cap) c.requires.held.1) ended).1,
+      c.requires.none,
+    )
 
-pub at-requires-in-Continue : goal.at-requires-in-Continue
-at-requires-in-Continue g c =
-    let b = c.args in let e = c.in-Continue.ensures in
-    (started_in b.queue.now.chain b.rested _ c.wake-asking.result c.set_out-begun.new.seat c.in-Continue.left _ b.call refl c.requires.held.0 refl c.requires.held.1 c.wake-asking.ensures.seat.1 e.0.0.0 e.0.0.1 e.0.1 e.1).1
+pub go_on_inside_apart-requires-clause-left : goal.go_on_inside_apart-requires-clause-left
+go_on_inside_apart-requires-clause-left g c =
+    let b = c.args in
+    (record { party = party_view_of (place.Web b.rested); call = b.call }, (b.rested, c.wake-asking.result, c.requires.held, c.wake-asking.ensures.seat.1, refl, c.in-Continue.ensures))
 
 pub returns : goal.returns
 returns g c =
-    let b = c.args in let e = c.in-Continue.ensures in
-    c.at-in-Continue.ensures
-    ∙ (started_in b.queue.now.chain b.rested _ c.wake-asking.result c.set_out-begun.new.seat c.in-Continue.left _ b.call refl c.requires.held.0 refl c.requires.held.1 c.wake-asking.ensures.seat.1 e.0.0.0 e.0.0.1 e.0.1 e.1).2
+    let b = c.args in
+    c.go_on_inside_apart.ensures (record { party = party_view_of (place.Web b.rested); call = b.call }) (b.rested, c.wake-asking.result, c.requires.held, c.wake-asking.ensures.seat.1, refl, c.in-Continue.ensures)
