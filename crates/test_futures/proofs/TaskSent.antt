@@ -2,7 +2,7 @@
 use denote.Param.Send.{IsSend, sendable}
 use denote.Param.SendFields.{declared_send, variants_send}
 use Rattle.std.proofs.Crossing.{crosses}
-use Rattle.test_futures.specs.contracts.tasks.{Came.the_row as came_row, Sends.the_row as sends_row, Sends.the_type as sends_type, Work.the_row as work_row, Work.enum as work_enum, Task.the_row as task_row, Task.the_type as task_type}
+use Rattle.test_futures.specs.contracts.tasks.{Sends.the_row as sends_row, Sends.the_type as sends_type, Work.the_row as work_row, Work.enum as work_enum, Task.the_row as task_row, Task.the_type as task_type}
 use Rattle.test_futures.proofs.Sent.{incoming_send, outgoing_send}
 
 sends_send : IsSend sends_row

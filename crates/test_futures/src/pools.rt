@@ -126,7 +126,6 @@ fn wanted(ends: u64) -> (u64, u64, u64) {
 }
 
 /// What comes to tasks alone.
-#[tactic(auto, using(crate::proofs::TaskSent::task_send))]
 fn run<R: Wait + Threads + RandomSource + AllocGlobal + Abort + Sync>(rt: &R, case: Case) {
     let (mut sender, mut receiver) = opened(rt, case.cap);
     let came = Arc::new(rt.alloc(), Came::new()).expect(rt, "memory");
@@ -138,7 +137,6 @@ fn run<R: Wait + Threads + RandomSource + AllocGlobal + Abort + Sync>(rt: &R, ca
 }
 
 /// What comes to tasks and to a thread, where a thread sends too.
-#[tactic(auto, using(crate::proofs::TaskSent::task_send))]
 fn run_beside_threads<R: Wait + Threads + RandomSource + AllocGlobal + Abort + Sync>(
     rt: &R,
     case: Case,
