@@ -1,2 +1,1 @@
 mod Sent
-mod TaskSent

@@ -73,7 +73,6 @@ fn receive_late<R: Wait>(
 }
 
 #[test]
-#[tactic(auto, using(crate::proofs::Sent::incoming_send))]
 fn an_idle_receiver_takes_no_processor_time(rt: HostRuntime) {
     let (sender, receiver) = opened(&rt, Some(2));
     let stream = incoming(&rt, receiver);
@@ -89,7 +88,6 @@ fn an_idle_receiver_takes_no_processor_time(rt: HostRuntime) {
 }
 
 #[test]
-#[tactic(auto, using(crate::proofs::Sent::outgoing_send))]
 fn an_idle_sender_takes_no_processor_time(rt: HostRuntime) {
     let (mut sender, receiver) = opened(&rt, Some(1));
     is_in(&rt, 1, sender.send(&rt, 1), Ok(()));
