@@ -4,8 +4,14 @@
 #[cfg(test)]
 mod asserts;
 #[cfg(test)]
+mod idle;
+#[cfg(test)]
 mod kit;
 #[cfg(test)]
 mod opening;
 #[cfg(test)]
+mod pools;
+#[cfg(test)]
 mod stories;
+#[cfg(test)]
+mod tasks;

@@ -64,17 +64,20 @@ where
     );
 }
 
-/// So many threads work.
-fn work<R, F>(rt: &R, set: &TaskSet<F>, workers: Workers)
+/// Four threads work.
+fn work_in_four<R, F>(rt: &R, set: &TaskSet<F>)
 where
     R: Wait + Threads + Sync,
     F: Future<Output = ()> + Send,
 {
+    join(rt, || work_in_two(rt, set, 0), || work_in_two(rt, set, 2));
+}
+
+/// So many threads work.
+fn work<R: Wait + Threads + Sync>(rt: &R, set: &TaskSet<Task>, workers: Workers) {
     match workers {
         Workers::One => set.work(rt, 0),
-        Workers::Four => {
-            join(rt, || work_in_two(rt, set, 0), || work_in_two(rt, set, 2));
-        }
+        Workers::Four => work_in_four(rt, set),
     }
 }
 
