@@ -49,11 +49,12 @@ abbrev pub IsCalling : Option (Begun ℕ) → Type 0
 IsCalling (Some p) = Unit {0}
 IsCalling None = ⊥
 
--- why a party in this turn may be refused
+-- some party was split off and not joined back
 abbrev pub HasOthers : Option (PartyView ℕ) → Type 0
 HasOthers (Some v) = ¬ IsEntire v.view.share
 HasOthers None = ⊥
 
+-- why a party in this turn may be refused
 abbrev pub IsRefusal : Refusal → Turn → Type 0
 IsRefusal refusal.NoMemory t = Unit {0}
 IsRefusal refusal.Pending t = IsCalling t.pending

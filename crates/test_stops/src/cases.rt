@@ -1,5 +1,5 @@
 //! Calls that stop after each of their steps, while another party's call begins.
-use crate::events::{Events, Item, numbered};
+use crate::events::{Events, Item};
 use crate::flaw::Flaw;
 use crate::runs::{AtEnd, Times, run};
 use crate::shapes::{Shape, Start};
@@ -8,67 +8,178 @@ use queue_steps::sizes::{BLOCK_SLOTS, SOLO_STEPS};
 use std::alloc::Global;
 use std::io;
 
-/// The calls of a party that pushes these items, in the order of the steps in a row.
-fn calls_with(pushed: Item, forced: Item) -> [Call<Item>; 9] {
-    [
-        Call::Push(pushed),
-        Call::ForcePush(forced),
-        Call::Pop,
-        Call::Close,
-        Call::IsClosed,
-        Call::IsEmpty,
-        Call::IsFull,
-        Call::Len,
-        Call::Capacity,
-    ]
-}
-
-const EMPTY: Start = Start(0, 0, false);
-
-const ONE: Start = Start(1, 0, false);
-
-const TWO: Start = Start(2, 0, false);
-
-const THREE: Start = Start(3, 0, false);
-
-const CLOSED: Start = Start(1, 0, true);
-
-/// One item short of a block.
-const SHORT_OF_A_BLOCK: Start = Start(BLOCK_SLOTS - 1, 0, false);
-
-/// Of a block only the last item is left.
-const LAST_OF_A_BLOCK: Start = Start(BLOCK_SLOTS, BLOCK_SLOTS - 1, false);
-
-/// A queue at a start, and how many steps each call takes there alone, by the tables of the steps.
-type Row = (Shape, Start, [u64; 9]);
-
-static ROWS: [Row; 16] = [
-    (Shape::Single, EMPTY, [2, 2, 1, 1, 1, 1, 1, 1, 0]),
-    (Shape::Single, ONE, [1, 3, 2, 1, 1, 1, 1, 1, 0]),
-    (Shape::Single, CLOSED, [1, 1, 3, 1, 1, 1, 1, 1, 0]),
-    (Shape::Pair, EMPTY, [4, 4, 3, 1, 1, 2, 2, 3, 0]),
-    (Shape::Pair, ONE, [4, 4, 4, 1, 1, 2, 2, 3, 0]),
-    (Shape::Pair, TWO, [3, 5, 4, 1, 1, 2, 2, 3, 0]),
-    (Shape::Pair, CLOSED, [1, 1, 4, 1, 1, 2, 2, 3, 0]),
-    (Shape::Triple, EMPTY, [4, 4, 3, 1, 1, 2, 2, 3, 0]),
-    (Shape::Triple, ONE, [4, 4, 4, 1, 1, 2, 2, 3, 0]),
-    (Shape::Triple, THREE, [3, 5, 4, 1, 1, 2, 2, 3, 0]),
-    (Shape::Triple, CLOSED, [1, 1, 4, 1, 1, 2, 2, 3, 0]),
-    (Shape::Chain, EMPTY, [7, 7, 3, 1, 1, 2, 0, 3, 0]),
-    (Shape::Chain, ONE, [4, 4, 6, 1, 1, 2, 0, 3, 0]),
-    (Shape::Chain, CLOSED, [1, 1, 6, 1, 1, 2, 0, 3, 0]),
-    (Shape::Chain, SHORT_OF_A_BLOCK, [8, 8, 6, 1, 1, 2, 0, 3, 0]),
-    (
-        Shape::Chain,
-        LAST_OF_A_BLOCK,
-        [4, 4, 8 + (BLOCK_SLOTS - 1), 1, 1, 2, 0, 3, 0],
-    ),
+/// The calls of the party that stops, in the order of the steps in a row.
+static FIRST_CALLS: [Call<Item>; 9] = [
+    Call::Push([101; 4]),
+    Call::ForcePush([102; 4]),
+    Call::Pop,
+    Call::Close,
+    Call::IsClosed,
+    Call::IsEmpty,
+    Call::IsFull,
+    Call::Len,
+    Call::Capacity,
 ];
 
-/// Whether the first party is granted a block that it asks for, and the second.
-type Grants = (bool, bool);
+/// The calls of the other party, in the same order.
+static SECOND_CALLS: [Call<Item>; 9] = [
+    Call::Push([201; 4]),
+    Call::ForcePush([202; 4]),
+    Call::Pop,
+    Call::Close,
+    Call::IsClosed,
+    Call::IsEmpty,
+    Call::IsFull,
+    Call::Len,
+    Call::Capacity,
+];
 
-static ALL_GRANTS: [Grants; 4] = [(true, true), (true, false), (false, true), (false, false)];
+/// A queue at a start, and how many steps each call takes there alone, by the tables of the steps.
+#[derive(Clone, Copy)]
+struct Row {
+    shape: Shape,
+    start: Start,
+    steps: [u64; 9],
+}
+
+const EMPTY: Start = Start {
+    pushed: 0,
+    popped: 0,
+    closed: false,
+};
+
+const ONE: Start = Start { pushed: 1, ..EMPTY };
+
+const TWO: Start = Start { pushed: 2, ..EMPTY };
+
+const THREE: Start = Start { pushed: 3, ..EMPTY };
+
+const CLOSED: Start = Start {
+    closed: true,
+    ..ONE
+};
+
+/// One item short of a block.
+const SHORT_OF_A_BLOCK: Start = Start {
+    pushed: BLOCK_SLOTS - 1,
+    ..EMPTY
+};
+
+/// Of a block only the last item is left.
+const LAST_OF_A_BLOCK: Start = Start {
+    pushed: BLOCK_SLOTS,
+    popped: BLOCK_SLOTS - 1,
+    ..EMPTY
+};
+
+static ROWS: [Row; 16] = [
+    Row {
+        shape: Shape::Single,
+        start: EMPTY,
+        steps: [2, 2, 1, 1, 1, 1, 1, 1, 0],
+    },
+    Row {
+        shape: Shape::Single,
+        start: ONE,
+        steps: [1, 3, 2, 1, 1, 1, 1, 1, 0],
+    },
+    Row {
+        shape: Shape::Single,
+        start: CLOSED,
+        steps: [1, 1, 3, 1, 1, 1, 1, 1, 0],
+    },
+    Row {
+        shape: Shape::Pair,
+        start: EMPTY,
+        steps: [4, 4, 3, 1, 1, 2, 2, 3, 0],
+    },
+    Row {
+        shape: Shape::Pair,
+        start: ONE,
+        steps: [4, 4, 4, 1, 1, 2, 2, 3, 0],
+    },
+    Row {
+        shape: Shape::Pair,
+        start: TWO,
+        steps: [3, 5, 4, 1, 1, 2, 2, 3, 0],
+    },
+    Row {
+        shape: Shape::Pair,
+        start: CLOSED,
+        steps: [1, 1, 4, 1, 1, 2, 2, 3, 0],
+    },
+    Row {
+        shape: Shape::Triple,
+        start: EMPTY,
+        steps: [4, 4, 3, 1, 1, 2, 2, 3, 0],
+    },
+    Row {
+        shape: Shape::Triple,
+        start: ONE,
+        steps: [4, 4, 4, 1, 1, 2, 2, 3, 0],
+    },
+    Row {
+        shape: Shape::Triple,
+        start: THREE,
+        steps: [3, 5, 4, 1, 1, 2, 2, 3, 0],
+    },
+    Row {
+        shape: Shape::Triple,
+        start: CLOSED,
+        steps: [1, 1, 4, 1, 1, 2, 2, 3, 0],
+    },
+    Row {
+        shape: Shape::Chain,
+        start: EMPTY,
+        steps: [7, 7, 3, 1, 1, 2, 0, 3, 0],
+    },
+    Row {
+        shape: Shape::Chain,
+        start: ONE,
+        steps: [4, 4, 6, 1, 1, 2, 0, 3, 0],
+    },
+    Row {
+        shape: Shape::Chain,
+        start: CLOSED,
+        steps: [1, 1, 6, 1, 1, 2, 0, 3, 0],
+    },
+    Row {
+        shape: Shape::Chain,
+        start: SHORT_OF_A_BLOCK,
+        steps: [8, 8, 6, 1, 1, 2, 0, 3, 0],
+    },
+    Row {
+        shape: Shape::Chain,
+        start: LAST_OF_A_BLOCK,
+        steps: [4, 4, 8 + (BLOCK_SLOTS - 1), 1, 1, 2, 0, 3, 0],
+    },
+];
+
+/// To whom a block is granted that asks for one.
+#[derive(Clone, Copy, Debug)]
+struct Grants {
+    first: bool,
+    second: bool,
+}
+
+static ALL_GRANTS: [Grants; 4] = [
+    Grants {
+        first: true,
+        second: true,
+    },
+    Grants {
+        first: true,
+        second: false,
+    },
+    Grants {
+        first: false,
+        second: true,
+    },
+    Grants {
+        first: false,
+        second: false,
+    },
+];
 
 /// Party 0 stops after so many steps, party 1 after so many of its own, and then both go on.
 #[derive(Clone, Copy, Debug)]
@@ -133,7 +244,7 @@ pub enum Second {
 pub fn try_stops<R: Print>(rt: &R, alloc: Global, second: Second) -> io::Result<Tally> {
     let mut tally = Tally::zero();
     for row in ROWS.iter() {
-        for grants in grants_of(row.0) {
+        for grants in grants_of(row.shape) {
             try_row(rt, alloc, row, *grants, second, &mut tally)?;
         }
     }
@@ -156,15 +267,12 @@ fn try_row<R: Print>(
     second: Second,
     tally: &mut Tally,
 ) -> io::Result<()> {
-    let (shape, start, steps) = *row;
-    let first = calls_with(numbered(101), numbered(102));
-    let second_calls = calls_with(numbered(201), numbered(202));
-    for (call, alone) in first.iter().zip(steps.iter()) {
+    for (call, alone) in FIRST_CALLS.iter().zip(row.steps.iter()) {
         for stop in 0..alone.wrapping_add(1) {
-            for (other, its_steps) in second_calls.iter().zip(steps.iter()) {
+            for (other, its_steps) in SECOND_CALLS.iter().zip(row.steps.iter()) {
                 let case = Case {
-                    shape,
-                    start,
+                    shape: row.shape,
+                    start: row.start,
                     first: *call,
                     first_stop: stop,
                     second: *other,
@@ -222,7 +330,7 @@ fn judge_events(alloc: Global, case: Case, alone: u64, events: &mut Events) -> R
     run(alloc, case.shape, events, marks.begun, AtEnd::Stopped)?;
     go_on(case.grants, events)?;
     let (times, others) = run(alloc, case.shape, events, marks.begun, AtEnd::Ended)?;
-    if case.grants.0 && !stops_in_time(times, marks, alone) {
+    if case.grants.first && !stops_in_time(times, marks, alone) {
         return Err(Flaw::Steps);
     }
     let waited = case.second_stop == SOLO_STEPS && comes_late(others.ended, marks.after);
@@ -237,10 +345,10 @@ fn stop_both(case: Case, events: &mut Events) -> Result<Marks, Flaw> {
     case.start.reach(events)?;
     let begun = events.len();
     events.begin(0, case.first)?;
-    events.steps(0, case.first_stop, case.grants.0)?;
+    events.steps(0, case.first_stop, case.grants.first)?;
     let stopped = events.len();
     events.begin(1, case.second)?;
-    events.steps(1, case.second_stop, case.grants.1)?;
+    events.steps(1, case.second_stop, case.grants.second)?;
     Ok(Marks {
         begun,
         stopped,
@@ -250,9 +358,9 @@ fn stop_both(case: Case, events: &mut Events) -> Result<Marks, Flaw> {
 
 // The events by which both go on to their ends.
 fn go_on(grants: Grants, events: &mut Events) -> Result<(), Flaw> {
-    events.steps(0, SOLO_STEPS, grants.0)?;
-    events.steps(1, SOLO_STEPS, grants.1)?;
-    events.steps(0, SOLO_STEPS, grants.0)
+    events.steps(0, SOLO_STEPS, grants.first)?;
+    events.steps(1, SOLO_STEPS, grants.second)?;
+    events.steps(0, SOLO_STEPS, grants.first)
 }
 
 // Whether the first call was in the middle where it stopped, or had ended with its last step.

@@ -100,11 +100,16 @@ fn shape_of(dice: &mut Dice) -> Shape {
 // What a list begins with, up to four times over: on a chain as many pushes as bring it to within three items of a block's end, before or behind it.
 fn start_of(shape: Shape, dice: &mut Dice) -> Start {
     match shape {
-        Shape::Chain => {
-            let pushed = dice.roll(6).wrapping_add(BLOCK_SLOTS - 3);
-            Start(pushed, dice.roll(BLOCK_SLOTS + 3), false)
-        }
-        _ => Start(dice.roll(4), dice.roll(3), false),
+        Shape::Chain => Start {
+            pushed: dice.roll(6).wrapping_add(BLOCK_SLOTS - 3),
+            popped: dice.roll(BLOCK_SLOTS + 3),
+            closed: false,
+        },
+        _ => Start {
+            pushed: dice.roll(4),
+            popped: dice.roll(3),
+            closed: false,
+        },
     }
 }
 

@@ -46,7 +46,11 @@ impl Shape {
 
 /// What a queue holds where a case begins: so many items were pushed, and so many of them popped; and whether it was closed then.
 #[derive(Clone, Copy, Debug)]
-pub struct Start(pub u64, pub u64, pub bool);
+pub struct Start {
+    pub pushed: u64,
+    pub popped: u64,
+    pub closed: bool,
+}
 
 /// How many steps a push takes at most where the party is alone.
 const PUSH_STEPS: u64 = 8;
@@ -69,15 +73,14 @@ fn push_steps(before: u64) -> u64 {
 impl Start {
     /// The events by which party 0 brings an empty queue there.
     pub fn reach(self, events: &mut Events) -> Result<(), Flaw> {
-        let Start(pushed, popped, closed) = self;
-        for before in 0..pushed {
+        for before in 0..self.pushed {
             let item = numbered(before.wrapping_add(1));
             events.call(0, Call::Push(item), push_steps(before))?;
         }
-        for _ in 0..popped {
+        for _ in 0..self.popped {
             events.call(0, Call::Pop, POP_STEPS)?;
         }
-        if closed {
+        if self.closed {
             events.call(0, Call::Close, WAIT_FREE_STEPS)?;
         }
         Ok(())
