@@ -5,15 +5,15 @@ use Rattle.app_text.specs.{Actions.replay_line_text, Actions.IsReplayLine, Calls
 use Rattle.app_threads.specs.{Counts.IsCounted, Counts.IsCountsLine, Counts.IsReceived, Counts.IsReceivedText, Meetings.Handshake, Meetings.IsHandshakeText, Verdicts.verdict_status, Verdicts.IsOutputFault, declared.sharing.Sharing.Sharing, declared.verdict.Verdict.Verdict, declared.verdict.Verdict.Verdict as verdict}
 use Rattle.app_command.specs.{Reports.IsReport, Runs.IsRun, Runs.IsRunFault, Runs.IsPartRunFault, Scripts.IsTranscript}
 
--- the arguments ask for this form
+-- the arguments ask for this mode
 abbrev pub AskFor : List (List ℕ) → Mode → Type 0
 AskFor words f = IsMode f × (mode_words f ≡ words)
 
--- the arguments ask for a form
+-- the arguments ask for a mode
 abbrev pub AskForMode : List (List ℕ) → Type 0
 AskForMode words = (f : Mode) × AskFor words f
 
--- the work of the form was done by threads that shared this, and has shown this
+-- the work of the mode was done by threads that shared this, and has shown this
 abbrev pub Does : Mode → Sharing → Option (List ℕ) → Option (List ℕ) → Option (List ℕ) → Verdict → Type 0
 Does (mode.Script k) shared known old new v = (v ≡ verdict.Right) × IsRun IsCallOfWord call_text (IsTranscript k) known old new
 Does (mode.Replay k parties) shared known old new v = (v ≡ verdict.Right) × IsRun IsReplayLine replay_line_text (IsReport k parties) known old new
@@ -21,7 +21,7 @@ Does (mode.Threads l) shared known old new v = IsCounted l shared old new v
 Does mode.Handshake shared known old new v = Handshake shared old new v
 Does (mode.Channel l) shared known old new v = IsReceived l shared old new v
 
--- the work of the form, by threads that shared this, met this fault
+-- the work of the mode, by threads that shared this, met this fault
 abbrev pub Fails : Mode → Sharing → Option (List ℕ) → Option (List ℕ) → Option (List ℕ) → Fault → Type 0
 Fails (mode.Script k) shared known old new why = IsPartRunFault IsCallOfWord call_text (IsTranscript k) known old new why
 Fails (mode.Replay k parties) shared known old new why = IsRunFault IsReplayLine replay_line_text (IsReport k parties) known old new why
@@ -29,7 +29,7 @@ Fails (mode.Threads l) shared known old new why = IsOutputFault (IsCountsLine l 
 Fails mode.Handshake shared known old new why = IsOutputFault (IsHandshakeText shared) old new why
 Fails (mode.Channel l) shared known old new why = IsOutputFault (IsReceivedText l shared) old new why
 
--- why the work was not done: the arguments ask for no form, or what they ask for met a fault
+-- why the work was not done: the arguments ask for no mode, or what they ask for met a fault
 abbrev pub IsFaultOf : List (List ℕ) → Sharing → Option (List ℕ) → Option (List ℕ) → Option (List ℕ) → Fault → Type 0
 IsFaultOf words shared known old new fault.Usage = (AskForMode words → ⊥) × Keeps old new
 IsFaultOf words shared known old new why = (f : Mode) × AskFor words f × Fails f shared known old new why

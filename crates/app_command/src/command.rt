@@ -30,7 +30,7 @@ pub struct Exit {
 
 /// Does what the arguments after the program's name say, and answers the status to end with. Hands on what threads shared.
 ///
-/// Scripts and replays take their memory of `alloc`. Threads are started, and wait, in the forms `threads`, `handshake` and `channel` alone, which take theirs of
+/// Scripts and replays take their memory of `alloc`. Threads are started, and wait, in the modes `threads`, `handshake` and `channel` alone, which take theirs of
 /// the allocator of `rt`. A fault is told on `faults`. Where it cannot be written there, the status is the same.
 pub fn command<R: Threads + Wait + Sync + AllocGlobal, A: Allocator, I: Read, O: Write, F: Write>(
     rt: &R,

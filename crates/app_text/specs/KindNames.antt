@@ -1,4 +1,4 @@
--- The words that name a kind of queue, and the arguments that name a form.
+-- The words that name a kind of queue, and the arguments that name a mode.
 use Rattle.std.specs.Prelude.{◌≡◌, ℕ, ◌<◌, ◌≤◌, ◌*◌, ◌%◌, ◌==◌, if◌then◌else◌, List, [], ◌∷◌, ◌++◌, codes, Option}
 use Rattle.std.specs.Fmt.{decimal}
 use Rattle.queue_steps.specs.{Next.capacity_of as capacity_of_kind, declared.steps.types.Kind.Kind, declared.steps.types.Kind.Kind as queue}

@@ -40,7 +40,7 @@ impl KindName {
     }
 }
 
-/// What the program is to do, which its texts call a form.
+/// What the program is to do.
 #[derive(Clone, Copy)]
 pub enum Mode {
     /// Runs a script on a queue with one owner.
@@ -55,16 +55,16 @@ pub enum Mode {
     Channel(Load),
 }
 
-/// The form that the arguments name, if they name one.
+/// The mode that the arguments name, if they name one.
 pub fn parse_mode(args: &[String]) -> Option<Mode>
     ensures { IsReading IsMode mode_words (map string_bytes args.now) result }
 {
     match args {
-        [form] => handshake_mode(form.as_str()),
-        [form, kind] => script_mode(form.as_str(), kind.as_str()),
-        [form, kind, parties] => replay_mode(form.as_str(), kind.as_str(), parties.as_str()),
-        [form, kind, pushers, poppers, items] => load_mode(
-            form.as_str(),
+        [mode] => handshake_mode(mode.as_str()),
+        [mode, kind] => script_mode(mode.as_str(), kind.as_str()),
+        [mode, kind, parties] => replay_mode(mode.as_str(), kind.as_str(), parties.as_str()),
+        [mode, kind, pushers, poppers, items] => load_mode(
+            mode.as_str(),
             kind.as_str(),
             pushers.as_str(),
             poppers.as_str(),
@@ -74,31 +74,31 @@ pub fn parse_mode(args: &[String]) -> Option<Mode>
     }
 }
 
-// The form that this word names.
-fn handshake_mode(form: &str) -> Option<Mode>
-    ensures { IsReading IsMode mode_words (form.now ∷ []) result }
+// The mode that this word names.
+fn handshake_mode(mode: &str) -> Option<Mode>
+    ensures { IsReading IsMode mode_words (mode.now ∷ []) result }
 {
-    match form {
+    match mode {
         "handshake" => Some(Mode::Handshake),
         _ => None,
     }
 }
 
-// The form that these two words name.
-fn script_mode(form: &str, kind: &str) -> Option<Mode>
-    ensures { IsReading IsMode mode_words (form.now ∷ kind.now ∷ []) result }
+// The mode that these two words name.
+fn script_mode(mode: &str, kind: &str) -> Option<Mode>
+    ensures { IsReading IsMode mode_words (mode.now ∷ kind.now ∷ []) result }
 {
-    match form {
+    match mode {
         "script" => Some(Mode::Script(parse_kind(kind)?)),
         _ => None,
     }
 }
 
-// The form that these three words name.
-fn replay_mode(form: &str, kind: &str, parties: &str) -> Option<Mode>
-    ensures { IsReading IsMode mode_words (form.now ∷ kind.now ∷ parties.now ∷ []) result }
+// The mode that these three words name.
+fn replay_mode(mode: &str, kind: &str, parties: &str) -> Option<Mode>
+    ensures { IsReading IsMode mode_words (mode.now ∷ kind.now ∷ parties.now ∷ []) result }
 {
-    match form {
+    match mode {
         "replay" => Some(Mode::Replay(parse_kind(kind)?, parse_parties(parties)?)),
         _ => None,
     }
@@ -115,11 +115,11 @@ fn parse_parties(text: &str) -> Option<usize>
     Some(count as usize)
 }
 
-// The form that these five words name.
-fn load_mode(form: &str, kind: &str, pushers: &str, poppers: &str, items: &str) -> Option<Mode>
-    ensures { IsReading IsMode mode_words (form.now ∷ kind.now ∷ pushers.now ∷ poppers.now ∷ items.now ∷ []) result }
+// The mode that these five words name.
+fn load_mode(mode: &str, kind: &str, pushers: &str, poppers: &str, items: &str) -> Option<Mode>
+    ensures { IsReading IsMode mode_words (mode.now ∷ kind.now ∷ pushers.now ∷ poppers.now ∷ items.now ∷ []) result }
 {
-    match form {
+    match mode {
         "threads" => Some(Mode::Threads(parse_even_load(kind, pushers, poppers, items)?)),
         "channel" => Some(Mode::Channel(parse_load(kind, pushers, poppers, items)?)),
         _ => None,

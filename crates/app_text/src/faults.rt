@@ -7,7 +7,7 @@ use std::fmt;
 /// Why a run ended before its work was done.
 #[derive(Clone, Copy)]
 pub enum Fault {
-    /// The arguments ask for no form.
+    /// The arguments ask for no mode.
     Usage,
     /// The line of this number, counted from 1, is the first that cannot be read.
     Unreadable(usize),

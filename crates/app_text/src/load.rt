@@ -1,4 +1,4 @@
-//! What the forms `threads` and `channel` are asked for.
+//! What the modes `threads` and `channel` are asked for.
 ghost use Rattle.std.specs.Prelude.{[], ◌∷◌};
 ghost use Rattle.std.specs.Fmt.{decimal};
 ghost use Rattle.app_text.specs.Reading.{IsReading};

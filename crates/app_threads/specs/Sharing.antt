@@ -3,11 +3,11 @@ use Rattle.std.specs.Prelude.{◌≡◌, ℕ, List, Option, length}
 use Rattle.queue_steps.specs.{Shares.IsEntire, Parties.IsView, Effect.after}
 use Rattle.concurrent_queue.specs.Shared.{IsPartyOf, PartyView}
 use Rattle.law_parties.specs.Doings.{SawClosed, takes}
-use Rattle.app_threads.specs.declared.sharing.{Shared.Shared, EndedChannel.EndedChannel}
+use Rattle.app_threads.specs.declared.sharing.{EndedQueue.EndedQueue, EndedChannel.EndedChannel}
 
 -- The queue is of this capacity. The party is one of this queue's, and has all of the share: all parties have become this one, what it has seen is the
 -- history of everything that was done, and every place of that is its own
-pub record HasWholeParty (cap : Option ℕ) (s : Shared) : Type 0 where
+pub record HasWholeParty (cap : Option ℕ) (s : EndedQueue) : Type 0 where
   pub of : IsPartyOf s.party s.queue
   pub capped : s.queue.cap ≡ cap
   pub seen : IsView cap s.party.view

@@ -1,4 +1,4 @@
-//! The form `channel`: how often each value came through a channel whose ends threads have.
+//! The mode `channel`: how often each value came through a channel whose ends threads have.
 ghost use Rattle.std.specs.Prelude.{◌≡◌, ◌<◌, ◌≤◌, ◌+◌, ◌*◌, ◌^◌, ℕ, length, get_or, IfOk, MatchResult};
 ghost use Rattle.std.specs.Io.KnownBytes.{Appends};
 ghost use Rattle.std.specs.Option.{IfSome};

@@ -1,4 +1,4 @@
-//! The form `handshake`: two threads that hand an item to each other.
+//! The mode `handshake`: two threads that hand an item to each other.
 ghost use Rattle.std.specs.Prelude.{◌≡◌, ◌<◌, ◌&&◌, true, IfOk, MatchResult};
 ghost use Rattle.std.specs.Io.KnownBytes.{Appends};
 ghost use Rattle.concurrent_queue.specs.Shared.{IsPartyOf};
@@ -9,7 +9,7 @@ ghost use denote.Param.Send.{IsSync};
 
 use crate::crew::Queue;
 use crate::limit::Limit;
-use crate::sharing::{Ran, Shared, Sharing};
+use crate::sharing::{EndedQueue, Ran, Sharing};
 use crate::verdict::Verdict;
 use app_text::faults::Fault;
 use app_text::streams::write_output;
@@ -123,11 +123,11 @@ fn shake_hands<R: Threads + Wait + Sync>(
     };
     hands.sends.show_view();
     hands.takes.show_view();
-    let there = Shared {
+    let there = EndedQueue {
         queue: there,
         party: hands.sends,
     };
-    let back = Shared {
+    let back = EndedQueue {
         queue: back,
         party: hands.takes,
     };

@@ -7,7 +7,7 @@ use counted_channel::Channel;
 
 /// A queue that threads shared, and the party that all of theirs have become.
 #[derive(Drop)]
-pub struct Shared {
+pub struct EndedQueue {
     pub queue: Queue,
     pub party: Party<u64>,
 }
@@ -25,9 +25,9 @@ pub enum Sharing {
     /// Nothing: the run started no threads, or not all of them did their part.
     Nothing,
     /// The queue through which they counted.
-    Counted(Shared),
+    Counted(EndedQueue),
     /// The two queues by which two threads handed an item to each other: there, and back.
-    Met(Shared, Shared),
+    Met(EndedQueue, EndedQueue),
     /// The channel through which they counted.
     Ended(EndedChannel),
 }

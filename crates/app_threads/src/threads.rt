@@ -1,4 +1,4 @@
-//! The form `threads`: how often each value came out of a queue that threads share.
+//! The mode `threads`: how often each value came out of a queue that threads share.
 ghost use Rattle.std.specs.Prelude.{◌≡◌, ◌<◌, ◌≤◌, ◌+◌, ◌*◌, ◌^◌, ℕ, [], length, get_or, IfOk, MatchResult};
 ghost use Rattle.std.specs.Io.KnownBytes.{Appends};
 ghost use Rattle.std.specs.Option.{IfSome};
@@ -14,7 +14,7 @@ ghost use Rattle.app_threads.specs.Verdicts.{IsOutputFault};
 use crate::counts::{Finding, judge};
 use crate::crew::{Plan, Queue, WorkResult, run_all};
 use crate::limit::Limit;
-use crate::sharing::{Ran, Shared, Sharing};
+use crate::sharing::{EndedQueue, Ran, Sharing};
 use crate::verdict::Verdict;
 use app_text::args::KindName;
 use app_text::faults::Fault;
@@ -93,7 +93,7 @@ fn count_all<R: Threads + Wait + Sync>(
     alloc: Global,
     load: Load,
     limit: Limit,
-) -> Result<(Shared, Vec<u64>), AllocError>
+) -> Result<(EndedQueue, Vec<u64>), AllocError>
     requires { IsLoad load }
     ensures within { IfOk result (λ _. IfSome (capacity_of load.kind) (λ size. size ≤ MAX_CAPACITY)) }
     ensures all { IfOk result (λ r. HasWholeParty (capacity_of load.kind) r.0) }
@@ -110,7 +110,7 @@ fn count_all<R: Threads + Wait + Sync>(
         return Err(AllocError);
     }
     party.show_view();
-    Ok((Shared { queue, party }, counts))
+    Ok((EndedQueue { queue, party }, counts))
 }
 
 /// An empty open queue of this kind, and its only party.

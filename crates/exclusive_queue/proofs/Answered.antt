@@ -5,11 +5,11 @@ use Rattle.queue_steps.specs.{State.State, State.is_full, declared.model.Call.Ca
 use Rattle.call_driver.specs.Apart.{AnswersApart}
 
 -- a reply that is filled, if it is, answers the call that its kind answers
-abbrev Keeps : {T : Type 0} → Option (Reply T) → Call Unit → Type 0
-Keeps None k = Unit
-Keeps (Some x) k = call_of_reply x ≡ k
+abbrev AnswersCall : {T : Type 0} → Option (Reply T) → Call Unit → Type 0
+AnswersCall None k = Unit
+AnswersCall (Some x) k = call_of_reply x ≡ k
 
-filled-keeps : {T : Type 0} (r : Reply Unit) (y : Option T) → Keeps (filled r y) (call_of_reply r)
+filled-keeps : {T : Type 0} (r : Reply Unit) (y : Option T) → AnswersCall (filled r y) (call_of_reply r)
 filled-keeps (reply.Push (Ok u)) None = refl
 filled-keeps (reply.Push (Ok u)) (Some v) = tt
 filled-keeps (reply.Push (Err (push.Full u))) None = tt
@@ -52,5 +52,5 @@ sequential-answered P R c x (inr s) = absurd s.0
 -- the kind of the reply tells the call
 pub apart-answered : {T : Type 0} (P R : Owned T) (c : Call T) (r : Reply Unit) (y : Option T) → AnswersApart P c r y R → call_of_reply r ≡ call_kind c
 apart-answered P R c r y told =
-    let kept : call_of_reply told.0 ≡ call_of_reply r = subst (λ it. Keeps it (call_of_reply r)) told.1 (filled-keeps r y) in
+    let kept : call_of_reply told.0 ≡ call_of_reply r = subst (λ it. AnswersCall it (call_of_reply r)) told.1 (filled-keeps r y) in
     sym kept ∙ sequential-answered P R c told.0 told.2

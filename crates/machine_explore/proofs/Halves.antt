@@ -6,7 +6,7 @@ use Rattle.queue_laws.specs.Chain.ChainAt as chain
 use Rattle.queue_laws.specs.{Chain.ChainCells.Chain, Common.Stand.Stand, Ring.RingCells.Ring, Slot.SlotHolder.SlotHolder}
 use Rattle.queue_laws.specs.Ring.RingAt as ring
 use Rattle.queue_laws.specs.Slot.SlotRows as slot
-use Rattle.machine_memory.specs.{declared.calls.Running.Running, declared.types.Event.Event, SharedMemory.Shared}
+use Rattle.machine_memory.specs.{declared.calls.Running.Running, declared.types.Event.Event, SharedMemory.MemoryState}
 use Rattle.machine_steps.specs.{Left.opening_world, World.call_at}
 use Rattle.machine_replay.specs.{Book.Open, Played.local_in, Played.world_after, Progress.Standing as CallStanding, Progress.Between, Progress.Undone, Progress.HalfDone, Progress.standing, Replays.CanReplay, Replays.is_too_large}
 use Rattle.machine_replay.proofs.{Chain.Stretch.chain_rules, Ring.Stretch.ring_rules, Slot.Stretch.slot_rules, Progress.Standings.Agrees, Progress.Stretch.Rules, Progress.Stretch.Party, Progress.Stretch.first, Progress.Stretch.reach}
@@ -42,7 +42,7 @@ chain_half x = refl
 
 -- whatever the kind of queue
 abbrev HalfTold : (k : Kind) → Rules ℕ k → Type 0
-HalfTold k rules = (busy : ℕ) (s : Shared ℕ) (Q : State ℕ) (g : rules.G) (p : ℕ) (r : Running ℕ) (o : Open ℕ) → rules.Fits busy s Q g p r o → is_half_done_at (Some r.local) ≡ has_some o.effects
+HalfTold k rules = (busy : ℕ) (s : MemoryState ℕ) (Q : State ℕ) (g : rules.G) (p : ℕ) (r : Running ℕ) (o : Open ℕ) → rules.Fits busy s Q g p r o → is_half_done_at (Some r.local) ≡ has_some o.effects
 
 some_if : {X : Type 0} (xs : List X) → xs ≢ [] → has_some xs ≡ true
 unfolding has_some
@@ -54,7 +54,7 @@ unfolding has_some
 none_if xs e = rw e refl
 
 module _ (k : Kind) (rules : Rules ℕ k) (tells : HalfTold k rules) (parties : ℕ) where
-  by_call : (busy : ℕ) (s : Shared ℕ) (Q : State ℕ) (g : rules.G) (q : ℕ) (z : CallStanding) (x : Option (Running ℕ)) (y : Option (Open ℕ)) → Party ℕ k rules parties busy s Q g q x y → Agrees z y → is_half_done z ≡ is_half_done_at (local_in x)
+  by_call : (busy : ℕ) (s : MemoryState ℕ) (Q : State ℕ) (g : rules.G) (q : ℕ) (z : CallStanding) (x : Option (Running ℕ)) (y : Option (Open ℕ)) → Party ℕ k rules parties busy s Q g q x y → Agrees z y → is_half_done z ≡ is_half_done_at (local_in x)
   by_call busy s Q g q Between None None h a = refl
   by_call busy s Q g q Undone x None h a = let is = a.1 in cc
   by_call busy s Q g q HalfDone x None h a = let is = a.1 in cc

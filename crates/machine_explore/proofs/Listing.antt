@@ -4,7 +4,7 @@ use Rattle.std.specs.{Prelude.Contains, List.range_with_len}
 use Rattle.std.proofs.lemmas.Bool.{le-ltb, lt-ltb}
 use Rattle.queue_steps.specs.declared.model.Reply.{Reply}
 use Rattle.machine_steps.specs.{Left.left_of, Left.opening_world, Steps.start_of, Steps.step_of, World.World}
-use Rattle.machine_memory.specs.{SharedMemory.Shared, declared.calls.Running.Running, declared.types.Event.Event, declared.types.Told.Told, declared.types.Told.TheVariants.Skipped, declared.types.Told.TheVariants.Ran}
+use Rattle.machine_memory.specs.{SharedMemory.MemoryState, declared.calls.Running.Running, declared.types.Event.Event, declared.types.Told.Told, declared.types.Told.TheVariants.Skipped, declared.types.Told.TheVariants.Ran}
 use Rattle.machine_replay.specs.{Conforms.entries_from, Conforms.party_of, Conforms.reply_entry, Played.told_of, Played.world_after}
 use Rattle.machine_replay.proofs.Replays.Serving.{served_is_exact}
 use Rattle.machine_explore.specs.{Explored.outcome_of_run, Explored.replies_by, Listed.ReplaysAreListed, Listed.outcome_from, Listed.replies_from, Moves.reply_in, Positions.Outcome}
@@ -58,10 +58,10 @@ map_alike f g (x ∷ xs) alike = ap (λ y. y ∷ map f xs) (alike x) ∙ ap (λ 
 pub replays_are_listed : {A : Type 0} → ReplaysAreListed A
 replays_are_listed {A} k refuses before calls outcomes first rest r no_other run played served = subst (λ o. Contains outcomes o) (sym same) (no_other first rest run)
   where
-    start : World (Shared ℕ) (Running ℕ)
+    start : World (MemoryState ℕ) (Running ℕ)
     start = opening_world k (length calls)
 
-    w : World (Shared ℕ) (Running ℕ)
+    w : World (MemoryState ℕ) (Running ℕ)
     w = world_after k start first
 
     entries : r.replies.items ≡ entries_from reply_entry 0 first (told_of k start first) ++ entries_from reply_entry (length first) rest (told_of k w rest)

@@ -4,12 +4,12 @@ use Rattle.std.specs.{Prelude.slice_index_or, Prelude.Contains, Prelude.IfOk, Li
 use Rattle.std.proofs.lemmas.List.{get_or-map, get_or-replicate, length-map, same_lists, Elements.All-contains, Elements.All-weaker, FromFn.get_or-map-range_with_len, FromFn.length-map-range_with_len}
 use Rattle.queue_steps.specs.declared.{model.Call.Call, model.Reply.Reply, steps.types.Kind.Kind}
 use Rattle.machine_steps.specs.{Left.left_of, Left.opening_world, Steps.start_of, Steps.step_of, World.World}
-use Rattle.machine_memory.specs.{SharedMemory.Shared, declared.calls.Running.Running, declared.types.Event.Event}
+use Rattle.machine_memory.specs.{SharedMemory.MemoryState, declared.calls.Running.Running, declared.types.Event.Event}
 use Rattle.machine_explore.specs.{Explored.HasNoOther, Explored.IsGranted, Explored.Prepares, Explored.begun_by, Explored.outcome_of, Explored.replies_by, Moves.led, Positions.IsFinal, Positions.Outcome, Positions.Progress, Positions.Standing, Positions.calls_of, Positions.no_progress, Positions.outcome_at, Positions.progress_of, Starts.IsStart, Tables.EndsAmong, Tables.IsClosed, Tables.IsInside, Tables.StaysForAll}
 use Rattle.machine_replay.specs.Played.{told_of, world_after}
 use Rattle.machine_explore.proofs.{Preparing.PreparesBy, Preparing.prepared_once, Reaching.Arrives, Reaching.Begins, Reaching.reaches}
 
-pub as_prepared : (k : Kind) (w : World (Shared ℕ) (Running ℕ)) (before : List (Call ℕ)) (events : List (Event ℕ)) → Prepares k w before events → PreparesBy (step_of k) (start_of k) w before events
+pub as_prepared : (k : Kind) (w : World (MemoryState ℕ) (Running ℕ)) (before : List (Call ℕ)) (events : List (Event ℕ)) → Prepares k w before events → PreparesBy (step_of k) (start_of k) w before events
 as_prepared k w before events all = record { alone = all.alone; begins = all.begins; rests = all.rests }
 
 -- a run starts where the check starts
@@ -23,7 +23,7 @@ pub none_begun : (k : Kind) (before : List (Call ℕ)) (parties p : ℕ) (s : St
 none_begun k before parties p s start h = ap (λ l. slice_index_or l p no_progress) start.none_begun ∙ get_or-replicate parties p no_progress no_progress h
 
 -- what a standing ends with, told by the events that led there
-pub ends_with : (k : Kind) (calls : List (List (Call ℕ))) (w : World (Shared ℕ) (Running ℕ)) (rest : List (Event ℕ)) (end : Standing) → end.kind ≡ k → end.world ≡ world_after k w rest → length end.parties ≡ length calls
+pub ends_with : (k : Kind) (calls : List (List (Call ℕ))) (w : World (MemoryState ℕ) (Running ℕ)) (rest : List (Event ℕ)) (end : Standing) → end.kind ≡ k → end.world ≡ world_after k w rest → length end.parties ≡ length calls
     → ((p : ℕ) → p < length calls → (progress_of end p).replies ≡ replies_by p rest (told_of k w rest)) → outcome_at end ≡ outcome_of k (length calls) w rest
 ends_with k calls w rest end kind world parties replies =
     let told : ℕ → List (Reply ℕ) = λ p. replies_by p rest (told_of k w rest) in
@@ -39,7 +39,7 @@ ends_with k calls w rest end kind world parties replies =
     ap (λ l. record { replies = l; left = left_of end.kind end.world }) lists ∙ ap (λ l. record { replies = map told (range_with_len 0 (length calls)); left = l }) left
 
 -- wherever the events of a run lead, begun where the table says, the table has it
-pub arrives : (k : Kind) (refuses : Bool) (before : List (Call ℕ)) (calls : List (List (Call ℕ))) (table : List Standing) (left : ℕ → List (Call ℕ)) (c : IsClosed k refuses before calls table) (w : World (Shared ℕ) (Running ℕ)) (rest : List (Event ℕ))
+pub arrives : (k : Kind) (refuses : Bool) (before : List (Call ℕ)) (calls : List (List (Call ℕ))) (table : List Standing) (left : ℕ → List (Call ℕ)) (c : IsClosed k refuses before calls table) (w : World (MemoryState ℕ) (Running ℕ)) (rest : List (Event ℕ))
     → c.start.world ≡ w → (refuses ≡ false → All IsGranted rest) → ((p : ℕ) → p < length calls → begun_by p rest (told_of k w rest) ++ left p ≡ calls_of calls p)
     → (end : Standing) × Contains table end × Arrives (step_of k) (start_of k) calls c.start rest end
 arrives k refuses before calls table left c w rest same grants all =

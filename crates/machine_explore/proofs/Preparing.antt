@@ -4,7 +4,7 @@ use Rattle.std.specs.List.{All}
 use Rattle.std.proofs.lemmas.List.{append_cancel_left, Elements.All-head, Elements.All-tail}
 use Rattle.queue_steps.specs.declared.model.{Call.Call, Reply.Reply}
 use Rattle.machine_replay.specs.{Conforms.party_of, Played.told_by, Played.world_by}
-use Rattle.machine_steps.specs.World.{Begun, Made, World, call_at, world_event}
+use Rattle.machine_steps.specs.World.{Begun, StepOutcome, World, call_at, world_event}
 use Rattle.machine_memory.specs.declared.types.{EffectKind.EffectKind, Event.Event, Event.TheVariants.Begin, Event.TheVariants.Step, Told.Told, Told.TheVariants.Skipped, Told.TheVariants.Ran}
 use Rattle.machine_explore.specs.{Explored.IsPreparing, Explored.begun_by, Moves.call_in}
 use Rattle.machine_explore.proofs.{Reaching.begun-own, Reaching.begun-skipped, Walks.CanTake, Walks.WentOn, Walks.went_on}
@@ -43,7 +43,7 @@ same_event (Some r) (Step p g) (Begin q d) t u before r1 r2 a b can1 can2 ran1 r
 same_event None (Step p g) f t u before r1 r2 a b can1 can2 ran1 ran2 x y = absurd can1
 same_event None (Begin p c) (Step q h) t u before r1 r2 a b can1 can2 ran1 ran2 x y = absurd can2
 
-module _ {S R T : Type 0} (step : Bool → S → R → Made S R T) (start : Call T → Begun R T) where
+module _ {S R T : Type 0} (step : Bool → S → R → StepOutcome S R T) (start : Call T → Begun R T) where
   -- from w on party 0, alone, makes these calls, and is between calls then
   pub record PreparesBy (w : World S R) (before : List (Call T)) (events : List (Event T)) : Type 0 where
     pub alone : All IsPreparing events

@@ -4,13 +4,13 @@ use Rattle.std.specs.{Prelude.slice_get, Prelude.Contains, Prelude.⊤, Prelude.
 use Rattle.std.proofs.lemmas.{Bool.eq-eqb, Bool.Decides.eqb_tells, List.get_or-set_same, List.get_or-set_other, List.length-set, List.Elements.All-contains, List.Elements.All-head, List.Elements.All-tail}
 use Rattle.queue_steps.specs.declared.model.Call.{Call}
 use Rattle.machine_replay.specs.{Conforms.party_of, Played.told_by, Played.world_by}
-use Rattle.machine_steps.specs.World.{Begun, Made, World, call_at, world_event}
+use Rattle.machine_steps.specs.World.{Begun, StepOutcome, World, call_at, world_event}
 use Rattle.machine_memory.specs.declared.types.{Event.Event, Event.TheVariants.Begin, Event.TheVariants.Step, Told.Told, Told.TheVariants.Skipped}
 use Rattle.machine_explore.specs.{Explored.begun_by, Explored.replies_by, Explored.IsGranted, Moves.advanced, Moves.call_in, Moves.event_at, Moves.event_for, Moves.led_by, Moves.reply_in, Positions.Configuration, Positions.Progress, Positions.calls_of, Positions.no_progress, Positions.progress_of, Tables.StaysForAll}
 use Rattle.machine_explore.proofs.Walks.{CanTake, WentOn, granted_of, left_over, next_call, went_on}
 
 -- the run of these events from s ends there
-pub record Arrives {S R T : Type 0} (step : Bool → S → R → Made S R T) (start : Call T → Begun R T) (calls : List (List (Call T))) (s : Configuration S R T) (events : List (Event T)) (end : Configuration S R T) : Type 0 where
+pub record Arrives {S R T : Type 0} (step : Bool → S → R → StepOutcome S R T) (start : Call T → Begun R T) (calls : List (List (Call T))) (s : Configuration S R T) (events : List (Event T)) (end : Configuration S R T) : Type 0 where
   pub kind : end.kind ≡ s.kind
   pub world : end.world ≡ world_by step start s.world events
   pub parties : length end.parties ≡ length calls
@@ -18,7 +18,7 @@ pub record Arrives {S R T : Type 0} (step : Bool → S → R → Made S R T) (st
   pub replies : (p : ℕ) → p < length calls → (progress_of end p).replies ≡ (progress_of s p).replies ++ replies_by p events (told_by step start s.world events)
 
 -- of the calls that are left to it to begin each party begins the first, and so many are left behind them
-abbrev pub Begins : {S R T : Type 0} → (Bool → S → R → Made S R T) → (Call T → Begun R T) → List (List (Call T)) → (ℕ → List (Call T)) → Configuration S R T → List (Event T) → Type 0
+abbrev pub Begins : {S R T : Type 0} → (Bool → S → R → StepOutcome S R T) → (Call T → Begun R T) → List (List (Call T)) → (ℕ → List (Call T)) → Configuration S R T → List (Event T) → Type 0
 Begins step start calls left s events = (p : ℕ) → p < length calls → begun_by p events (told_by step start s.world events) ++ left p ≡ drop (progress_of s p).begun (calls_of calls p)
 
 -- there are as many parties as lists of calls
@@ -69,11 +69,11 @@ event_fits {S} {R} {T} calls s e made rest went begins =
         next_call (calls_of calls (party_of e)) (progress_of s (party_of e)).begun c rest (ap (λ l. l ++ rest) (sym first) ∙ begins)
 
 -- what an event adds to the progress of a party
-pub progress-own : {S R T : Type 0} (step : Bool → S → R → Made S R T) (start : Call T → Begun R T) (s : Configuration S R T) (e : Event T) → party_of e < length s.parties
+pub progress-own : {S R T : Type 0} (step : Bool → S → R → StepOutcome S R T) (start : Call T → Begun R T) (s : Configuration S R T) (e : Event T) → party_of e < length s.parties
     → progress_of (led_by step start s e) (party_of e) ≡ advanced (progress_of s (party_of e)) e (world_event step start s.world true e).1
 progress-own step start s e inside = get_or-set_same s.parties (party_of e) _ no_progress inside
 
-pub progress-other : {S R T : Type 0} (step : Bool → S → R → Made S R T) (start : Call T → Begun R T) (s : Configuration S R T) (e : Event T) (q : ℕ) → party_of e ≢ q
+pub progress-other : {S R T : Type 0} (step : Bool → S → R → StepOutcome S R T) (start : Call T → Begun R T) (s : Configuration S R T) (e : Event T) (q : ℕ) → party_of e ≢ q
     → progress_of (led_by step start s e) q ≡ progress_of s q
 progress-other step start s e q other = get_or-set_other s.parties (party_of e) q _ no_progress (λ is. other (sym is))
 
@@ -97,7 +97,7 @@ begun-skipped e es ts q = ap (λ l. (if party_of e == q then l else []) ++ begun
 replied-skipped : {T : Type 0} (e : Event T) (es : List (Event T)) (ts : List (Told T)) (q : ℕ) → replies_by q (e ∷ es) (Skipped ∷ ts) ≡ replies_by q es ts
 replied-skipped e es ts q = ap (λ l. l ++ replies_by q es ts) (if-nothing (party_of e == q))
 
-module _ {S R T : Type 0} (step : Bool → S → R → Made S R T) (start : Call T → Begun R T) (calls : List (List (Call T))) (left : ℕ → List (Call T)) where
+module _ {S R T : Type 0} (step : Bool → S → R → StepOutcome S R T) (start : Call T → Begun R T) (calls : List (List (Call T))) (left : ℕ → List (Call T)) where
   -- past an event that was skipped
   begins-skipped : (s : Configuration S R T) (e : Event T) (es : List (Event T)) → world_event step start s.world true e ≡ (s.world, Skipped) → Begins step start calls left s (e ∷ es) → Begins step start calls left s es
   begins-skipped s e es skips begins p h =

@@ -4,7 +4,7 @@ use Rattle.std.specs.Prelude.{map}
 use Rattle.queue_steps.specs.declared.{model.Reply.Reply, model.Call.Call, steps.types.Kind.Kind, steps.types.Local.Local}
 use Rattle.machine_steps.specs.{Left.left_of, Machine.event_of, World.World, World.call_at}
 use Rattle.machine_replay.specs.{Conforms.party_of, MachineRuns.KeepsRun, MachineRuns.IsSomeMachineRun, Played.local_in, declared.machine_run.MachineRun.MachineRun}
-use Rattle.machine_memory.specs.{SharedMemory.Shared, declared.calls.Running.Running, declared.types.Event.Event, declared.types.Told.Told}
+use Rattle.machine_memory.specs.{SharedMemory.MemoryState, declared.calls.Running.Running, declared.types.Event.Event, declared.types.Told.Told}
 use Rattle.machine_explore.specs.{Moves.event_at, Moves.led, Positions.Outcome, Positions.Progress, Positions.Standing, Positions.outcome_at, Traces.IsSeen, Traces.Seen, declared.schedule.Move.Move}
 use Rattle.machine_explore.proofs.Showing.{event_party}
 
@@ -12,10 +12,10 @@ pub copied-some : {T A : Type 0} (c d : MachineRun T A) → KeepsRun c d → IsS
 copied-some c d same on = (on.0, on.1, on.2, on.3, same on.0 on.1 on.2 on.3 on.4)
 
 -- a standing, part by part
-pub standing_is : (s : Standing) (kind : Kind) (world : World (Shared ℕ) (Running ℕ)) (parties : List (Progress ℕ)) → kind ≡ s.kind → world ≡ s.world → parties ≡ s.parties
+pub standing_is : (s : Standing) (kind : Kind) (world : World (MemoryState ℕ) (Running ℕ)) (parties : List (Progress ℕ)) → kind ≡ s.kind → world ≡ s.world → parties ≡ s.parties
     → (let x : Standing = record { kind = kind; world = world; parties = parties } in x) ≡ s
 standing_is s kind world parties kind_is world_is parties_are =
-    let make : Kind → World (Shared ℕ) (Running ℕ) → List (Progress ℕ) → Standing = λ k w ps. record { kind = k; world = w; parties = ps } in
+    let make : Kind → World (MemoryState ℕ) (Running ℕ) → List (Progress ℕ) → Standing = λ k w ps. record { kind = k; world = w; parties = ps } in
     ap (λ k. make k world parties) kind_is ∙ ap (λ w. make s.kind w parties) world_is ∙ ap (λ ps. make s.kind s.world ps) parties_are
 
 -- what a standing ends with, part by part

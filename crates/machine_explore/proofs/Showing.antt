@@ -4,13 +4,13 @@ use Rattle.std.specs.{Prelude.slice_get, Prelude.slice_index_or, List.All}
 use Rattle.std.proofs.lemmas.{Bool.Decides.eqb_tells, List.length-replicate, List.length-set, List.take_more, List.take_all, List.Elements.All-nil, List.Elements.All-push, Slice.Zip.all_zipped_more}
 use Rattle.queue_steps.specs.declared.{model.Call.Call, steps.types.Kind.Kind}
 use Rattle.machine_replay.specs.{Conforms.party_of, Played.told_by, Played.told_of, Played.world_after, Played.world_by}
-use Rattle.machine_steps.specs.{Left.left_of, Left.opening_world, Steps.start_of, Steps.step_of, World.Begun, World.Made, World.World, World.call_at, World.world_event}
-use Rattle.machine_memory.specs.{SharedMemory.Shared, declared.calls.Running.Running, declared.types.Event.Event, declared.types.Event.TheVariants.Begin, declared.types.Event.TheVariants.Step, declared.types.Told.Told, declared.types.Told.TheVariants.Skipped, declared.types.Told.TheVariants.Ran}
+use Rattle.machine_steps.specs.{Left.left_of, Left.opening_world, Steps.start_of, Steps.step_of, World.Begun, World.StepOutcome, World.World, World.call_at, World.world_event}
+use Rattle.machine_memory.specs.{SharedMemory.MemoryState, declared.calls.Running.Running, declared.types.Event.Event, declared.types.Event.TheVariants.Begin, declared.types.Event.TheVariants.Step, declared.types.Told.Told, declared.types.Told.TheVariants.Skipped, declared.types.Told.TheVariants.Ran}
 use Rattle.machine_explore.specs.{Certified.IsMove, Certified.IsTaken, Explored.IsGranted, Explored.begun_by, Explored.replies_by, Moves.advanced, Moves.call_in, Moves.event_at, Moves.event_for, Moves.led, Moves.reply_in, Positions.IsFinal, Positions.Progress, Positions.Standing, Positions.calls_of, Positions.no_progress, Positions.outcome_at, Positions.progress_of, Starts.IsStart, Traces.IsSeen, Traces.IsTraceOf, Traces.IsUnderWay, Traces.Seen, Traces.seen_at, Traces.trace_of, declared.schedule.Move.Move}
 use Rattle.machine_explore.proofs.{NoOther.ends_with, NoOther.none_begun, Taking.count_first, Taking.event_taken, Taking.same_count, Reaching.if-true, Reaching.if-false, Reaching.progress-other, Reaching.progress-own, Reaching.same_party}
 
 -- one event more
-module _ {S R T : Type 0} (step : Bool → S → R → Made S R T) (start : Call T → Begun R T) where
+module _ {S R T : Type 0} (step : Bool → S → R → StepOutcome S R T) (start : Call T → Begun R T) where
   pub world_by-snoc : (es : List (Event T)) (w : World S R) (e : Event T) → world_by step start w (es ++ e ∷ []) ≡ (world_event step start (world_by step start w es) true e).0
   world_by-snoc [] w e = refl
   world_by-snoc (x ∷ es) w e = world_by-snoc es (world_event step start w true x).0 e
@@ -23,7 +23,7 @@ module _ {S R T : Type 0} (step : Bool → S → R → Made S R T) (start : Call
   told_by-length [] w = refl
   told_by-length (x ∷ es) w = ap suc (told_by-length es (world_event step start w true x).0)
 
-trace_of-snoc : (k : Kind) (es : List (Event ℕ)) (w : World (Shared ℕ) (Running ℕ)) (e : Event ℕ) → trace_of k w (es ++ e ∷ []) ≡ trace_of k w es ++ seen_at k (world_after k w es) e ∷ []
+trace_of-snoc : (k : Kind) (es : List (Event ℕ)) (w : World (MemoryState ℕ) (Running ℕ)) (e : Event ℕ) → trace_of k w (es ++ e ∷ []) ≡ trace_of k w es ++ seen_at k (world_after k w es) e ∷ []
 trace_of-snoc k [] w e = refl
 trace_of-snoc k (x ∷ es) w e = ap (λ l. seen_at k w x ∷ l) (trace_of-snoc k es (world_event (step_of k) (start_of k) w true x).0 e)
 
@@ -104,7 +104,7 @@ under_way-first k refuses before calls s start = record {
 }
 
 -- after one move more
-pub under_way-next : (k : Kind) (refuses : Bool) (calls : List (List (Call ℕ))) (w : World (Shared ℕ) (Running ℕ)) (schedule : List Move) (seen : List Seen) (s : Standing) (m : Move) (e : Event ℕ)
+pub under_way-next : (k : Kind) (refuses : Bool) (calls : List (List (Call ℕ))) (w : World (MemoryState ℕ) (Running ℕ)) (schedule : List Move) (seen : List Seen) (s : Standing) (m : Move) (e : Event ℕ)
     → IsUnderWay k refuses calls w schedule seen s → (refuses ≡ false → m.granted ≡ true) → event_at calls s m.party m.granted ≡ Some e → IsUnderWay k refuses calls w (schedule ++ m ∷ []) (seen ++ seen_at s.kind s.world e ∷ []) (led s.kind s e)
 under_way-next k refuses calls w schedule seen s m e on may is = record {
   rest = on.rest ++ e ∷ [];
@@ -223,7 +223,7 @@ under_way-next k refuses calls w schedule seen s m e on may is = record {
     replied p h = elim (eqb_tells (party_of e) p) [ inl same ↦ subst RepliedGoal same.1 (replied-own_party (rw same.1 h)) | inr other ↦ replied-other_party p h other.0 other.1 ]
 
 -- after one move more, of which this is seen
-pub under_way-seen : (k : Kind) (refuses : Bool) (calls : List (List (Call ℕ))) (w : World (Shared ℕ) (Running ℕ)) (schedule : List Move) (seen : List Seen) (s later : Standing) (m : Move) (x : Seen)
+pub under_way-seen : (k : Kind) (refuses : Bool) (calls : List (List (Call ℕ))) (w : World (MemoryState ℕ) (Running ℕ)) (schedule : List Move) (seen : List Seen) (s later : Standing) (m : Move) (x : Seen)
     → IsUnderWay k refuses calls w schedule seen s → (refuses ≡ false → m.granted ≡ true) → IsSeen calls s m x later → IsUnderWay k refuses calls w (schedule ++ m ∷ []) (seen ++ x ∷ []) later
 under_way-seen k refuses calls w schedule seen s later m x on may is =
     let P : Seen → Standing → Type 0 = λ y z. IsUnderWay k refuses calls w (schedule ++ m ∷ []) (seen ++ y ∷ []) z in
@@ -237,7 +237,7 @@ shows k refuses before calls schedule seen start end starts on begun final =
     let first = starts.prepared.0 in
     let w = world_after k (opening_world k (length calls)) first in
     let same : start.world ≡ w = starts.prepared.2 in
-    let P : World (Shared ℕ) (Running ℕ) → Type 0 = λ x. IsUnderWay k refuses calls x schedule seen end in
+    let P : World (MemoryState ℕ) (Running ℕ) → Type 0 = λ x. IsUnderWay k refuses calls x schedule seen end in
     let from : IsUnderWay k refuses calls w schedule seen end = subst P same on in
     record {
       of = record {

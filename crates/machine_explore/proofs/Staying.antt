@@ -3,7 +3,7 @@ use Rattle.std.proofs.Common.{◌≡◌, Bool, true, false, ℕ, List, Option, S
 use Rattle.std.specs.{Prelude.option_map, Prelude.slice_get, Prelude.slice_set, Prelude.Contains, Prelude.IfOk, Prelude.MatchOption, Prelude.⊤, declared.alloc.AllocError.AllocError}
 use Rattle.queue_steps.specs.declared.model.Call.{Call}
 use Rattle.machine_steps.specs.{Machine.event_of, World.World, World.call_at}
-use Rattle.machine_memory.specs.{declared.types.Event.TheVariants.Step, declared.types.Told.Told, declared.calls.Running.Running, SharedMemory.Shared}
+use Rattle.machine_memory.specs.{declared.types.Event.TheVariants.Step, declared.types.Told.Told, declared.calls.Running.Running, SharedMemory.MemoryState}
 use Rattle.machine_explore.specs.{Moves.advanced, Moves.event_for, Moves.led, Positions.Standing, Positions.calls_of, Positions.progress_of, Tables.Stays, Tables.StaysOnce}
 
 -- where the event leads, if there is one, is what the table has
@@ -29,7 +29,7 @@ pub stays_unasked : (calls : List (List (Call ℕ))) (table : List Standing) (s 
     → ((g : Bool) → event_of s.kind true s.world (Step p g) ≡ event_of s.kind true s.world (Step p true)) → StaysOnce (led s.kind) calls table s p true → Stays (led s.kind) refuses calls table s p
 stays_unasked calls table s p refuses same granted g may = by_call (call_at s.world p) (slice_get (calls_of calls p) (progress_of s p).begun) granted
   where
-    make : World (Shared ℕ) (Running ℕ) × Told ℕ → Standing
+    make : World (MemoryState ℕ) (Running ℕ) × Told ℕ → Standing
     make m = record { kind = s.kind; world = m.0; parties = slice_set s.parties p (advanced (progress_of s p) (Step p true) m.1) }
 
     by_call : (o : Option (Running ℕ)) (next : Option (Call ℕ)) → MatchOption (event_for p true o next) ⊤ (λ e. Contains table (led s.kind s e)) → MatchOption (event_for p g o next) ⊤ (λ e. Contains table (led s.kind s e))

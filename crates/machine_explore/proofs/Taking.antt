@@ -4,13 +4,13 @@ use Rattle.std.specs.Prelude.{slice_get, slice_index_or}
 use Rattle.std.proofs.lemmas.{Bool.lt-ltb, List.length-replicate}
 use Rattle.queue_steps.specs.declared.{model.Call.Call, model.Reply.Reply, steps.types.Kind.Kind}
 use Rattle.machine_steps.specs.{Left.opening_world, Steps.start_of, Steps.step_of}
-use Rattle.machine_memory.specs.{SharedMemory.Shared, declared.calls.Running.Running, declared.types.Event.Event, declared.types.Event.TheVariants.Begin, declared.types.Event.TheVariants.Step, declared.types.Told.TheVariants.Skipped}
-use Rattle.machine_steps.specs.World.{Begun, Made, World, began, began_by, call_at, can_begin, stepped_if, world_event}
+use Rattle.machine_memory.specs.{SharedMemory.MemoryState, declared.calls.Running.Running, declared.types.Event.Event, declared.types.Event.TheVariants.Begin, declared.types.Event.TheVariants.Step, declared.types.Told.TheVariants.Skipped}
+use Rattle.machine_steps.specs.World.{Begun, StepOutcome, World, began, began_by, call_at, can_begin, stepped_if, world_event}
 use Rattle.machine_explore.specs.{Moves.event_at, Moves.event_for, Positions.Configuration, Positions.calls_of, Positions.progress_of, Starts.IsStart, Positions.Standing}
 use Rattle.machine_replay.specs.Played.{world_by}
 use Rattle.machine_explore.proofs.Walks.{WentOn, went_on}
 
-taken-step : {S R T : Type 0} (step : Bool → S → R → Made S R T) (w : World S R) (p : ℕ) (ok : Bool) (o : Option R) (r : R) → o ≡ Some r → (stepped_if step w ok p o).1 ≢ Skipped
+taken-step : {S R T : Type 0} (step : Bool → S → R → StepOutcome S R T) (w : World S R) (p : ℕ) (ok : Bool) (o : Option R) (r : R) → o ≡ Some r → (stepped_if step w ok p o).1 ≢ Skipped
 taken-step step w p ok (Some s) r is = λ e. cc
 taken-step step w p ok None r is = λ e. cc
 
@@ -32,7 +32,7 @@ may_begin : {S R : Type 0} (w : World S R) (p : ℕ) → p < length w.calls → 
 may_begin w p inside none = rw (lt-ltb p (length w.calls) inside, none) refl
 
 -- by the event by which its party goes on the machine goes on
-pub event_taken : {S R T : Type 0} (step : Bool → S → R → Made S R T) (start : Call T → Begun R T) (calls : List (List (Call T))) (s : Configuration S R T) (p : ℕ) (granted : Bool) (e : Event T)
+pub event_taken : {S R T : Type 0} (step : Bool → S → R → StepOutcome S R T) (start : Call T → Begun R T) (calls : List (List (Call T))) (s : Configuration S R T) (p : ℕ) (granted : Bool) (e : Event T)
     → length s.world.calls ≡ length calls → event_at calls s p granted ≡ Some e → (world_event step start s.world true e).1 ≢ Skipped
 event_taken {S} {R} {T} step start calls s p granted e size is = by_call (call_at s.world p) (slice_get (calls_of calls p) (progress_of s p).begun) refl refl is
   where
@@ -49,7 +49,7 @@ event_taken {S} {R} {T} step start calls s p granted e size is = by_call (call_a
         subst NotSkipped same (taken-begin s.world p (start c) (can_begin s.world p) (may_begin s.world p inside at))
     by_call None None at there goes = λ skips. cc
 
-module _ {S R T : Type 0} (step : Bool → S → R → Made S R T) (start : Call T → Begun R T) where
+module _ {S R T : Type 0} (step : Bool → S → R → StepOutcome S R T) (start : Call T → Begun R T) where
   -- the machine has as many parties after an event as before
   pub same_count : (w : World S R) (e : Event T) → length (world_event step start w true e).0.calls ≡ length w.calls
   same_count w e = by_event (went_on step start w e)
@@ -65,6 +65,6 @@ module _ {S R T : Type 0} (step : Bool → S → R → Made S R T) (start : Call
 -- where runs start there are as many parties as the program has
 pub count_first : (k : Kind) (before : List (Call ℕ)) (parties : ℕ) (s : Standing) → IsStart k before parties s → length s.world.calls ≡ parties
 count_first k before parties s start =
-    ap (λ (w : World (Shared ℕ) (Running ℕ)). length w.calls) start.prepared.2
+    ap (λ (w : World (MemoryState ℕ) (Running ℕ)). length w.calls) start.prepared.2
     ∙ count_after (step_of k) (start_of k) start.prepared.0 (opening_world k parties)
     ∙ length-replicate parties None

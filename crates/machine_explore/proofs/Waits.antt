@@ -3,7 +3,7 @@ use Rattle.std.proofs.Common.{◌≡◌, ◌∙◌, ℕ, ◌+◌, ◌<◌, Bool,
 use Rattle.std.specs.Prelude.{replicate, slice_index_or}
 use Rattle.std.proofs.lemmas.List.{replicate_more, take_more}
 use Rattle.queue_steps.specs.declared.{model.Call.Call, sizes.TheConstants.SOLO_STEPS, steps.types.Kind.Kind}
-use Rattle.machine_memory.specs.{declared.calls.Running.Running, declared.types.Event.Event, declared.types.Event.TheVariants.Step, declared.types.Told.Told, declared.types.Told.TheVariants.Ran, SharedMemory.Shared}
+use Rattle.machine_memory.specs.{declared.calls.Running.Running, declared.types.Event.Event, declared.types.Event.TheVariants.Step, declared.types.Told.Told, declared.types.Told.TheVariants.Ran, SharedMemory.MemoryState}
 use Rattle.machine_steps.specs.{Machine.event_of, Steps.start_of, Steps.step_of, World.World}
 use Rattle.machine_replay.specs.{Played.told_of, Played.world_after, Progress.Standing as CallStanding, Progress.Between, Progress.standing, Progress.stands_by, Progress.stands_then, Replays.CanReplay}
 use Rattle.machine_explore.specs.{Moves.led, Positions.Standing, Starts.IsStart, Traces.Seen, Traces.trace_of, Waiting.GoesRound, Waiting.is_half_done, Waiting.stands_seen}
@@ -14,7 +14,7 @@ stands_seen-snoc [] p x s = refl
 stands_seen-snoc (y ∷ ys) p x s = stands_seen-snoc ys p (stands_then p x y.event y.told) s
 
 -- what is seen tells where a party stands
-stands_seen-trace : (es : List (Event ℕ)) (k : Kind) (w : World (Shared ℕ) (Running ℕ)) (p : ℕ) (x : CallStanding) → stands_seen p x (trace_of k w es) ≡ stands_by p x es (told_of k w es)
+stands_seen-trace : (es : List (Event ℕ)) (k : Kind) (w : World (MemoryState ℕ) (Running ℕ)) (p : ℕ) (x : CallStanding) → stands_seen p x (trace_of k w es) ≡ stands_by p x es (told_of k w es)
 stands_seen-trace [] k w p x = refl
 stands_seen-trace (e ∷ es) k w p x = stands_seen-trace es k (event_of k true w e).0 p (stands_then p x e (event_of k true w e).1)
 
@@ -33,7 +33,7 @@ half_at k before parties q s rest seen can start is =
     ap is_half_done (standing_since k before parties q s rest can start ∙ sym (stands_seen-trace rest k s.world q Between) ∙ ap (λ l. stands_seen q Between l) (sym is))
 
 -- so many steps of the party alone lead there, without an effect and without a reply
-pub record IsOn (k : Kind) (w : World (Shared ℕ) (Running ℕ)) (p n : ℕ) (s : Standing) : Type 0 where
+pub record IsOn (k : Kind) (w : World (MemoryState ℕ) (Running ℕ)) (p n : ℕ) (s : Standing) : Type 0 where
   pub kind : s.kind ≡ k
   pub world : s.world ≡ world_after k w (replicate n (Step p true))
   pub silent : told_of k w (replicate n (Step p true)) ≡ replicate n (Ran None None)
@@ -41,7 +41,7 @@ pub record IsOn (k : Kind) (w : World (Shared ℕ) (Running ℕ)) (p n : ℕ) (s
 pub on_first : (s later : Standing) (p : ℕ) → later ≡ s → IsOn s.kind s.world p 0 later
 on_first s later p same = record { kind = ap (λ (x : Standing). x.kind) same; world = ap (λ (x : Standing). x.world) same; silent = refl }
 
-pub on_more : (k : Kind) (w : World (Shared ℕ) (Running ℕ)) (p n : ℕ) (s later : Standing) (t : Told ℕ) → IsOn k w p n s → t ≡ (event_of s.kind true s.world (Step p true)).1 → t ≡ Ran None None → later ≡ led s.kind s (Step p true) → IsOn k w p (n + 1) later
+pub on_more : (k : Kind) (w : World (MemoryState ℕ) (Running ℕ)) (p n : ℕ) (s later : Standing) (t : Told ℕ) → IsOn k w p n s → t ≡ (event_of s.kind true s.world (Step p true)).1 → t ≡ Ran None None → later ≡ led s.kind s (Step p true) → IsOn k w p (n + 1) later
 on_more k w p n s later t on told quiet leads =
     let e : Event ℕ = Step p true in
     let past = replicate n e in

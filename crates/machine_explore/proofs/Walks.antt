@@ -4,7 +4,7 @@ use Rattle.std.specs.Prelude.{slice_get, slice_index_or, is_none}
 use Rattle.std.proofs.lemmas.{Bool.ltb-true, List.length-set, List.drop-drop, List.drop_at}
 use Rattle.queue_steps.specs.declared.model.{Call.Call, Reply.Reply}
 use Rattle.machine_replay.specs.Conforms.{party_of}
-use Rattle.machine_steps.specs.World.{Begun, Made, World, began, began_by, call_at, can_begin, stepped_if, world_event}
+use Rattle.machine_steps.specs.World.{Begun, StepOutcome, World, began, began_by, call_at, can_begin, stepped_if, world_event}
 use Rattle.machine_memory.specs.declared.types.{EffectKind.EffectKind, Event.Event, Event.TheVariants.Begin, Event.TheVariants.Step, Told.Told, Told.TheVariants.Skipped, Told.TheVariants.Ran}
 
 -- a party that is in this call, or in none, may take this event
@@ -35,7 +35,7 @@ takes-begin : {R T : Type 0} (o : Option R) (p : ℕ) (c : Call T) → is_none o
 takes-begin (Some r) p c e = cc
 takes-begin None p c e = tt
 
-went_on-step : {S R T : Type 0} (step : Bool → S → R → Made S R T) (w : World S R) (p : ℕ) (granted : Bool) (o : Option R) → call_at w p ≡ o
+went_on-step : {S R T : Type 0} (step : Bool → S → R → StepOutcome S R T) (w : World S R) (p : ℕ) (granted : Bool) (o : Option R) → call_at w p ≡ o
     → (stepped_if step w (granted && true) p o ≡ (w, Skipped)) ⊎ WentOn w (Step p granted) (stepped_if step w (granted && true) p o)
 went_on-step step w p granted None is = inl refl
 went_on-step {S} {R} {T} step w p granted (Some r) is = inr (record {
@@ -69,7 +69,7 @@ went_on-begin start w p c true is =
     inr (went_on-begun w p c (start c) (ltb-true p (length w.calls) (and-left _ _ is)) (takes-begin (call_at w p) p c (and-right (nat_lt p (length w.calls)) _ is)))
 
 -- an event is skipped, and nothing happens, or it goes on
-pub went_on : {S R T : Type 0} (step : Bool → S → R → Made S R T) (start : Call T → Begun R T) (w : World S R) (e : Event T)
+pub went_on : {S R T : Type 0} (step : Bool → S → R → StepOutcome S R T) (start : Call T → Begun R T) (w : World S R) (e : Event T)
     → (world_event step start w true e ≡ (w, Skipped)) ⊎ WentOn w e (world_event step start w true e)
 went_on step start w (Step p granted) = went_on-step step w p granted (call_at w p) refl
 went_on step start w (Begin p c) = went_on-begin start w p c (can_begin w p) refl

@@ -2,7 +2,7 @@
 use Rattle.std.specs.Prelude.{◌≡◌, ℕ, ◌<◌, ◌==◌, Bool, true, false, if◌then◌else◌, None, List, [], ◌∷◌, ◌++◌, length, map, Contains}
 use Rattle.std.specs.List.{All, range_with_len}
 use Rattle.queue_steps.specs.declared.{model.Call.Call, model.Reply.Reply, steps.types.Kind.Kind}
-use Rattle.machine_memory.specs.{declared.calls.Running.Running, declared.types.Event.Event, declared.types.Event.TheVariants.Begin, declared.types.Event.TheVariants.Step, declared.types.Told.Told, SharedMemory.Shared}
+use Rattle.machine_memory.specs.{declared.calls.Running.Running, declared.types.Event.Event, declared.types.Event.TheVariants.Begin, declared.types.Event.TheVariants.Step, declared.types.Told.Told, SharedMemory.MemoryState}
 use Rattle.machine_replay.specs.{Conforms.party_of, Played.world_after, Played.told_of}
 use Rattle.machine_steps.specs.{Left.left_of, Left.opening_world, World.World, World.call_at}
 use Rattle.machine_explore.specs.{Moves.call_in, Moves.reply_in, Positions.Outcome, Positions.calls_of}
@@ -27,19 +27,19 @@ abbrev pub IsPreparing : {T : Type 0} → Event T → Type 0
 IsPreparing e = (party_of e ≡ 0) × IsGranted e
 
 -- by these events party 0, alone, makes these calls one after another, and is between calls then
-pub record Prepares (k : Kind) (w : World (Shared ℕ) (Running ℕ)) (before : List (Call ℕ)) (events : List (Event ℕ)) : Type 0 where
+pub record Prepares (k : Kind) (w : World (MemoryState ℕ) (Running ℕ)) (before : List (Call ℕ)) (events : List (Event ℕ)) : Type 0 where
   pub alone : All IsPreparing events
   pub begins : begun_by 0 events (told_of k w events) ≡ before
   pub rests : call_at (world_after k w events) 0 ≡ None
 
 -- from w on, each party makes its calls in their order and gets a reply to each, whatever the order of their steps. Events that are skipped change nothing; requests are refused only where they may be
-pub record Plays (k : Kind) (refuses : Bool) (calls : List (List (Call ℕ))) (w : World (Shared ℕ) (Running ℕ)) (events : List (Event ℕ)) : Type 0 where
+pub record Plays (k : Kind) (refuses : Bool) (calls : List (List (Call ℕ))) (w : World (MemoryState ℕ) (Running ℕ)) (events : List (Event ℕ)) : Type 0 where
   pub grants : refuses ≡ false → All IsGranted events
   pub begins : (p : ℕ) → p < length calls → begun_by p events (told_of k w events) ≡ calls_of calls p
   pub replies : (p : ℕ) → p < length calls → length (replies_by p events (told_of k w events)) ≡ length (calls_of calls p)
 
 -- what these events end with, from w on
-abbrev pub outcome_of : Kind → ℕ → World (Shared ℕ) (Running ℕ) → List (Event ℕ) → Outcome ℕ
+abbrev pub outcome_of : Kind → ℕ → World (MemoryState ℕ) (Running ℕ) → List (Event ℕ) → Outcome ℕ
 outcome_of k parties w events = record { replies = map (λ p. replies_by p events (told_of k w events)) (range_with_len 0 parties); left = left_of k (world_after k w events) }
 
 -- a whole run of the program: the calls that are made first, from the empty open queue, and then those of the parties

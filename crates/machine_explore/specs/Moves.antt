@@ -3,7 +3,7 @@ use Rattle.std.specs.Prelude.{ℕ, ◌+◌, Bool, true, Option, Some, None, List
 use Rattle.queue_steps.specs.declared.{model.Call.Call, model.Reply.Reply, steps.types.Kind.Kind}
 use Rattle.machine_memory.specs.declared.types.{Event.Event, Event.TheVariants.Begin, Event.TheVariants.Step, Told.Told, Told.TheVariants.Ran}
 use Rattle.machine_replay.specs.Conforms.{party_of}
-use Rattle.machine_steps.specs.{Steps.step_of, Steps.start_of, World.Made, World.Begun, World.call_at, World.world_event}
+use Rattle.machine_steps.specs.{Steps.step_of, Steps.start_of, World.StepOutcome, World.Begun, World.call_at, World.world_event}
 use Rattle.machine_explore.specs.Positions.{Configuration, Progress, Standing, calls_of, progress_of}
 
 -- the call that the event began, if it was not skipped
@@ -30,7 +30,7 @@ abbrev pub advanced : {T : Type 0} → Progress T → Event T → Told T → Pro
 advanced g e t = record { begun = g.begun + length (call_in e t); replies = g.replies ++ reply_in t }
 
 -- where the event leads, on any machine, whose requests are granted where the event does not refuse them
-abbrev pub led_by : {S R T : Type 0} → (Bool → S → R → Made S R T) → (Call T → Begun R T) → Configuration S R T → Event T → Configuration S R T
+abbrev pub led_by : {S R T : Type 0} → (Bool → S → R → StepOutcome S R T) → (Call T → Begun R T) → Configuration S R T → Event T → Configuration S R T
 led_by step start s e = record {
   kind = s.kind;
   world = (world_event step start s.world true e).0;

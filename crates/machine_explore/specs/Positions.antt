@@ -1,7 +1,7 @@
 -- Where a run of a program stands, and the outcome that it ends with.
 use Rattle.std.specs.Prelude.{◌≡◌, ℕ, ◌<◌, List, [], length, map, replicate, slice_index_or}
 use Rattle.queue_steps.specs.declared.{model.Call.Call, model.Reply.Reply, steps.types.Kind.Kind}
-use Rattle.machine_memory.specs.{declared.calls.Running.Running, SharedMemory.Shared}
+use Rattle.machine_memory.specs.{declared.calls.Running.Running, SharedMemory.MemoryState}
 use Rattle.machine_steps.specs.{World.World, Left.left_of}
 
 -- how far a party is: how many of its calls it has begun, and the replies so far
@@ -17,7 +17,7 @@ pub record Configuration (S R T : Type 0) : Type 0 where
 
 -- where a run of the machine stands
 abbrev pub Standing : Type 0
-Standing = Configuration (Shared ℕ) (Running ℕ) ℕ
+Standing = Configuration (MemoryState ℕ) (Running ℕ) ℕ
 
 -- a party that has begun no call
 abbrev pub no_progress : {T : Type 0} → Progress T

@@ -2,7 +2,7 @@
 use Rattle.std.specs.Prelude.{◌≡◌, ℕ, ◌<◌, Bool, true, false, Option, Some, List, [], ◌∷◌, ◌++◌, length, take}
 use Rattle.std.specs.List.{All, AllZip}
 use Rattle.queue_steps.specs.declared.{model.Call.Call, steps.types.Kind.Kind, steps.types.Local.Local}
-use Rattle.machine_memory.specs.{declared.calls.Running.Running, declared.types.Event.Event, declared.types.Told.Told, SharedMemory.Shared}
+use Rattle.machine_memory.specs.{declared.calls.Running.Running, declared.types.Event.Event, declared.types.Told.Told, SharedMemory.MemoryState}
 use Rattle.machine_replay.specs.{Conforms.party_of, Played.local_in, Played.told_of, Played.world_after}
 use Rattle.machine_steps.specs.{Left.left_of, Left.opening_world, Machine.event_of, World.World, World.call_at}
 use Rattle.machine_explore.specs.{declared.schedule.Move.Move, Certified.IsMove, Certified.IsOutcomeOf, Certified.IsTaken, Explored.IsGranted, Explored.begun_by, Explored.replies_by, Moves.event_at, Moves.led, Positions.Outcome, Positions.Standing, Positions.calls_of, Positions.progress_of, Starts.IsStart}
@@ -15,7 +15,7 @@ pub record Seen : Type 0 where
   pub list : List ℕ
 
 -- what is seen of the event, from w on
-abbrev pub seen_at : Kind → World (Shared ℕ) (Running ℕ) → Event ℕ → Seen
+abbrev pub seen_at : Kind → World (MemoryState ℕ) (Running ℕ) → Event ℕ → Seen
 seen_at k w e = record { event = e; local = local_in (call_at w (party_of e)); told = (event_of k true w e).1; list = left_of k (event_of k true w e).0 }
 
 -- by this move the program goes on from s to the later standing, and this is seen of it
@@ -32,7 +32,7 @@ pub record IsOneMore (refuses : Bool) (calls : List (List (Call ℕ))) (m : Move
   pub is : IsSeen calls s m one later
 
 -- what is seen of events, one after another, from w on
-abbrev pub trace_of : Kind → World (Shared ℕ) (Running ℕ) → List (Event ℕ) → List Seen
+abbrev pub trace_of : Kind → World (MemoryState ℕ) (Running ℕ) → List (Event ℕ) → List Seen
 trace_of k w [] = []
 trace_of k w (e ∷ es) = seen_at k w e ∷ trace_of k (event_of k true w e).0 es
 
@@ -49,7 +49,7 @@ pub record IsTraceOf (k : Kind) (refuses : Bool) (before : List (Call ℕ)) (cal
   pub seen : c.seen ≡ trace_of k (world_after k (opening_world k (length calls)) of.first) of.rest
 
 -- the program has come there from w by these events, which are those of the moves, and of which this was seen
-pub record IsUnderWay (k : Kind) (refuses : Bool) (calls : List (List (Call ℕ))) (w : World (Shared ℕ) (Running ℕ)) (schedule : List Move) (seen : List Seen) (s : Standing) : Type 0 where
+pub record IsUnderWay (k : Kind) (refuses : Bool) (calls : List (List (Call ℕ))) (w : World (MemoryState ℕ) (Running ℕ)) (schedule : List Move) (seen : List Seen) (s : Standing) : Type 0 where
   pub rest : List (Event ℕ)
   pub moves : AllZip IsMove schedule rest
   pub grants : refuses ≡ false → All IsGranted rest

@@ -1,16 +1,16 @@
 -- What a step did to the queue, told from where its call stood and what its operation found.
 use Rattle.std.specs.Prelude.{ℕ, ◌+◌, ◌==◌, if◌then◌else◌, Option, Some, None}
-use Rattle.queue_steps.specs.{SlotNext.is_marked, Words.position_of, Words.is_shut, declared.steps.types.Answer.Answer, declared.steps.types.Answer.Answer as answer, declared.steps.types.Kind.Kind, declared.steps.types.Kind.Kind as kind, declared.steps.types.Local.Local, declared.steps.types.Local.Local as local, declared.steps.slot.SlotLocal.SlotLocal, declared.steps.slot.SlotLocal.SlotLocal as single, declared.steps.ring.RingLocal.RingLocal, declared.steps.ring.RingLocal.RingLocal as ring, declared.steps.chain.ChainLocal.ChainLocal, declared.steps.chain.ChainLocal.ChainLocal as chain}
+use Rattle.queue_steps.specs.{SlotNext.is_marked, Words.position_of, Words.is_shut, declared.steps.types.Answer.Answer, declared.steps.types.Answer.Answer as answer, declared.steps.types.Kind.Kind, declared.steps.types.Kind.Kind as kind, declared.steps.types.Local.Local, declared.steps.types.Local.Local as local, declared.steps.slot.SlotLocal.SlotLocal, declared.steps.slot.SlotLocal.SlotLocal as slot, declared.steps.ring.RingLocal.RingLocal, declared.steps.ring.RingLocal.RingLocal as ring, declared.steps.chain.ChainLocal.ChainLocal, declared.steps.chain.ChainLocal.ChainLocal as chain}
 use Rattle.machine_memory.specs.declared.types.EffectKind.{EffectKind, EffectKind as effect}
 
 -- the effect of a step on one slot: the exchange that wins, and the close of an open queue
 abbrev pub slot_effect : SlotLocal → ℕ → Option EffectKind
-slot_effect single.Pushing found = if found == 0 then Some effect.Append else None
-slot_effect (single.Forcing seen) found =
+slot_effect slot.Pushing found = if found == 0 then Some effect.Append else None
+slot_effect (slot.Forcing seen) found =
     if is_marked found then None
     else (if found == seen then (if seen == 0 then Some effect.Append else Some effect.Replace) else None)
-slot_effect (single.Popping seen) found = if found == seen then Some effect.Take else None
-slot_effect single.Closing found = if is_marked found then None else Some effect.Close
+slot_effect (slot.Popping seen) found = if found == seen then Some effect.Take else None
+slot_effect slot.Closing found = if is_marked found then None else Some effect.Close
 slot_effect _ found = None
 
 -- the effect of a step on a ring of n slots: the exchange of the tail or the head that wins, the tail that moves on, and the mark on an open tail

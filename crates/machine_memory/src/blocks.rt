@@ -1,7 +1,7 @@
 //! The blocks of an unbounded queue, as the machine has them.
 ghost use Rattle.std.specs.Prelude.{◌≡◌, ◌<◌, ◌+◌, ◌≤◌, if◌then◌else◌, ⊤, IfOk, IsSome, None, Some, is_some, nat_lt, length, replicate, slice_index_or, slice_set, vec_len, vec_capacity};
 ghost use Rattle.machine_memory.specs.Present.{present};
-ghost use Rattle.machine_memory.specs.Blocks.{Block as Places, blank, fresh_block, block_of, place_count, state_of, item_of, behind, put_state, put_item, put_next, without};
+ghost use Rattle.machine_memory.specs.Blocks.{BlockState as Places, blank, fresh_block, block_of, place_count, state_of, item_of, behind, put_state, put_item, put_next, without};
 
 use crate::same::{Same, all_same};
 use queue_steps::sizes::BLOCK_SLOTS;

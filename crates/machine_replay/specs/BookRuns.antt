@@ -2,10 +2,10 @@
 use Rattle.std.specs.Prelude.{◌≡◌, ℕ, false, List}
 use Rattle.machine_replay.specs.{Vocabulary.Kind, Vocabulary.Event, Vocabulary.Told, Vocabulary.Running, declared.machine_run.MachineRun.MachineRun, Book.Book, Book.Run, Book.opening, Conforms.capacity_of, MachineRuns.IsMachineRun, Played.told_of, Played.world_after, Replays.CanReplay, Replays.is_too_large}
 use Rattle.machine_steps.specs.{Left.left_of, Left.opening_world, Machine.world_of, World.World}
-use Rattle.machine_memory.specs.SharedMemory.{Shared}
+use Rattle.machine_memory.specs.SharedMemory.{MemoryState}
 
 -- what is told of these events leads from the empty open queue to a last book, and the machine holds the items of its queue
-pub record HasBook {T : Type 0} (k : Kind) (parties : ℕ) (events : List (Event T)) (told : List (Told T)) (w : World (Shared T) (Running T)) : Type 0 where
+pub record HasBook {T : Type 0} (k : Kind) (parties : ℕ) (events : List (Event T)) (told : List (Told T)) (w : World (MemoryState T) (Running T)) : Type 0 where
   pub last : Book T
   pub run : Run (capacity_of k) parties (opening (capacity_of k)) events told last
   pub left : left_of k w ≡ last.queue.items

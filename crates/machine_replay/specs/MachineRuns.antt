@@ -1,11 +1,11 @@
 -- A run of the machine, one event after another: what brought it where it is, and what it leaves.
 use Rattle.std.specs.Prelude.{◌≡◌, ◌↔◌, ℕ, ◌+◌, ◌<◌, ◌≤◌, ◌^◌, Bool, false, IsTrue, List, [], ◌∷◌, ◌++◌, length}
 use Rattle.machine_replay.specs.{Vocabulary.Kind, Vocabulary.Event, Vocabulary.Told, Vocabulary.Peak, Vocabulary.Running, declared.machine_run.MachineRun.MachineRun, declared.machine_run.RunEnd.RunEnd, Book.Book, Book.Run, Book.opening, Conforms.HasNoBlocks, Conforms.IsPeak, Conforms.capacity_of, Conforms.entries_from, Conforms.reply_entry, Conforms.skipped_entry, InCall.IsInCall, Peaks.opening_peak, Peaks.peak_of, Peaks.peaked, Played.IsMade, Played.as_told, Replays.CanReplay, Replays.is_too_large}
-use Rattle.machine_memory.specs.{SharedMemory.Shared, Room.HasCount, Room.HasRoom}
+use Rattle.machine_memory.specs.{SharedMemory.MemoryState, Room.HasCount, Room.HasRoom}
 use Rattle.machine_steps.specs.{Left.left_of, Left.opening_world, Machine.event_of, Machine.world_of, World.World}
 
 -- the machine comes from w, with the peak p, to the last world and the last peak by these events, of which this is told
-abbrev pub Comes : {T : Type 0} → Kind → World (Shared T) (Running T) → Peak → List (Event T) → List (Told T) → World (Shared T) (Running T) → Peak → Type 0
+abbrev pub Comes : {T : Type 0} → Kind → World (MemoryState T) (Running T) → Peak → List (Event T) → List (Told T) → World (MemoryState T) (Running T) → Peak → Type 0
 Comes k w p [] [] last top = (last ≡ w) × (top ≡ p)
 Comes k w p (e ∷ es) (t ∷ ts) last top = (ok : Bool) × (t ≡ (event_of k ok w e).1) × Comes k (event_of k ok w e).0 (peaked (event_of k ok w e).0 p) es ts last top
 Comes k w p _ _ last top = ⊥

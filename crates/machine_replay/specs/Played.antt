@@ -2,23 +2,23 @@
 use Rattle.std.specs.Prelude.{◌≡◌, ℕ, ◌&&◌, Bool, true, false, not, Option, Some, None, Err, List, [], ◌∷◌}
 use Rattle.machine_replay.specs.Vocabulary.{Call, Reply, PushError, ForcePushError, Kind, Op, Local, Event, Told, Replay, Begin, Step, Ran, Running}
 use Rattle.machine_replay.specs.{Conforms.entries_from, Conforms.reply_entry, Conforms.effect_entry, Conforms.skipped_entry, Peaks.peak_of}
-use Rattle.machine_steps.specs.{Left.left_of, Left.opening_world, Steps.start_of, Steps.step_of, World.Begun, World.Made, World.World, World.world_event}
-use Rattle.machine_memory.specs.SharedMemory.{Shared}
+use Rattle.machine_steps.specs.{Left.left_of, Left.opening_world, Steps.start_of, Steps.step_of, World.Begun, World.StepOutcome, World.World, World.world_event}
+use Rattle.machine_memory.specs.SharedMemory.{MemoryState}
 
 -- a machine after these events, where each request that no event refuses is granted, and what is told of them, whatever is shared and whatever its steps are
-abbrev pub world_by : {S R T : Type 0} → (Bool → S → R → Made S R T) → (Call T → Begun R T) → World S R → List (Event T) → World S R
+abbrev pub world_by : {S R T : Type 0} → (Bool → S → R → StepOutcome S R T) → (Call T → Begun R T) → World S R → List (Event T) → World S R
 world_by step start w [] = w
 world_by step start w (e ∷ es) = world_by step start (world_event step start w true e).0 es
 
-abbrev pub told_by : {S R T : Type 0} → (Bool → S → R → Made S R T) → (Call T → Begun R T) → World S R → List (Event T) → List (Told T)
+abbrev pub told_by : {S R T : Type 0} → (Bool → S → R → StepOutcome S R T) → (Call T → Begun R T) → World S R → List (Event T) → List (Told T)
 told_by step start w [] = []
 told_by step start w (e ∷ es) = (world_event step start w true e).1 ∷ told_by step start (world_event step start w true e).0 es
 
 -- the same of a queue of this kind
-abbrev pub world_after : {T : Type 0} → Kind → World (Shared T) (Running T) → List (Event T) → World (Shared T) (Running T)
+abbrev pub world_after : {T : Type 0} → Kind → World (MemoryState T) (Running T) → List (Event T) → World (MemoryState T) (Running T)
 world_after k w es = world_by (step_of k) (start_of k) w es
 
-abbrev pub told_of : {T : Type 0} → Kind → World (Shared T) (Running T) → List (Event T) → List (Told T)
+abbrev pub told_of : {T : Type 0} → Kind → World (MemoryState T) (Running T) → List (Event T) → List (Told T)
 told_of k w es = told_by (step_of k) (start_of k) w es
 
 -- whether the reply, and what is told, is of want of memory

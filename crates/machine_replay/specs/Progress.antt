@@ -4,7 +4,7 @@ use Rattle.machine_replay.specs.Vocabulary.{Reply, Kind, Local, BLOCK_SLOTS, Eve
 use Rattle.queue_steps.specs.declared.steps.chain.ChainLocal.{ChainLocal as chain}
 use Rattle.machine_replay.specs.{Conforms.capacity_of, Conforms.party_of, Played.told_of, Played.world_after, Replays.CanReplay, Replays.is_too_large, Within.is_step_of}
 use Rattle.machine_steps.specs.{Left.opening_world, World.World, World.call_at}
-use Rattle.machine_memory.specs.SharedMemory.{Shared}
+use Rattle.machine_memory.specs.SharedMemory.{MemoryState}
 
 -- a party is between calls, in a call that has had no effect, or in one that has had an effect and has not replied
 pub data Standing : Type 0 where
@@ -54,7 +54,7 @@ IsToShow (Local.Chain (chain.Showing d tail block)) = Unit {0}
 IsToShow _ = ⊥
 
 -- on a chain, no other party's call is there
-abbrev pub NobodyShows : {T : Type 0} → Kind → World (Shared T) (Running T) → ℕ → Type 0
+abbrev pub NobodyShows : {T : Type 0} → Kind → World (MemoryState T) (Running T) → ℕ → Type 0
 NobodyShows {T} Kind.Unbounded w p = (q : ℕ) (r : Running T) → q ≢ p → call_at w q ≡ Some r → IsToShow r.local → ⊥
 NobodyShows {T} _ w p = Unit {0}
 

@@ -3,17 +3,17 @@ use Rattle.std.specs.Prelude.{◌≡◌, ◌≢◌, ℕ, true, Option, Some, Non
 use Rattle.queue_steps.specs.{SlotNext.unlocked, Words.IsRing, declared.steps.ring.RingLocal.RingLocal as ring, declared.steps.slot.SlotLocal.TheVariants.Pushing, declared.steps.slot.SlotLocal.TheVariants.Pushed, declared.steps.slot.SlotLocal.TheVariants.Forcing, declared.steps.slot.SlotLocal.TheVariants.Forced, declared.steps.slot.SlotLocal.TheVariants.Popping, declared.steps.slot.SlotLocal.TheVariants.Popped, declared.steps.slot.SlotLocal.TheVariants.Looking, declared.steps.chain.ChainLocal.ChainLocal as chain}
 use Rattle.machine_replay.specs.{Vocabulary.Kind, Vocabulary.Local, Vocabulary.PushKind, Vocabulary.Event, Vocabulary.Running, Played.told_of, Played.world_after, Progress.IsNotAnswered, Progress.IsToShow, Replays.CanReplay, Replays.is_too_large, Within.is_step_of}
 use Rattle.machine_steps.specs.{Left.opening_world, Steps.step_of, World.World, World.call_at, Machine.event_of}
-use Rattle.machine_memory.specs.SharedMemory.{Shared}
+use Rattle.machine_memory.specs.SharedMemory.{MemoryState}
 
 -- at this moment of a run another party's call is at such a step
-abbrev pub IsBeside : {T : Type 0} → World (Shared T) (Running T) → ℕ → (Local ℕ → Type 0) → Type 0
+abbrev pub IsBeside : {T : Type 0} → World (MemoryState T) (Running T) → ℕ → (Local ℕ → Type 0) → Type 0
 IsBeside {T} w p Such = (q : ℕ) × (q ≢ p) × ((r : Running T) × (call_at w q ≡ Some r) × Such r.local)
 
 -- a call that stands at this step, and goes on as x by one step, and as y by two, if no other call takes one
-abbrev pub GoesOn : {T : Type 0} → Kind → Shared T → Running T → Running T → Type 0
+abbrev pub GoesOn : {T : Type 0} → Kind → MemoryState T → Running T → Running T → Type 0
 GoesOn k s r x = (step_of k true s r).call ≡ Some x
 
-abbrev pub GoesOnTwice : {T : Type 0} → Kind → Shared T → Running T → Running T → Running T → Type 0
+abbrev pub GoesOnTwice : {T : Type 0} → Kind → MemoryState T → Running T → Running T → Running T → Type 0
 GoesOnTwice k s r x y = ((step_of k true s r).call ≡ Some x) × ((step_of k true (step_of k true s r).shared x).call ≡ Some y)
 
 -- one slot: a push or a forced push has put its item and not unlocked, P2 and F2, or a pop has not, O2
@@ -33,7 +33,7 @@ IsPopToUnlock (Local.Slot Popped) = Unit {0}
 IsPopToUnlock _ = ⊥
 
 -- of one slot: a push goes back at P1 for a pop alone; with the word as it is, but for the lock, a forced push goes back at F1 for whoever has the lock, and a pop at O1 for a push
-pub record SlotWaits {T : Type 0} (w : World (Shared T) (Running T)) (p : ℕ) (r x : Running T) : Type 0 where
+pub record SlotWaits {T : Type 0} (w : World (MemoryState T) (Running T)) (p : ℕ) (r x : Running T) : Type 0 where
   pub push : r.local ≡ Local.Slot Pushing → x.local ≡ Local.Slot Pushing → IsBeside w p IsPopToUnlock
   pub force : (seen : ℕ) → r.local ≡ Local.Slot (Forcing (unlocked w.shared.lock)) → x.local ≡ Local.Slot (Forcing seen) → IsBeside w p IsToUnlock
   pub pop : (seen : ℕ) → r.local ≡ Local.Slot (Popping (unlocked w.shared.lock)) → x.local ≡ Local.Slot (Popping seen) → IsBeside w p IsPushToUnlock
@@ -68,7 +68,7 @@ IsToFill _ = ⊥
 
 -- Of a ring, with the tail or the head as it is: a push or forced push goes back at B2 for B4 or F7, and by way of B5 or F5 for O4 or F6; a pop goes back at O2 for O4, F6 or F7, and by
 -- way of O5 for B4.
-pub record RingWaits {T : Type 0} (n : ℕ) (w : World (Shared T) (Running T)) (p : ℕ) (r : Running T) : Type 0 where
+pub record RingWaits {T : Type 0} (n : ℕ) (w : World (MemoryState T) (Running T)) (p : ℕ) (r : Running T) : Type 0 where
   pub push : (d : PushKind) (x : Running T) → r.local ≡ Local.Ring (ring.PushStamp d w.shared.tail) → GoesOn (Kind.Bounded n) w.shared r x → x.local ≡ Local.Ring (ring.PushTail d) → IsBeside w p IsPushToStamp
   pub full : (d : PushKind) (x y : Running T) → r.local ≡ Local.Ring (ring.PushStamp d w.shared.tail) → GoesOnTwice (Kind.Bounded n) w.shared r x y
       → (x.local ≡ Local.Ring (ring.PushTail d) → ⊥) → y.local ≡ Local.Ring (ring.PushTail d) → IsBeside w p HasFront
@@ -111,7 +111,7 @@ IsToWrite _ = ⊥
 
 -- Of a chain, a push or forced push goes back at U1 for U6 or U7; a pop goes back at V1 for V5 to V8, and at V3, where it has read that there is no block, and there is none yet, for
 -- U4b; and a pop that has taken goes back at V5 for U6 to U8, and at V9 for U6 to U9.
-pub record ChainWaits {T : Type 0} (w : World (Shared T) (Running T)) (p : ℕ) (r x : Running T) : Type 0 where
+pub record ChainWaits {T : Type 0} (w : World (MemoryState T) (Running T)) (p : ℕ) (r x : Running T) : Type 0 where
   pub push : (d : PushKind) (spare : Option ℕ) → r.local ≡ Local.Chain (chain.PushTail d spare) → x.local ≡ Local.Chain (chain.PushTail d spare) → IsBeside w p IsToMoveTail
   pub pop : r.local ≡ Local.Chain chain.PopHead → x.local ≡ Local.Chain chain.PopHead → IsBeside w p IsToMoveHead
   pub first : (head : ℕ) → r.local ≡ Local.Chain (chain.PopTail head None) → w.shared.head_block ≡ None → x.local ≡ Local.Chain chain.PopHead → IsBeside w p IsToShow
@@ -140,7 +140,7 @@ IsOfLen (Local.Chain (chain.CountAgain l tail head)) = Unit {0}
 IsOfLen _ = ⊥
 
 -- these events leave the tail, each of them
-abbrev pub IsTailKept : {T : Type 0} → Kind → World (Shared T) (Running T) → List (Event T) → Type 0
+abbrev pub IsTailKept : {T : Type 0} → Kind → World (MemoryState T) (Running T) → List (Event T) → Type 0
 IsTailKept k w [] = Unit {0}
 IsTailKept k w (e ∷ es) = ((event_of k true w e).0.shared.tail ≡ w.shared.tail) × IsTailKept k (event_of k true w e).0 es
 

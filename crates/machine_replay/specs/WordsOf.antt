@@ -2,10 +2,10 @@
 use Rattle.std.specs.Prelude.{◌≡◌, ℕ, List}
 use Rattle.machine_replay.specs.{Vocabulary.Kind, Vocabulary.Event, Vocabulary.Running, declared.words.QueueWords.QueueWords}
 use Rattle.machine_steps.specs.{Left.opening_world, Machine.PassesAll, World.World}
-use Rattle.machine_memory.specs.SharedMemory.{Shared}
+use Rattle.machine_memory.specs.SharedMemory.{MemoryState}
 
 -- these are the words of what is shared
-pub record AreWords {T A : Type 0} (s : Shared T) (w : QueueWords A) : Type 0 where
+pub record AreWords {T A : Type 0} (s : MemoryState T) (w : QueueWords A) : Type 0 where
   pub lock : w.lock ≡ s.lock
   pub head : w.head ≡ s.head
   pub tail : w.tail ≡ s.tail
@@ -13,6 +13,6 @@ pub record AreWords {T A : Type 0} (s : Shared T) (w : QueueWords A) : Type 0 wh
 
 -- these are the words of a machine that comes from its opening by these events
 pub record AreWordsAfter {T A : Type 0} (k : Kind) (parties : ℕ) (events : List (Event T)) (w : QueueWords A) : Type 0 where
-  pub last : World (Shared T) (Running T)
+  pub last : World (MemoryState T) (Running T)
   pub plays : PassesAll k (opening_world k parties) events last
   pub words : AreWords last.shared w

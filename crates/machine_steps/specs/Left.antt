@@ -2,11 +2,11 @@
 use Rattle.std.specs.Prelude.{ℕ, zero, suc, ◌+◌, ◌-◌, ◌<◌, if◌then◌else◌, Option, Some, None, List, [], ◌∷◌, ◌++◌, slice_index_or, slice_set, replicate}
 use Rattle.std.specs.Option.{option_to_list}
 use Rattle.queue_steps.specs.{SlotNext.is_pushed, Words.position_of, Words.slot_at, declared.steps.types.Kind.Kind, declared.steps.types.Kind.Kind as kind, declared.steps.types.Touch.Touch, declared.steps.types.Touch.Touch as touch}
-use Rattle.machine_memory.specs.{declared.calls.Running.Running, SharedMemory.Shared, Opening.opening_shared}
+use Rattle.machine_memory.specs.{declared.calls.Running.Running, SharedMemory.MemoryState, Opening.opening_shared}
 use Rattle.machine_steps.specs.{World.World, ChainLeft.chain_left}
 
 -- the parties are between calls, and the queue is empty and open
-abbrev pub opening_world : {T : Type 0} → Kind → ℕ → World (Shared T) (Running T)
+abbrev pub opening_world : {T : Type 0} → Kind → ℕ → World (MemoryState T) (Running T)
 opening_world k parties = record { shared = opening_shared k; calls = replicate parties None }
 
 -- the slots once a call that is about to write has written
@@ -41,6 +41,6 @@ listed_in (kind.Bounded n) lock head tail slots = gathered n head (position_of t
 listed_in kind.Unbounded lock head tail slots = []
 
 -- the list that a machine holds, with the items that are not yet written
-abbrev pub left_of : {T : Type 0} → Kind → World (Shared T) (Running T) → List T
+abbrev pub left_of : {T : Type 0} → Kind → World (MemoryState T) (Running T) → List T
 left_of kind.Unbounded w = chain_left w.calls w.shared.head_block w.shared.blocks
 left_of k w = listed_in k w.shared.lock w.shared.head w.shared.tail (all_written w.calls w.shared.slots)

@@ -2,8 +2,8 @@
 use Rattle.std.specs.Prelude.{ℕ, Bool, Option, Some, None, IsSome}
 use Rattle.queue_steps.specs.{declared.model.Call.Call, declared.model.Reply.Reply, Kinds.call_kind, Kinds.call_value, Kinds.filled, Next.CanNext, Next.next_of, Next.first_local, declared.steps.types.Answer.Answer, declared.steps.types.Answer.Answer as answer, declared.steps.types.Kind.Kind, declared.steps.types.Next.Next, declared.steps.types.Next.Next as next}
 use Rattle.machine_memory.specs.{declared.calls.Running.Running, Blocks.without, EffectOf.effect_of}
-use Rattle.machine_memory.specs.SharedMemory.{Shared, CanOperate, answered, operated, block_touched, slots_there, CanTouch, touched, handed}
-use Rattle.machine_steps.specs.World.{Made, Begun}
+use Rattle.machine_memory.specs.SharedMemory.{MemoryState, CanOperate, answered, operated, block_touched, slots_there, CanTouch, touched, handed}
+use Rattle.machine_steps.specs.World.{StepOutcome, Begun}
 
 -- the call that waits for its next step, if it has one, and the reply, if it ends
 abbrev pub running_after : {T : Type 0} → Next ℕ → Option T → Option (Running T)
@@ -25,28 +25,28 @@ spare_in (next.Step l t o) = None
 spare_in (next.Reply k spare) = spare
 
 -- what is shared after the touch of the call's next step, and what the call carries then
-abbrev pub after_touch : {T : Type 0} → Shared T → Running T → Shared T
+abbrev pub after_touch : {T : Type 0} → MemoryState T → Running T → MemoryState T
 after_touch s r = touched r.touch (block_touched r.op) s r.carried
 
-abbrev pub carried_then : {T : Type 0} → Shared T → Running T → Option T
+abbrev pub carried_then : {T : Type 0} → MemoryState T → Running T → Option T
 carried_then s r = handed r.touch (block_touched r.op) s r.carried
 
 -- what the operation of the call's next step answers, and what the call does then
-abbrev pub answer_to : {T : Type 0} → Bool → Shared T → Running T → Answer ℕ
+abbrev pub answer_to : {T : Type 0} → Bool → MemoryState T → Running T → Answer ℕ
 answer_to ok s r = answered ok (after_touch s r) r.op
 
-abbrev pub next_after : {T : Type 0} → Kind → Bool → Shared T → Running T → Next ℕ
+abbrev pub next_after : {T : Type 0} → Kind → Bool → MemoryState T → Running T → Next ℕ
 next_after k ok s r = next_of k r.local (answer_to ok s r)
 
 -- what is shared after the operation of the call's next step, and after the block that it gives up then, if there is one
-abbrev pub after_operation : {T : Type 0} → Bool → Shared T → Running T → Shared T
+abbrev pub after_operation : {T : Type 0} → Bool → MemoryState T → Running T → MemoryState T
 after_operation ok s r = operated ok (after_touch s r) r.op
 
-abbrev pub shared_then : {T : Type 0} → Kind → Bool → Shared T → Running T → Shared T
+abbrev pub shared_then : {T : Type 0} → Kind → Bool → MemoryState T → Running T → MemoryState T
 shared_then k ok s r = record (after_operation ok s r) { blocks = without (spare_in (next_after k ok s r)) (after_operation ok s r).blocks }
 
 -- one step of a call. `ok` says whether a block that it asks for is granted
-abbrev pub step_of : {T : Type 0} → Kind → Bool → Shared T → Running T → Made (Shared T) (Running T) T
+abbrev pub step_of : {T : Type 0} → Kind → Bool → MemoryState T → Running T → StepOutcome (MemoryState T) (Running T) T
 step_of k ok s r = record {
   shared = shared_then k ok s r;
   effect = effect_of k r.local (answer_to ok s r);
@@ -55,7 +55,7 @@ step_of k ok s r = record {
 }
 
 -- the step can be taken
-pub record CanStep {T : Type 0} (k : Kind) (ok : Bool) (s : Shared T) (r : Running T) : Type 0 where
+pub record CanStep {T : Type 0} (k : Kind) (ok : Bool) (s : MemoryState T) (r : Running T) : Type 0 where
   pub touches : CanTouch r.touch (slots_there s (block_touched r.op))
   pub operates : CanOperate (after_touch s r) r.op
   pub goes_on : CanNext k r.local (answer_to ok s r)

@@ -9,7 +9,7 @@ pub record World (S R : Type 0) : Type 0 where
   pub calls : List (Option R)
 
 -- what a step makes: what is shared then, the kind of its effect, and the call as it goes on or its reply
-pub record Made (S R T : Type 0) : Type 0 where
+pub record StepOutcome (S R T : Type 0) : Type 0 where
   pub shared : S
   pub effect : Option EffectKind
   pub call : Option R
@@ -25,10 +25,10 @@ abbrev pub call_at : {S R : Type 0} → World S R → ℕ → Option R
 call_at w p = slice_index_or w.calls p None
 
 -- after the step that the party p took
-abbrev pub stepped : {S R T : Type 0} → World S R → ℕ → Made S R T → World S R × Told T
+abbrev pub stepped : {S R T : Type 0} → World S R → ℕ → StepOutcome S R T → World S R × Told T
 stepped w p t = (record { shared = t.shared; calls = slice_set w.calls p t.call }, Ran t.effect t.reply)
 
-abbrev pub stepped_if : {S R T : Type 0} → (Bool → S → R → Made S R T) → World S R → Bool → ℕ → Option R → World S R × Told T
+abbrev pub stepped_if : {S R T : Type 0} → (Bool → S → R → StepOutcome S R T) → World S R → Bool → ℕ → Option R → World S R × Told T
 stepped_if step w ok p None = (w, Skipped)
 stepped_if step w ok p (Some r) = stepped w p (step ok w.shared r)
 
@@ -45,6 +45,6 @@ abbrev pub can_begin : {S R : Type 0} → World S R → ℕ → Bool
 can_begin w p = nat_lt p (length w.calls) && is_none (call_at w p)
 
 -- one event, where `ok` says whether the allocator grants what is asked for
-abbrev pub world_event : {S R T : Type 0} → (Bool → S → R → Made S R T) → (Call T → Begun R T) → World S R → Bool → Event T → World S R × Told T
+abbrev pub world_event : {S R T : Type 0} → (Bool → S → R → StepOutcome S R T) → (Call T → Begun R T) → World S R → Bool → Event T → World S R × Told T
 world_event step start w ok (Begin p c) = if can_begin w p then began_by w p (start c) else (w, Skipped)
 world_event step start w ok (Step p granted) = stepped_if step w (granted && ok) p (call_at w p)

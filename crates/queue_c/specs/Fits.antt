@@ -23,5 +23,5 @@ abbrev pub is_within : Turn → Bool
 is_within t = is_within_at t.party t.pending
 
 -- the party is there, or a call of it is pending that is not wait-free; and it is one of this queue's
-abbrev pub Fits : Turn → QueueId → Type 0
-Fits t q = (queue_of t ≡ q) × (is_within t ≡ false)
+abbrev pub IsTurnOf : Turn → QueueId → Type 0
+IsTurnOf t q = (queue_of t ≡ q) × (is_within t ≡ false)

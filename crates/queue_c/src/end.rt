@@ -3,7 +3,7 @@ ghost use Rattle.std.specs.Prelude.{◌≡◌, ◌<◌, None, Some, IfOk};
 ghost use Rattle.std.specs.Arc.{arc_value};
 ghost use Rattle.concurrent_queue.specs.Shared.{IsPartyOf};
 ghost use Rattle.queue_c.specs.Begins.{Begins};
-ghost use Rattle.queue_c.specs.Fits.{Fits};
+ghost use Rattle.queue_c.specs.Fits.{IsTurnOf};
 
 use crate::answers::Answer;
 use call_driver::gate::Open;
@@ -26,7 +26,7 @@ pub(crate) struct Turn {
 pub struct End {
     queue: Arc<ConcurrentQueue<u64, Global>, Global>,
     turn: Turn,
-    ghost fits: { Fits turn (arc_value queue) },
+    ghost fits: { IsTurnOf turn (arc_value queue) },
 }
 
 /// Why a party is not split.

@@ -1,4 +1,4 @@
-//! Crews of the form `threads` as no run of the program has them: on queues that are closed, or have items before, or whose blocks are refused, and at work within one another's calls.
+//! Crews of the mode `threads` as no run of the program has them: on queues that are closed, or have items before, or whose blocks are refused, and at work within one another's calls.
 ghost use Rattle.std.specs.Prelude.{◌≡◌, ◌<◌, ◌+◌, ◌*◌, ◌^◌, true, IfOk};
 ghost use Rattle.concurrent_queue.specs.Shared.{IsPartyOf};
 

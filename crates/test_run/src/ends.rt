@@ -1,4 +1,4 @@
-//! Crews of the form `channel` as no run of the program has them: on channels whose blocks are refused, or that have more than is received, and at work within one another's calls.
+//! Crews of the mode `channel` as no run of the program has them: on channels whose blocks are refused, or that have more than is received, and at work within one another's calls.
 ghost use Rattle.std.specs.Prelude.{◌≡◌};
 ghost use Rattle.std.specs.Option.{IfSome};
 ghost use Rattle.counted_channel.specs.Channel.{IsEndOf};

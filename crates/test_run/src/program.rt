@@ -9,7 +9,7 @@ use test_support::runs::{End, words};
 /// An input of one line.
 const INPUT: &[u8] = b"push 1\n";
 
-/// All that is told of arguments that ask for no form.
+/// All that is told of arguments that ask for no mode.
 const USAGE: &str =
     "usage: queue_run script KIND | replay KIND PARTIES | threads KIND PUSHERS POPPERS ITEMS | handshake | channel KIND SENDERS RECEIVERS ITEMS\n";
 

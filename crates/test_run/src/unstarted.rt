@@ -23,7 +23,7 @@ enum Comes {
     Another,
 }
 
-/// Runs the form that a line asks for, where no more threads can be started than the limit says.
+/// Runs the mode that a line asks for, where no more threads can be started than the limit says.
 fn run<R: Abort + Threads + Wait + Sync + AllocGlobal>(
     rt: &R,
     line: &str,
@@ -36,7 +36,7 @@ fn run<R: Abort + Threads + Wait + Sync + AllocGlobal>(
         Some(Mode::Threads(load)) => threads(rt, alloc, load, limit, output),
         Some(Mode::Handshake) => handshake(rt, alloc, limit, output),
         Some(Mode::Channel(load)) => channel(rt, alloc, load, limit, output),
-        _ => panic!(rt; "a form without threads"),
+        _ => panic!(rt; "a mode without threads"),
     }
 }
 

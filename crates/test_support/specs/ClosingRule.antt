@@ -44,11 +44,11 @@ abbrev pub Saw : ℕ → View → View → Type 0
 Saw n d k = Begins d.seen k.seen × (mark k.seen ≡ n) × (k.mine ≡ d.mine)
 
 -- What the seat keeps in hand and carries stays.
-abbrev pub Keeps : {S : Type 0} → Sitter S View → Sitter S View → Type 0
-Keeps m k = (k.hand ≡ m.hand) × (k.spare ≡ m.spare)
+abbrev pub KeepsHand : {S : Type 0} → Sitter S View → Sitter S View → Type 0
+KeepsHand m k = (k.hand ≡ m.hand) × (k.spare ≡ m.spare)
 
 abbrev pub closes : {S : Type 0} → Sitter S View → ℕ → Sitter S View → Type 0
-closes m n k = Keeps m k × (n ≡ 0 → Closed m.view k.view) × (n ≢ 0 → Saw 1 m.view k.view)
+closes m n k = KeepsHand m k × (n ≡ 0 → Closed m.view k.view) × (n ≢ 0 → Saw 1 m.view k.view)
 
 abbrev pub looks : {S : Type 0} → Sitter S View → ℕ → Sitter S View → Type 0
-looks m n k = Keeps m k × (n ≡ 0 → Saw 0 m.view k.view) × (n ≢ 0 → Saw 1 m.view k.view)
+looks m n k = KeepsHand m k × (n ≡ 0 → Saw 0 m.view k.view) × (n ≢ 0 → Saw 1 m.view k.view)

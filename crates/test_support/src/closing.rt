@@ -4,7 +4,7 @@ ghost use denote.RawPtr.{InBlock};
 ghost use Rattle.mem_blocks.specs.Web.{sitter};
 ghost use Rattle.mem_blocks.specs.Laid.{head_of};
 ghost use Rattle.mem_blocks.specs.Seats.{Sits, Same};
-ghost use Rattle.test_support.specs.ClosingRule.{Closed, Keeps, Saw, newcomer, nothing};
+ghost use Rattle.test_support.specs.ClosingRule.{Closed, KeepsHand, Saw, newcomer, nothing};
 
 use crate::closing_rule::{Closes, ClosingRule, Looks, Parts, QueueEnds, Returns, View};
 use mem_blocks::block::BlockPtr;
@@ -47,7 +47,7 @@ pub fn close<S, A: Allocator>(
 ) -> bool
     requires { Sits seat.old web.now × InBlock tail.ptr × (tail.ptr ≡ web.now.key.tail.ptr) }
     ensures seat { Same seat.new seat.old }
-    ensures kept { Keeps seat.old.sitter seat.new.sitter }
+    ensures kept { KeepsHand seat.old.sitter seat.new.sitter }
     ensures did { result ≡ true → Closed seat.old.sitter.view seat.new.sitter.view }
     ensures was { result ≡ false → Saw 1 seat.old.sitter.view seat.new.sitter.view }
 {
@@ -62,7 +62,7 @@ pub fn is_closed<S, A: Allocator>(
 ) -> bool
     requires { Sits seat.old web.now × InBlock tail.ptr × (tail.ptr ≡ web.now.key.tail.ptr) }
     ensures seat { Same seat.new seat.old }
-    ensures kept { Keeps seat.old.sitter seat.new.sitter }
+    ensures kept { KeepsHand seat.old.sitter seat.new.sitter }
     ensures closed { result ≡ true → Saw 1 seat.old.sitter.view seat.new.sitter.view }
     ensures open { result ≡ false → Saw 0 seat.old.sitter.view seat.new.sitter.view }
 {

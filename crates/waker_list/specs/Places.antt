@@ -31,8 +31,8 @@ is_settled other = false
 abbrev pub HasEntry : Seat → Option Ticket → Type 0
 HasEntry seat ticket = is_on seat ≡ is_some ticket
 
-abbrev pub Fits : Seat → Option Ticket → Type 0
-Fits seat ticket = HasEntry seat ticket × IsTrue (may_look seat)
+abbrev pub MayLook : Seat → Option Ticket → Type 0
+MayLook seat ticket = HasEntry seat ticket × IsTrue (may_look seat)
 
 -- where it is once its entry has ended, which a notify had taken off the list or not
 abbrev pub came_off_of : Seat → Bool → Seat

@@ -3,7 +3,7 @@ ghost use Rattle.std.specs.Prelude.{◌≡◌, ℕ, false, true, IsTrue, is_some
 ghost use Rattle.futures.specs.Task.{IsArmed, Hears, Keeps};
 ghost use Rattle.event_count.specs.declared.wakes.seats.Seat.TheVariants.{Away, Asleep};
 ghost use Rattle.event_count.specs.Sleep.Seats.{looked_of};
-ghost use Rattle.waker_list.specs.Places.{Fits, HasEntry, ComesOff, Rises, is_missed};
+ghost use Rattle.waker_list.specs.Places.{MayLook, HasEntry, ComesOff, Rises, is_missed};
 
 mod entering;
 
@@ -21,7 +21,7 @@ pub struct Place<'a, C> {
     sitting: Sitting<C>,
     /// Its entry, until it sees that a notify has taken it off the list.
     ticket: Option<Ticket>,
-    ghost fits: { Fits sitting.seat ticket },
+    ghost fits: { MayLook sitting.seat ticket },
 }
 
 /// A look at the condition that is to be made. Its holder makes it, and says what it found.
@@ -41,7 +41,7 @@ pub struct Spot<C> {
     source: Snapshot<Source>,
     sitting: Sitting<C>,
     ticket: Option<Ticket>,
-    ghost fits: { Fits sitting.seat ticket },
+    ghost fits: { MayLook sitting.seat ticket },
 }
 
 /// Takes a future off the list, if it is on it.

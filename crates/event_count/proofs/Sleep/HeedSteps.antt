@@ -3,7 +3,7 @@ use Rattle.std.proofs.Common.{◌≡◌, ◌≢◌, inl, inr, ℕ, ◌+◌, ◌-
 use Rattle.event_count.specs.{declared.wakes.steps.Phase.Phase, declared.wakes.steps.Whom.TheVariants.One, declared.wakes.steps.Whom.TheVariants.All, Sleep.Steps.low, Sleep.Steps.step_of, Sleep.Laws.is_woken, Sleep.Laws.is_rousing}
 use Rattle.event_count.specs.declared.wakes.steps.Phase.TheVariants.{Idle, Starting, Loaded, Prepared, Missed, Returned, Given, Taking, Clearing, Moving, Waking}
 use Rattle.event_count.specs.Sleep.World.{Party, Awake, Asleep, World, is_asleep, risen, put, goes_on, counts_late, wakes_one, takes}
-use Rattle.event_count.proofs.Sleep.{Counts.one, Counts.count_le, Counts.count_map, Counts.count_none, Counts.set_get, Counts.set_other, Counts.map_at, Told.Fits, Told.Told, Told.turned, Telling.same_risen, Telling.none_risen}
+use Rattle.event_count.proofs.Sleep.{Counts.one, Counts.count_le, Counts.count_map, Counts.count_none, Counts.set_get, Counts.set_other, Counts.map_at, Told.Relies, Told.Told, Told.turned, Telling.same_risen, Telling.none_risen}
 use Rattle.event_count.proofs.Sleep.Heed.{is_near, is_parking, is_unmoved, is_moving, is_waking, is_moving_all, moving_rouses, tally_of, part, unless, no_fewer, Covers, Heeds, swaps, Owes, owes_keeps, alike, empty_keeps, both, two_swaps}
 
 abbrev pub Heeded : World → Type 0
@@ -22,7 +22,7 @@ not_near : (e t : ℕ) (b : Bool) → t ≤ e → (e + 1 == t) ≡ b → ◌≡�
 not_near e t true le is = let same = eqb-true (e + 1) t is in absurd (omega (arith, le, same))
 not_near e t false le is = refl
 
-none_near : (w : World) (p : Party) → Fits w p → one (is_near (w.events + 1)) p ≡ 0
+none_near : (w : World) (p : Party) → Relies w p → one (is_near (w.events + 1)) p ≡ 0
 none_near w (Awake (Prepared t) m) f = not_near w.events t (w.events + 1 == t) f refl
 none_near w (Awake (Missed t) m) f = not_near w.events t (w.events + 1 == t) f.0 refl
 none_near w other f = refl

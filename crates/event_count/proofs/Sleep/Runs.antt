@@ -2,12 +2,12 @@
 use Rattle.std.proofs.Common.{◌≡◌, ◌⊎◌, inl, inr, ℕ, ◌+◌, ◌≤◌, ◌∙◌, Bool, List, [], ◌∷◌, count_by, refl, sym, ap, subst, arith, le_refl}
 use Rattle.event_count.specs.{declared.wakes.steps.Phase.TheVariants.Idle, declared.wakes.steps.Phase.TheVariants.Given, declared.wakes.steps.Phase.TheVariants.Taking, declared.wakes.steps.Phase.TheVariants.Moving, declared.wakes.steps.Phase.TheVariants.Waking, declared.wakes.steps.Whom.TheVariants.One, declared.wakes.steps.Whom.TheVariants.All, Sleep.Laws.is_giving, Sleep.Laws.is_telling, Sleep.Laws.HasMissedNothing, Sleep.Laws.NobodySleepsThrough, Sleep.Laws.AreHeeded, Sleep.Laws.AreRoused, Sleep.Laws.NoItemIsLeft, Sleep.Examples.Examples}
 use Rattle.event_count.specs.Sleep.World.{Party, Awake, Asleep, World, Event, is_asleep, start, happens, run}
-use Rattle.event_count.proofs.Sleep.{Counts.one, Counts.count_at, Counts.count_le, Counts.count_none, Counts.some_counted, Counts.replicate_get, Counts.count_cons, Told.MaySleep, Told.Fits, Told.Told, Heed.is_near, Heed.is_parking, Heed.is_unmoved, Heed.is_moving, Heed.is_waking, Heed.tally_of, Heed.Heeds, HeedSteps.Heeded}
+use Rattle.event_count.proofs.Sleep.{Counts.one, Counts.count_at, Counts.count_le, Counts.count_none, Counts.some_counted, Counts.replicate_get, Counts.count_cons, Told.MaySleep, Told.Relies, Told.Told, Heed.is_near, Heed.is_parking, Heed.is_unmoved, Heed.is_moving, Heed.is_waking, Heed.tally_of, Heed.Heeds, HeedSteps.Heeded}
 use Rattle.event_count.proofs.Sleep.Telling as telling
 use Rattle.event_count.proofs.Sleep.Heeding as heeding
 
 told_start : (n items : ℕ) → Told (start n items)
-told_start n items = λ k p at. subst (Fits (start n items)) (sym (replicate_get n k (Awake Idle 0) p at)) tt
+told_start n items = λ k p at. subst (Relies (start n items)) (sym (replicate_get n k (Awake Idle 0) p at)) tt
 
 no_such : (n items : ℕ) (f : Party → Bool) → one f (Awake Idle 0) ≡ 0 → count_by f (start n items).parties ≡ 0
 no_such n items f none = count_none f (start n items).parties (λ k p at. ap (one f) (replicate_get n k (Awake Idle 0) p at) ∙ none)

@@ -5,7 +5,7 @@ use Rattle.event_count.specs.{declared.wakes.steps.Phase.Phase, declared.wakes.s
 use Rattle.event_count.specs.declared.wakes.steps.Phase.TheVariants.{Idle, Starting, Loaded, Prepared, Missed, Returned, Given, Taking, Clearing, Moving, Waking}
 use Rattle.event_count.specs.Sleep.World.{Party, Awake, Asleep, World, Event, Steps, Rises, Prepares, Looks, Leaves, Gives, Tells, is_asleep, risen, put, goes_on, counts_late, wakes_one, takes, rises, looks, leaves, prepares, gives, tells, acts, happens}
 use Rattle.event_count.proofs.Sleep.Counts.{one, count_set, count_le, count_map, count_none, set_get, set_other, map_get, map_at}
-use Rattle.event_count.proofs.Sleep.Told.{is_untold, is_plain, MayPark, MaySleep, Fits, Told, keeps, turned, turned_keeps, plain_keeps}
+use Rattle.event_count.proofs.Sleep.Told.{is_untold, is_plain, MayPark, MaySleep, Relies, Told, keeps, turned, turned_keeps, plain_keeps}
 
 -- the same low half, and less than 2 ^ 32 apart
 pub same_low : (t e : ℕ) → t ≤ e → e < t + 2 ^ 32 → low e ≡ low t → t ≡ e
@@ -23,7 +23,7 @@ may_sleep w m h =
 
 module _ (w : World) (k m : ℕ) (told : Told w) where
   -- a party that does not tell goes from p to q, and `EVENTS` stays
-  stays : (p q : Party) (sleepers items late : ℕ) → slice_get w.parties k ≡ Some p → is_plain p ≡ true → Fits (turned w k q w.events sleepers items late) q → Told (turned w k q w.events sleepers items late)
+  stays : (p q : Party) (sleepers items late : ℕ) → slice_get w.parties k ≡ Some p → is_plain p ≡ true → Relies (turned w k q w.events sleepers items late) q → Told (turned w k q w.events sleepers items late)
   stays p q sleepers items late at plain fits = plain_keeps w k p q w.events sleepers items late at plain (le_refl _) fits told
 
   -- a park on a ticket sleeps if the low half of `EVENTS` is the ticket's
@@ -85,9 +85,9 @@ none_asleep (Asleep t parked m) = refl
 pub none_risen : (w : World) → count_by is_asleep (map risen w.parties) ≡ 0
 none_risen w = count_none is_asleep (map risen w.parties) (λ i x is. let y = map_get risen w.parties i x is in ap (one is_asleep) y.2 ∙ none_asleep y.0)
 
-risen_fits : (w v : World) (i : ℕ) (p r : Party) → slice_get w.parties i ≡ Some p → r ≡ risen p → Fits v r ⊎ (slice_get w.parties i ≡ Some r)
+risen_fits : (w v : World) (i : ℕ) (p r : Party) → slice_get w.parties i ≡ Some p → r ≡ risen p → Relies v r ⊎ (slice_get w.parties i ≡ Some r)
 risen_fits w v i (Awake p m) r at is = inr (at ∙ ap (λ x. Some x) (sym is))
-risen_fits w v i (Asleep t parked m) r at is = inl (subst (Fits v) (sym is) tt)
+risen_fits w v i (Asleep t parked m) r at is = inl (subst (Relies v) (sym is) tt)
 
 -- after a wake of all nobody sleeps
 wakes_all : (w : World) (k m : ℕ) → Told w → slice_get w.parties k ≡ Some (Awake (Waking All) m) → Told (goes_on (record w { parties = map risen w.parties }) k (Waking All) m 0)
@@ -101,7 +101,7 @@ wakes_all w k m told at =
     keeps w v (record {
       events = le_refl _;
       parties = λ i r is. elim (set_get up k i q r is) [
-        | inl same ↦ inl (subst (Fits v) (sym same) tt)
+        | inl same ↦ inl (subst (Relies v) (sym same) tt)
         | inr old ↦ let y = map_get risen w.parties i r old in risen_fits w v i y.0 r y.1 y.2
       ];
       park = λ stays mark h. (
@@ -175,7 +175,7 @@ module _ (w : World) (k m : ℕ) (told : Told w) where
       told_anew w.times n (count_by f w.parties) (count_by f (slice_set w.parties k q)) (let a = turns f in omega (arith, a, no, alike)) old come in
       keeps w v (record {
         events = le_refl _;
-        parties = λ i r is. elim (set_get w.parties k i q r is) [ inl same ↦ inl (subst (Fits v) (sym same) tt) | inr old ↦ inr old ];
+        parties = λ i r is. elim (set_get w.parties k i q r is) [ inl same ↦ inl (subst (Relies v) (sym same) tt) | inr old ↦ inr old ];
         park = λ stays mark h. (le_trans h.0 (omega arith), λ n since come. tell n (is_untold n) refl refl (λ was. h.1 n since was) come);
         sleep = λ asleep mark h. (le_trans h.0 (omega arith), λ n since come. tell n (is_telling n) refl refl (λ was. h.1 n since was) come);
       }) told

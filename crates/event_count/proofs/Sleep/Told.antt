@@ -18,25 +18,25 @@ abbrev pub MaySleep : World → ℕ → Type 0
 MaySleep w m = (m ≤ w.times) × ((n : ℕ) → m < n → n ≤ w.times → 1 ≤ count_by (is_telling n) w.parties)
 
 -- what a party may rely on
-abbrev pub Fits : World → Party → Type 0
-Fits w (Asleep t at m) = at < t + 2 ^ 32 → MaySleep w m
-Fits w (Awake (Loaded t) m) = t ≤ w.events
-Fits w (Awake (Prepared t) m) = t ≤ w.events
-Fits w (Awake (Missed t) m) = (t ≤ w.events) × (t ≡ w.events → MayPark w m)
-Fits w other = Unit {0}
+abbrev pub Relies : World → Party → Type 0
+Relies w (Asleep t at m) = at < t + 2 ^ 32 → MaySleep w m
+Relies w (Awake (Loaded t) m) = t ≤ w.events
+Relies w (Awake (Prepared t) m) = t ≤ w.events
+Relies w (Awake (Missed t) m) = (t ≤ w.events) × (t ≡ w.events → MayPark w m)
+Relies w other = Unit {0}
 
 abbrev pub Told : World → Type 0
-Told w = (k : ℕ) (p : Party) → slice_get w.parties k ≡ Some p → Fits w p
+Told w = (k : ℕ) (p : Party) → slice_get w.parties k ≡ Some p → Relies w p
 
 -- what an event owes that makes v of w
 pub record Changes (w v : World) : Type 0 where
   pub events : w.events ≤ v.events
   -- a party of v fits, or was a party of w
-  pub parties : (k : ℕ) (p : Party) → slice_get v.parties k ≡ Some p → Fits v p ⊎ (slice_get w.parties k ≡ Some p)
+  pub parties : (k : ℕ) (p : Party) → slice_get v.parties k ≡ Some p → Relies v p ⊎ (slice_get w.parties k ≡ Some p)
   pub park : v.events ≡ w.events → (m : ℕ) → MayPark w m → MayPark v m
   pub sleep : 1 ≤ count_by is_asleep v.parties → (m : ℕ) → MaySleep w m → MaySleep v m
 
-still_fits : (w v : World) → Changes w v → (k : ℕ) (p : Party) → slice_get v.parties k ≡ Some p → Fits w p → Fits v p
+still_fits : (w v : World) → Changes w v → (k : ℕ) (p : Party) → slice_get v.parties k ≡ Some p → Relies w p → Relies v p
 still_fits w v c k (Asleep t at m) is f = λ near.
     let asleep : 1 ≤ count_by is_asleep v.parties = count_at is_asleep v.parties k (Asleep t at m) is in c.sleep asleep m (f near)
 still_fits w v c k (Awake (Loaded t) m) is f = let grows = c.events in omega (arith, f)
@@ -62,13 +62,13 @@ still : (a b p q : ℕ) → b + p ≡ a + q → p ≤ q → 1 ≤ a → 1 ≤ b
 still a b p q e le some = omega (arith, e, le, some)
 
 -- the party goes from p to q
-pub turned_keeps : (w : World) (k : ℕ) (p q : Party) (events sleepers items late : ℕ) → slice_get w.parties k ≡ Some p → w.events ≤ events → Fits (turned w k q events sleepers items late) q
+pub turned_keeps : (w : World) (k : ℕ) (p q : Party) (events sleepers items late : ℕ) → slice_get w.parties k ≡ Some p → w.events ≤ events → Relies (turned w k q events sleepers items late) q
     → (events ≡ w.events → (n : ℕ) → one (is_untold n) p ≤ one (is_untold n) q)
     → (1 ≤ count_by is_asleep (slice_set w.parties k q) → (n : ℕ) → one (is_telling n) p ≤ one (is_telling n) q)
     → Told w → Told (turned w k q events sleepers items late)
 turned_keeps w k p q events sleepers items late at grows fits untold telling told = keeps w (turned w k q events sleepers items late) (record {
   events = grows;
-  parties = λ i r is. elim (set_get w.parties k i q r is) [ inl same ↦ inl (subst (Fits (turned w k q events sleepers items late)) (sym same) fits) | inr old ↦ inr old ];
+  parties = λ i r is. elim (set_get w.parties k i q r is) [ inl same ↦ inl (subst (Relies (turned w k q events sleepers items late)) (sym same) fits) | inr old ↦ inr old ];
   park = λ stays m h. (
     h.0,
     λ n since come. still (count_by (is_untold n) w.parties) (count_by (is_untold n) (slice_set w.parties k q)) _ _ (count_set (is_untold n) w.parties k p q at) (untold stays n) (h.1 n since come),
@@ -98,7 +98,7 @@ plain_telling n (Awake (Waking All) m) is = absurd (cc)
 plain_telling n other is = refl
 
 pub plain_keeps : (w : World) (k : ℕ) (p q : Party) (events sleepers items late : ℕ) → slice_get w.parties k ≡ Some p → is_plain p ≡ true → w.events ≤ events
-    → Fits (turned w k q events sleepers items late) q → Told w → Told (turned w k q events sleepers items late)
+    → Relies (turned w k q events sleepers items late) q → Told w → Told (turned w k q events sleepers items late)
 plain_keeps w k p q events sleepers items late at plain grows fits told = turned_keeps w k p q events sleepers items late at grows fits
     (λ stays n. (let a = plain_untold n p plain in omega (arith, a)))
     (λ asleep n. (let a = plain_telling n p plain in omega (arith, a)))

@@ -4,7 +4,7 @@ use Rattle.queue_steps.specs.{State.State, declared.steps.chain.ChainLocal.Chain
 use Rattle.machine_replay.specs.{Vocabulary.Kind, Vocabulary.Op, Vocabulary.Touch, Vocabulary.Local, Vocabulary.Running, Progress.AppendsReplyWithin}
 use Rattle.queue_laws.specs.{Common.Stand.Stand, Chain.ChainCells.Chain, Chain.ChainAt.At, Chain.ChainAt.laying, Chain.ChainAt.opening, Chain.ChainAt.chaining, Chain.ChainAt.writing}
 use Rattle.machine_replay.proofs.{Engine.StandOf.running_of, Progress.Appended.HasAppend, Progress.Appended.appends_reply, Chain.Stretch.chain_rules}
-use Rattle.machine_memory.specs.SharedMemory.{Shared}
+use Rattle.machine_memory.specs.SharedMemory.{MemoryState}
 use Rattle.machine_steps.specs.Steps.{step_of}
 
 -- how many steps a call has before it that has appended
@@ -25,7 +25,7 @@ append_within x had = absurd had
 nearer_write : {A : Type 0} (l : Local ℕ) (t : Touch) (o : Op ℕ) (v : Option A) (r' : Running A) (m : ℕ) → Some (record { local = l; touch = t; op = o; carried = v }) ≡ Some r' → to_write l < m → to_write r'.local < m
 nearer_write {A} l t o v r' m e lt = let same : ◌≡◌ {A = Running A} (record { local = l; touch = t; op = o; carried = v }) r' = cc in subst (λ z. to_write z.local < m) same lt
 
-append_falls : {A : Type 0} {c : Chain A} {who : ℕ} {ms : List (State A)} {k : Stand A} (ok : Bool) (s : Shared A) (r' : Running A) → At c who ms k → HasAppend k.effects
+append_falls : {A : Type 0} {c : Chain A} {who : ℕ} {ms : List (State A)} {k : Stand A} (ok : Bool) (s : MemoryState A) (r' : Running A) → At c who ms k → HasAppend k.effects
     → (step_of Kind.Unbounded ok s (running_of k)).call ≡ Some r' → to_write r'.local < to_write k.local
 unfolding to_write
 append_falls ok s r' (laying d v n name f holds mine lays fresh) had goes = nearer_write _ _ _ _ r' 4 goes (omega arith)

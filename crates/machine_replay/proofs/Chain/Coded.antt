@@ -5,15 +5,15 @@ use Rattle.machine_replay.specs.Vocabulary.{Kind}
 use Rattle.queue_laws.specs.{Common.Stand.Stand, Chain.ChainCells.Chain, Chain.ChainCells.ChainOk, Chain.ChainAt.At, Chain.ChainAnswers.Answers, Chain.ChainAfter.chain_of, Chain.ChainAfter.carried_of, Chain.ChainAfter.after_of, Chain.ChainAfter.left_by}
 use Rattle.machine_replay.proofs.{Engine.StandOf.running_of, Chain.Names.Codes}
 use Rattle.queue_laws.proofs.Chain.ChainRight.{Gives}
-use Rattle.machine_memory.specs.SharedMemory.{Shared, CanTouch, CanOperate, slots_there, block_touched}
+use Rattle.machine_memory.specs.SharedMemory.{MemoryState, CanTouch, CanOperate, slots_there, block_touched}
 use Rattle.machine_steps.specs.Steps.{after_touch, carried_then, answer_to, shared_then}
 
 -- the words, the links and the blocks of the machine are those of the chain
-abbrev pub CodesShared : {A : Type 0} → Shared A → Chain A → Type 0
+abbrev pub CodesShared : {A : Type 0} → MemoryState A → Chain A → Type 0
 CodesShared s c = Codes c s.head s.tail s.head_block s.tail_block s.blocks
 
 -- the next step of the call can be taken, it is answered by what the chain says, and it leaves the machine standing for the chain after it
-pub record Coded {A : Type 0} (c : Chain A) (who : ℕ) (ms : List (State A)) {k : Stand A} (granted : Bool) (s : Shared A) (at : At c who ms k) : Type 0 where
+pub record Coded {A : Type 0} (c : Chain A) (who : ℕ) (ms : List (State A)) {k : Stand A} (granted : Bool) (s : MemoryState A) (at : At c who ms k) : Type 0 where
   pub touches : CanTouch k.touch (slots_there s (block_touched k.op))
   pub operates : CanOperate (after_touch s (running_of k)) k.op
   pub answers : Answers c k.op (answer_to granted s (running_of k))

@@ -7,12 +7,12 @@ use Rattle.queue_laws.specs.{Common.Moments.HeadWas, Common.Moments.SeenIn, Chai
 use Rattle.queue_laws.specs.Chain.ChainFacts.{place, head_of, HeadIs, IsNamed, HeadBlockIs, HeadBlockRead, IsMore, Got, SawEmpty}
 use Rattle.queue_laws.specs.Chain.ChainCells.{Writer, Writing, Wrote, Reader, Reading, Done, Stands as Rested, Passing, Entering, GivenUp, Chain, FrontOk, ChainOk, Read, Head, HoldsOnly, Nothing, item_at, Free, ItemOk}
 use prog.Atomic.{either}
-use Rattle.machine_memory.specs.{Blocks.block_of, Blocks.behind, Blocks.behind_in, Blocks.state_of, SharedMemory.Shared}
+use Rattle.machine_memory.specs.{Blocks.block_of, Blocks.behind, Blocks.behind_in, Blocks.state_of, SharedMemory.MemoryState}
 use Rattle.machine_replay.proofs.Chain.{Names.Codes, Blocks.state_is, Gives.codes_left, Gives.block_at, Gives.has_place, Gives.state_answers, Gives.one_block, Coded.CodesShared, Coded.Coded, CodesPush.codes_marked, CodesPop.codes_taken, CodesPop.codes_passed, CodesPop.codes_entered}
 use Rattle.queue_laws.proofs.Chain.{ChainReads.front_is, ChainAnswers.same_head, ChainAnswers.head_offset, ChainReads.not_given_up}
 use Rattle.queue_laws.specs.Chain.ChainAt.{Only, Either, IsBehind, IsFurther, pop_head, pop_block, pop_tail, taking, following, peeking, passing, entering, awaiting, count_tail, count_head, count_again, empty_head, empty_tail, closing, closed_tail}
 
-module _ {A : Type 0} (c : Chain A) (who : ℕ) (ms : List (State A)) (ok : Bool) (s : Shared A) where
+module _ {A : Type 0} (c : Chain A) (who : ℕ) (ms : List (State A)) (ok : Bool) (s : MemoryState A) where
   -- V1: the head is read
   pub coded_pop_head : (none : HoldsOnly c who Nothing) → ChainOk c → CodesShared s c → Coded c who ms ok s (pop_head none)
   coded_pop_head none right codes = record {
@@ -57,7 +57,7 @@ module _ {A : Type 0} (c : Chain A) (who : ℕ) (ms : List (State A)) (ok : Bool
         (subst (λ w. CodesShared (moved (w == head_of n more)) (if_taken c who n more new)) (sym codes.head_is) (go (eqb_tells (head_word c) (head_of n more))));
   }
     where
-      moved : Bool → Shared A
+      moved : Bool → MemoryState A
       moved b = record s { head = either b after s.head }
 
       won : head_word c ≡ head_of n more → (((offset_of (head_of n more) + 1 == BLOCK_SLOTS) ≡ true) × (offset_of (head_of n more) + 1 ≡ BLOCK_SLOTS)) ⊎ (((offset_of (head_of n more) + 1 == BLOCK_SLOTS) ≡ false) × (offset_of (head_of n more) + 1 ≢ BLOCK_SLOTS))
@@ -87,7 +87,7 @@ unread_got : {A : Type 0} (c : Chain A) (n who : ℕ) → c.readers n ≡ Readin
 unread_got c n who is e = let z : Reading who ≡ Done = sym is ∙ e in cc
 
 -- what the link of a block answers
-link_answers : {A : Type 0} {c : Chain A} (s : Shared A) (b name : ℕ) → ChainOk c → IsNamed c b name → c.walks b ≢ GivenUp → CodesShared s c
+link_answers : {A : Type 0} {c : Chain A} (s : MemoryState A) (b name : ℕ) → ChainOk c → IsNamed c b name → c.walks b ≢ GivenUp → CodesShared s c
     → IsSome (block_of s.blocks name) × ((i : ℕ) → IsNamed c i name → Answer.Linked (behind s.blocks name) ≡ Answer.Linked (linked_of (c.links i) (c.names (i + 1))))
 link_answers {c = c} s b name right named on codes =
     let x = block_at b name right named on codes in (
@@ -95,7 +95,7 @@ link_answers {c = c} s b name right named on codes =
       λ i other. ap (λ y. Answer.Linked (behind_in y)) x.1 ∙ ap (λ y. Answer.Linked y) (x.2.linked ∙ ap (λ j. linked_of (c.links j) (c.names (j + 1))) (sym (one_block c b i name right named other))),
     )
 
-module _ {A : Type 0} (c : Chain A) (who : ℕ) (ms : List (State A)) (ok : Bool) (s : Shared A) where
+module _ {A : Type 0} (c : Chain A) (who : ℕ) (ms : List (State A)) (ok : Bool) (s : MemoryState A) where
   -- V5: the link to the next block is read, which may be unset yet
   pub coded_following : (x : A) (n name : ℕ) (more : Bool) (holds : HoldsOnly c who (Either (Read n) Head)) (got : Got c who n x name) (pass : (c.passer ≡ Passing who) × (c.head ≡ n + 1))
       → ChainOk c → CodesShared s c → Coded c who ms ok s (following x n name more holds got pass)
@@ -119,7 +119,7 @@ unread_ahead {A} c n right low = go (c.writers n) (c.readers n) (right.item n)
     go (Wrote v) Done h e = absurd (omega arith)
     go w r h e = cc
 
-module _ {A : Type 0} (c : Chain A) (who : ℕ) (ms : List (State A)) (ok : Bool) (s : Shared A) where
+module _ {A : Type 0} (c : Chain A) (who : ℕ) (ms : List (State A)) (ok : Bool) (s : MemoryState A) where
   -- V6: the link behind the next block is read
   pub coded_peeking : (x : A) (n name after : ℕ) (more : Bool) (holds : HoldsOnly c who (Either (Read n) Head)) (got : Got c who n x name) (pass : (c.passer ≡ Passing who) × (c.head ≡ n + 1)) (behind_it : IsBehind c n after)
       → ChainOk c → CodesShared s c → Coded c who ms ok s (peeking x n name after more holds got pass behind_it)

@@ -7,13 +7,13 @@ use Rattle.queue_laws.specs.Chain.ChainCells.{Done, Rests, Laying, Opening, Link
 use Rattle.queue_laws.specs.Chain.{ChainFacts.open_tail_of, ChainFacts.IsNamed, ChainFacts.TailBlockIs, ChainFacts.HasSpare, ChainFacts.SawTail, ChainFacts.Claimed, ChainAnswers.tail_word, ChainAnswers.last_of, ChainAnswers.is_done, ChainAfter.left_by, ChainAfter.if_installed, ChainAfter.claimed_if, ChainAfter.if_claimed, ChainTransitions.appended}
 use Rattle.queue_laws.proofs.Chain.{ChainAnswers.tail_small, ChainAnswers.same_tail, ChainRight.Gives, ChainReads.not_given_up}
 use prog.Atomic.{either}
-use Rattle.machine_memory.specs.{Blocks.without, Blocks.blank, Blocks.places_in, Blocks.state_of, Blocks.put_state, Blocks.put_item, SharedMemory.Shared, SharedMemory.installed}
+use Rattle.machine_memory.specs.{Blocks.without, Blocks.blank, Blocks.places_in, Blocks.state_of, Blocks.put_state, Blocks.put_item, SharedMemory.MemoryState, SharedMemory.installed}
 use Rattle.machine_steps.specs.Steps.{spare_in}
 use Rattle.machine_replay.proofs.Chain.{Codes.lies, Names.Codes, Names.Changed, Blocks.placed, Blocks.place_in, Blocks.item_put, Blocks.next_put, Blocks.state_left, Blocks.both_put, Gives.codes_left, Gives.block_at, Gives.has_place, Gives.state_answers, Coded.CodesShared, Coded.Coded, CodesPush.codes_marked, CodesPush.codes_granted, CodesPush.codes_installed, CodesPush.codes_displayed, CodesPush.codes_appended, CodesPush.codes_laid_out, CodesPush.codes_opened, CodesAt.unread_item, CodesAt.codes_chained, CodesAt.codes_written}
 use Rattle.queue_laws.specs.Chain.ChainTransitions as moves
 use Rattle.queue_laws.specs.Chain.ChainAt.{Only, Either, IsLast, Asks, push_tail, push_block, asking, installing, showing, claiming, laying, opening, chaining, writing, spending}
 
-module _ {A : Type 0} (c : Chain A) (who : ℕ) (ms : List (State A)) (ok : Bool) (s : Shared A) where
+module _ {A : Type 0} (c : Chain A) (who : ℕ) (ms : List (State A)) (ok : Bool) (s : MemoryState A) where
   -- U1: the tail is read
   pub coded_push_tail : (d : PushKind) (v : A) (spare : Option ℕ) (none : HoldsOnly c who Nothing) (spare_is : HasSpare c who spare)
       → ChainOk c → CodesShared s c → Coded c who ms ok s (push_tail d v spare none spare_is)
@@ -38,7 +38,7 @@ module _ {A : Type 0} (c : Chain A) (who : ℕ) (ms : List (State A)) (ok : Bool
 
 module _ {A : Type 0} (c : Chain A) (who : ℕ) (ms : List (State A)) where
   -- U3: a block is asked for
-  pub coded_asking : (ok : Bool) (s : Shared A) (d : PushKind) (v : A) (q : ℕ) (block : Option ℕ) (none : HoldsOnly c who Nothing) (saw : SawTail c q ms) (asked : Asks c q block)
+  pub coded_asking : (ok : Bool) (s : MemoryState A) (d : PushKind) (v : A) (q : ℕ) (block : Option ℕ) (none : HoldsOnly c who Nothing) (saw : SawTail c q ms) (asked : Asks c q block)
       → ChainOk c → CodesShared s c → Coded c who ms ok s (asking d v q block none saw asked)
   coded_asking false s d v q block none saw asked right codes = record {
     touches = tt;
@@ -55,7 +55,7 @@ module _ {A : Type 0} (c : Chain A) (who : ℕ) (ms : List (State A)) where
     codes = λ fine gives. codes_left who (chain_next (chain.Asking d (open_tail_of q) block) (Answer.Granted (length s.blocks))) fine gives (codes_granted who codes);
   }
 
-module _ {A : Type 0} (c : Chain A) (who : ℕ) (ms : List (State A)) (ok : Bool) (s : Shared A) where
+module _ {A : Type 0} (c : Chain A) (who : ℕ) (ms : List (State A)) (ok : Bool) (s : MemoryState A) where
   -- U4: the first block is installed
   pub coded_installing : (d : PushKind) (v : A) (f : ℕ) (none : HoldsOnly c who Nothing) (saw : SawTail c 0 ms) (fresh : c.uses f ≡ Spare who)
       → ChainOk c → CodesShared s c → Coded c who ms ok s (installing d v f none saw fresh)
@@ -103,7 +103,7 @@ module _ {A : Type 0} (c : Chain A) (who : ℕ) (ms : List (State A)) (ok : Bool
         (subst (λ w. CodesShared (moved (w == open_tail_of q)) (if_claimed c who q v)) (sym codes.tail_is) (go (eqb_tells (tail_word c) (open_tail_of q))));
   }
     where
-      moved : Bool → Shared A
+      moved : Bool → MemoryState A
       moved b = record s { tail = either b (open_tail_of q + TAIL_STEP) s.tail }
 
       won : tail_word c ≡ open_tail_of q → (((offset_of (open_tail_of q) + 1 == BLOCK_SLOTS) ≡ true) × (offset_of (open_tail_of q) + 1 ≡ BLOCK_SLOTS)) ⊎ (((offset_of (open_tail_of q) + 1 == BLOCK_SLOTS) ≡ false) × (offset_of (open_tail_of q) + 1 ≢ BLOCK_SLOTS))

@@ -5,20 +5,20 @@ use Rattle.machine_replay.specs.Vocabulary.{Reply, Word, Op, Touch, Answer, Next
 use Rattle.queue_steps.specs.{State.State, ChainWords.offset_of, ChainNext.at, ChainNext.walks, ChainNext.walks_on, declared.steps.chain.ChainLocal.ChainLocal as chain}
 use Rattle.queue_laws.specs.Chain.ChainCells.{Wrote, Reading, Done, Walker, Waits, GivenUp, Chain, ChainOk, Read, Passed, HoldsOnly, item_at, LAST, Walk, Before, Chained, WalkOk}
 use Rattle.queue_laws.specs.Chain.{ChainFacts.head_of, ChainFacts.IsNamed, ChainFacts.Got, ChainAfter.left_by, ChainTransitions.walk_after, ChainTransitions.reads, ChainTransitions.walked, ChainAnswers.is_done, ChainAnswers.waits_at, ChainAnswers.IsState, ChainAnswers.StateAnswers, ChainAt.Only, ChainAt.IsLast, ChainAt.reading, ChainAt.beginning, ChainAt.walking, ChainAt.destroying}
-use Rattle.machine_memory.specs.{Blocks.place_count, Blocks.Block, Blocks.without, Blocks.blank, Blocks.places_in, Blocks.state_of, Blocks.put_item, Blocks.put_state, SharedMemory.Shared, declared.blocks.BlockPlace.BlockPlace}
+use Rattle.machine_memory.specs.{Blocks.place_count, Blocks.BlockState, Blocks.without, Blocks.blank, Blocks.places_in, Blocks.state_of, Blocks.put_item, Blocks.put_state, SharedMemory.MemoryState, declared.blocks.BlockPlace.BlockPlace}
 use Rattle.machine_steps.specs.Steps.{spare_in}
 use Rattle.machine_replay.proofs.Chain.{Names.Codes, Names.Changed, Gives.block_at, Gives.has_place, Gives.state_answers, Coded.CodesShared, Coded.Coded, Codes.BlockIs, Codes.lies, Fresh.unwalked, Bits.state_waits, Bits.state_passed, CodesWalk.Left, CodesWalk.codes_read, CodesWalk.codes_walked, CodesWalk.after_waits, CodesWalk.codes_given_block}
 use Rattle.machine_replay.proofs.Chain.Blocks.{there, place_in, item_put, state_put, state_is, state_left, both_put, placed_same, placed, changed_twice, changed_set, changed_none}
 use Rattle.queue_laws.proofs.{Common.Puts.put_same, Chain.ChainAnswers.done_is, Chain.ChainAnswers.head_offset, Chain.ChainRead.waits_is, Chain.ChainWalk.after_walker, Chain.ChainReads.not_given_up}
 
 -- the blocks after a walk that goes on or gives the block up
-over_blocks : {A : Type 0} {bs cs : List (Option (Block A))} {f : ℕ} {x : Block A} → Changed bs cs f (Some x) → Changed bs (without (Some f) cs) f None
+over_blocks : {A : Type 0} {bs cs : List (Option (BlockState A))} {f : ℕ} {x : BlockState A} → Changed bs cs f (Some x) → Changed bs (without (Some f) cs) f None
 over_blocks {cs = cs} {f = f} {x = x} changed = changed_twice changed (changed_set cs f None (there cs f x changed.here))
 
 -- The walk goes on after a slot, or is over and gives the block up: this is what the blocks are to be after the step, and what the chain is then.
-walk_on : {A : Type 0} {r : Walk → Chain A} {head tail : ℕ} {front last : Option ℕ} {blocks changed : List (Option (Block A))} (who slot b name : ℕ) (x : Block A)
+walk_on : {A : Type 0} {r : Walk → Chain A} {head tail : ℕ} {front last : Option ℕ} {blocks changed : List (Option (BlockState A))} (who slot b name : ℕ) (x : BlockState A)
     → slot < LAST → Changed blocks changed name (Some x) → ((w : Walk) → (r w).uses name ≡ Chained b)
-    → ((w : Walk) (y : Option (Block A)) (after : List (Option (Block A))) → w ≡ walk_after who slot → Changed blocks after name y → Left w y x → Codes (r w) head tail front last after)
+    → ((w : Walk) (y : Option (BlockState A)) (after : List (Option (BlockState A))) → w ≡ walk_after who slot → Changed blocks after name y → Left w y x → Codes (r w) head tail front last after)
     → Codes (left_by (r (walk_after who slot)) (walks_on name slot)) head tail front last (without (spare_in (walks_on name slot)) changed)
 walk_on {A} {r = r} {head = head} {tail = tail} {front = front} {last = last} {blocks = blocks} {changed = changed} who slot b name x low now used gives = go (after_walker who slot)
   where
@@ -35,8 +35,8 @@ walk_on {A} {r = r} {head = head} {tail = tail} {front = front} {last = last} {b
         (gives (walk_after who slot) (Some x) changed refl now (inr ((λ e. let z : Walker who (slot + 1) ≡ GivenUp = sym h.0 ∙ e in cc), refl)))
 
 -- the block that a walk is at, and the state word of the slot there
-record WalkBlock {A : Type 0} (c : Chain A) (s : Shared A) (b name slot : ℕ) : Type 0 where
-  x : Block A
+record WalkBlock {A : Type 0} (c : Chain A) (s : MemoryState A) (b name slot : ℕ) : Type 0 where
+  x : BlockState A
   is : get_or s.blocks name None ≡ Some x
   block : BlockIs c b x.places x.next
   low : slot < LAST
@@ -44,7 +44,7 @@ record WalkBlock {A : Type 0} (c : Chain A) (s : Shared A) (b name slot : ℕ) :
   placed_in : slot < place_count s.blocks name
   answers : StateAnswers c name slot (Answer.Found (state_of s.blocks name slot))
 
-walk_block : {A : Type 0} (c : Chain A) (who : ℕ) (s : Shared A) (b name slot : ℕ) → ChainOk c → CodesShared s c → c.walks b ≡ Walker who slot → IsNamed c b name → WalkBlock c s b name slot
+walk_block : {A : Type 0} (c : Chain A) (who : ℕ) (s : MemoryState A) (b name slot : ℕ) → ChainOk c → CodesShared s c → c.walks b ≡ Walker who slot → IsNamed c b name → WalkBlock c s b name slot
 walk_block c who s b name slot right codes is named =
     let x = block_at b name right named (λ e. let z : Walker who slot ≡ GivenUp = sym is ∙ e in cc) codes in
     let walk : WalkOk c.readers b (Walker who slot) = subst (λ w. WalkOk c.readers b w) is (right.walk b) in
@@ -59,7 +59,7 @@ walk_block c who s b name slot right codes is named =
       answers = state_answers s.blocks b name slot (state_of s.blocks name slot) x.0 right named x.2 (omega arith) (λ last. absurd (omega arith)) (state_is s.blocks name slot x.0 x.1);
     }
 
-module _ {A : Type 0} (c : Chain A) (who : ℕ) (ms : List (State A)) (ok : Bool) (s : Shared A) where
+module _ {A : Type 0} (c : Chain A) (who : ℕ) (ms : List (State A)) (ok : Bool) (s : MemoryState A) where
   -- W1: the state of a passed block's slot is read
   pub coded_walking : (x : A) (b name slot : ℕ) (holds : HoldsOnly c who (Only (Passed b))) (is : c.walks b ≡ Walker who slot) (named : IsNamed c b name)
       → ChainOk c → CodesShared s c → Coded c who ms ok s (walking x b name slot holds is named)
@@ -143,7 +143,7 @@ waits_once w i j e ne = ap (λ x. waits_at x j) (waits_is w i e) ∙ ne_eqb i j 
 lies_there : {A : Type 0} (c : Chain A) (n m who : ℕ) (x : A) → m ≡ n → c.writers n ≡ Wrote x → c.readers n ≡ Reading who → lies (c.writers m) (c.readers m) ≡ Some x
 lies_there c n m who x same wrote reading_it = rw (same, wrote, reading_it) refl
 
-module _ {A : Type 0} (c : Chain A) (who : ℕ) (ms : List (State A)) (ok : Bool) (s : Shared A) where
+module _ {A : Type 0} (c : Chain A) (who : ℕ) (ms : List (State A)) (ok : Bool) (s : MemoryState A) where
   -- V10: the item is read, in the middle of a block
   pub coded_reading : (x : A) (n name : ℕ) (more : Bool) (holds : HoldsOnly c who (Only (Read n))) (got : Got c who n x name) (wrote : c.writers n ≡ Wrote x) (inner : IsLast n → ⊥)
       → ChainOk c → CodesShared s c → Coded c who ms ok s (reading x n name more holds got wrote inner)
@@ -176,7 +176,7 @@ module _ {A : Type 0} (c : Chain A) (who : ℕ) (ms : List (State A)) (ok : Bool
       on : c.walks (n / BLOCK_SLOTS) ≢ GivenUp
       on = not_given_up c n right unread
 
-      block : (y : Block A) × (get_or s.blocks name None ≡ Some y) × BlockIs c (n / BLOCK_SLOTS) y.places y.next
+      block : (y : BlockState A) × (get_or s.blocks name None ≡ Some y) × BlockIs c (n / BLOCK_SLOTS) y.places y.next
       block = block_at (n / BLOCK_SLOTS) name right got.named on codes
 
       room : offset_of (head_of n more) < length block.0.places
@@ -197,7 +197,7 @@ module _ {A : Type 0} (c : Chain A) (who : ℕ) (ms : List (State A)) (ok : Bool
       p : BlockPlace A
       p = record { state = bit_or st READ; item = None }
 
-      after : List (Option (Block A))
+      after : List (Option (BlockState A))
       after = put_state (put_item s.blocks name (offset_of (head_of n more)) None) name (offset_of (head_of n more)) (bit_or st READ)
 
       changed : Changed s.blocks after name (Some (placed block.0 (offset_of (head_of n more)) p))
@@ -244,7 +244,7 @@ module _ {A : Type 0} (c : Chain A) (who : ℕ) (ms : List (State A)) (ok : Bool
       unread : c.readers n ≢ Done
       unread e = let z : Reading who ≡ Done = sym got.mine ∙ e in cc
 
-      block : (y : Block A) × (get_or s.blocks name None ≡ Some y) × BlockIs c (n / BLOCK_SLOTS) y.places y.next
+      block : (y : BlockState A) × (get_or s.blocks name None ≡ Some y) × BlockIs c (n / BLOCK_SLOTS) y.places y.next
       block = block_at (n / BLOCK_SLOTS) name right got.named (not_given_up c n right unread) codes
 
       room : offset_of (head_of n more) < length block.0.places
@@ -253,7 +253,7 @@ module _ {A : Type 0} (c : Chain A) (who : ℕ) (ms : List (State A)) (ok : Bool
       p : BlockPlace A
       p = record (place_in block.0 (offset_of (head_of n more))) { item = None }
 
-      after : List (Option (Block A))
+      after : List (Option (BlockState A))
       after = put_item s.blocks name (offset_of (head_of n more)) None
 
       emptied : Changed s.blocks after name (Some (placed block.0 (offset_of (head_of n more)) p))

@@ -5,18 +5,18 @@ use Rattle.machine_replay.specs.Vocabulary.{BLOCK_SLOTS, WRITE}
 use Rattle.queue_laws.specs.{Common.Puts.put, Chain.ChainTransitions.chained, Chain.ChainTransitions.written, Chain.ChainFacts.IsNamed, Chain.ChainAnswers.linked_of, Chain.ChainAnswers.is_done}
 use Rattle.queue_laws.proofs.Common.Puts.{put_other, put_same}
 use Rattle.queue_laws.specs.Chain.ChainCells.{Writer, Writing, Wrote, Reader, Done, LinkState, Linked, Walk, GivenUp, Chained, Chain, ItemOk, ChainOk, item_at}
-use Rattle.machine_memory.specs.Blocks.{Block, blank}
-use Rattle.machine_replay.proofs.Chain.{Codes.BlockIs, Codes.wrote_in, Codes.lies, Codes.block_put, Codes.block_same, Bits.state_written, Names.NameIs, Names.HeldIs, Names.Codes, Names.Keeps, Names.Changed, Names.name_kept, Names.one_name}
+use Rattle.machine_memory.specs.Blocks.{BlockState, blank}
+use Rattle.machine_replay.proofs.Chain.{Codes.BlockIs, Codes.wrote_in, Codes.lies, Codes.block_put, Codes.block_same, Bits.state_written, Names.NameIs, Names.HeldIs, Names.Codes, Names.SameBlock, Names.Changed, Names.name_kept, Names.one_name}
 
 -- the chain with other items, readers, links and walks
 abbrev pub parts : {A : Type 0} → Chain A → (ℕ → Writer A) → (ℕ → Reader) → (ℕ → LinkState) → (ℕ → Walk) → Chain A
 parts c w r l k = record c { writers = w; readers = r; links = l; walks = k }
 
 -- the chain c, and the machine's words and blocks before and after a step
-module _ {A : Type 0} {c : Chain A} {head tail : ℕ} {front last : Option ℕ} {blocks after : List (Option (Block A))} where
+module _ {A : Type 0} {c : Chain A} {head tail : ℕ} {front last : Option ℕ} {blocks after : List (Option (BlockState A))} where
   -- the block b changes, and no other one
-  pub codes_at : (w : ℕ → Writer A) (r : ℕ → Reader) (l : ℕ → LinkState) (k : ℕ → Walk) (b f : ℕ) (y : Option (Block A))
-      → ChainOk c → IsNamed c b f → ((i : ℕ) → i ≢ b → Keeps c (parts c w r l k) i) → Changed blocks after f y → HeldIs (parts c w r l k) b y
+  pub codes_at : (w : ℕ → Writer A) (r : ℕ → Reader) (l : ℕ → LinkState) (k : ℕ → Walk) (b f : ℕ) (y : Option (BlockState A))
+      → ChainOk c → IsNamed c b f → ((i : ℕ) → i ≢ b → SameBlock c (parts c w r l k) i) → Changed blocks after f y → HeldIs (parts c w r l k) b y
       → Codes c head tail front last blocks → Codes (parts c w r l k) head tail front last after
   codes_at w r l k b f y ok named others changed held codes = record {
     head_is = codes.head_is;
@@ -54,9 +54,9 @@ not_done Done ne = absurd (ne refl)
 not_done r ne = refl
 
 -- the chain c, and the machine's words and blocks before and after a step
-module _ {A : Type 0} {c : Chain A} {head tail : ℕ} {front last : Option ℕ} {blocks after : List (Option (Block A))} where
+module _ {A : Type 0} {c : Chain A} {head tail : ℕ} {front last : Option ℕ} {blocks after : List (Option (BlockState A))} where
   -- U8: the block is linked to the next one
-  pub codes_chained : (b f g : ℕ) (x : Block A)
+  pub codes_chained : (b f g : ℕ) (x : BlockState A)
       → ChainOk c → IsNamed c b f → IsNamed c (b + 1) g → c.walks b ≢ GivenUp → BlockIs c b x.places x.next → Changed blocks after f (Some (record x { next = Some g }))
       → Codes c head tail front last blocks → Codes (chained c b) head tail front last after
   codes_chained b f g x ok named next on is changed codes =
@@ -67,7 +67,7 @@ module _ {A : Type 0} {c : Chain A} {head tail : ℕ} {front last : Option ℕ} 
       codes
 
   -- U9: the item is written into its slot
-  pub codes_written : (who n i f : ℕ) (v : A) (x : Block A)
+  pub codes_written : (who n i f : ℕ) (v : A) (x : BlockState A)
       → ChainOk c → c.writers n ≡ Writing who v → i < BLOCK_SLOTS → item_at (n / BLOCK_SLOTS) i ≡ n → IsNamed c (n / BLOCK_SLOTS) f → c.walks (n / BLOCK_SLOTS) ≢ GivenUp → BlockIs c (n / BLOCK_SLOTS) x.places x.next
       → Changed blocks after f (Some (record x { places = set x.places i (record { state = bit_or (get_or x.places i blank).state WRITE; item = Some v }) }))
       → Codes c head tail front last blocks → Codes (written c n v) head tail front last after

@@ -5,8 +5,8 @@ use Rattle.queue_steps.specs.Words.{tail_of, position_of}
 use Rattle.queue_laws.proofs.{Common.Puts.put_ok, Common.Tails.position_tail, Chain.ChainReads.passer_sees}
 use Rattle.queue_laws.specs.Chain.{ChainFacts.place, ChainFacts.head_of, ChainFacts.IsNamed, ChainTransitions.taken, ChainTransitions.passed, ChainTransitions.entered, ChainAnswers.head_place, ChainAnswers.shown_of, ChainAnswers.is_done}
 use Rattle.queue_laws.specs.Chain.ChainCells.{Unread, Reading, Passer, Stands, Passing, Entering, Chain, FrontOk, ChainOk, item_at}
-use Rattle.machine_memory.specs.Blocks.{Block}
-use Rattle.machine_replay.proofs.Chain.Names.{Codes, Keeps, name_kept, keeps_all}
+use Rattle.machine_memory.specs.Blocks.{BlockState}
+use Rattle.machine_replay.proofs.Chain.Names.{Codes, SameBlock, name_kept, keeps_all}
 
 -- the head's word after the item n is taken
 head_next : (n : ℕ) (p : Passer) (new : Bool) → ((p ≡ Stands) × (n % BLOCK_SLOTS + 1 ≢ BLOCK_SLOTS)) ⊎ ((who : ℕ) × (p ≡ Passing who) × (n % BLOCK_SLOTS + 1 ≡ BLOCK_SLOTS))
@@ -17,7 +17,7 @@ head_next n p true (inr (who, is, last)) = subst (λ x. place n * 2 + TAIL_STEP 
 head_next n p false (inr (who, is, last)) = subst (λ x. place n * 2 + TAIL_STEP + 0 ≡ tail_of (head_place (n + 1) x) false) (sym is) (omega arith)
 
 -- V4: the head is exchanged, by which the front is taken
-pub codes_taken : {A : Type 0} {c : Chain A} {head tail : ℕ} {front last : Option ℕ} {blocks : List (Option (Block A))} (who : ℕ) (p : Passer) (new : Bool)
+pub codes_taken : {A : Type 0} {c : Chain A} {head tail : ℕ} {front last : Option ℕ} {blocks : List (Option (BlockState A))} (who : ℕ) (p : Passer) (new : Bool)
     → c.readers c.head ≡ Unread → ((p ≡ Stands) × (c.head % BLOCK_SLOTS + 1 ≢ BLOCK_SLOTS)) ⊎ ((who : ℕ) × (p ≡ Passing who) × (c.head % BLOCK_SLOTS + 1 ≡ BLOCK_SLOTS))
     → Codes c head tail front last blocks → Codes (taken c who p new) (place c.head * 2 + TAIL_STEP + (if new then 1 else 0)) tail front last blocks
 codes_taken {A} {c = c} {blocks = blocks} who p new unread moves codes = record {
@@ -29,7 +29,7 @@ codes_taken {A} {c = c} {blocks = blocks} who p new unread moves codes = record 
   name = λ f. name_kept c (taken c who p new) f (c.uses f) (get_or blocks f None) (λ b is. (is, keeps b)) (codes.name f);
 }
   where
-    keeps : (b : ℕ) → Keeps c (taken c who p new) b
+    keeps : (b : ℕ) → SameBlock c (taken c who p new) b
     keeps b = record {
       over = λ e. e;
       on = λ e. e;
@@ -42,7 +42,7 @@ codes_taken {A} {c = c} {blocks = blocks} who p new unread moves codes = record 
     }
 
 -- V7: the next block is shown to the poppers
-pub codes_passed : {A : Type 0} {c : Chain A} {head tail : ℕ} {front last : Option ℕ} {blocks : List (Option (Block A))} (who name : ℕ)
+pub codes_passed : {A : Type 0} {c : Chain A} {head tail : ℕ} {front last : Option ℕ} {blocks : List (Option (BlockState A))} (who name : ℕ)
     → ChainOk c → c.passer ≡ Passing who → IsNamed c (c.front + 1) name → Codes c head tail front last blocks → Codes (passed c who) head tail (Some name) last blocks
 codes_passed {A} {c = c} {blocks = blocks} who name ok passing named codes = record {
   head_is = codes.head_is ∙ ap (λ p. tail_of (head_place c.head p) c.known) passing;
@@ -54,7 +54,7 @@ codes_passed {A} {c = c} {blocks = blocks} who name ok passing named codes = rec
 }
 
 -- V8: the head moves on to the next block
-pub codes_entered : {A : Type 0} {c : Chain A} {head tail : ℕ} {front last : Option ℕ} {blocks : List (Option (Block A))} (who n : ℕ) (more further : Bool)
+pub codes_entered : {A : Type 0} {c : Chain A} {head tail : ℕ} {front last : Option ℕ} {blocks : List (Option (BlockState A))} (who n : ℕ) (more further : Bool)
     → ChainOk c → c.passer ≡ Entering who → c.head ≡ n + 1
     → Codes c head tail front last blocks → Codes (entered c further) ((position_of (head_of n more) + 2) * 2 + (if further then 1 else 0)) tail front last blocks
 codes_entered {A} {c = c} {blocks = blocks} who n more further ok entering at_n codes = record {

@@ -6,11 +6,11 @@ use Rattle.queue_steps.specs.Words.{tail_of}
 use Rattle.queue_laws.specs.{Common.Puts.put, Chain.ChainFacts.place, Chain.ChainFacts.open_tail_of, Chain.ChainFacts.IsNamed, Chain.ChainTransitions.appended, Chain.ChainTransitions.installed, Chain.ChainTransitions.displayed, Chain.ChainTransitions.laid_out, Chain.ChainTransitions.opened, Chain.ChainTransitions.marked, Chain.ChainTransitions.renamed, Chain.ChainAnswers.tail_place, Chain.ChainAnswers.shown_of, Chain.ChainAnswers.linked_of}
 use Rattle.queue_laws.proofs.{Common.Puts.put_ok, Common.Puts.put_other, Common.Puts.put_same, Common.Tails.mark_tail, Common.Tails.next_tail, Chain.ChainTransitions.next_free, Chain.ChainTransitions.no_front}
 use Rattle.queue_laws.specs.Chain.ChainCells.{Writing, Mover, Rests, Laying, Opening, LinkState, Linking, Linked, Shown, Showing, Seen, Unused, Spare, Chained, Chain, BlocksOk, LinkOk, ShownOk, ChainOk, item_at}
-use Rattle.machine_memory.specs.Blocks.{Block, fresh_block}
-use Rattle.machine_replay.proofs.Chain.{Codes.wrote_in, Names.NameIs, Names.Codes, Names.Keeps, Names.name_kept, Names.keeps_all, Fresh.fresh_is, Fresh.unlinked, Fresh.last_name}
+use Rattle.machine_memory.specs.Blocks.{BlockState, fresh_block}
+use Rattle.machine_replay.proofs.Chain.{Codes.wrote_in, Names.NameIs, Names.Codes, Names.SameBlock, Names.name_kept, Names.keeps_all, Fresh.fresh_is, Fresh.unlinked, Fresh.last_name}
 
 -- the mark of a close
-pub codes_marked : {A : Type 0} {c : Chain A} {head tail : ℕ} {front last : Option ℕ} {blocks : List (Option (Block A))} → Codes c head tail front last blocks → Codes (marked c) head (bit_or tail MARK) front last blocks
+pub codes_marked : {A : Type 0} {c : Chain A} {head tail : ℕ} {front last : Option ℕ} {blocks : List (Option (BlockState A))} → Codes c head tail front last blocks → Codes (marked c) head (bit_or tail MARK) front last blocks
 codes_marked {c = c} {blocks = blocks} codes = record {
   head_is = codes.head_is;
   tail_is = ap (λ t. bit_or t MARK) codes.tail_is ∙ mark_tail (tail_place c.tail c.mover) c.closed;
@@ -21,7 +21,7 @@ codes_marked {c = c} {blocks = blocks} codes = record {
 }
 
 -- U3, granted: the next number is the spare of the call
-pub codes_granted : {A : Type 0} {c : Chain A} {head tail : ℕ} {front last : Option ℕ} {blocks : List (Option (Block A))} (who : ℕ)
+pub codes_granted : {A : Type 0} {c : Chain A} {head tail : ℕ} {front last : Option ℕ} {blocks : List (Option (BlockState A))} (who : ℕ)
     → Codes c head tail front last blocks → Codes (renamed c (length blocks) (Spare who)) head tail front last (blocks ++ Some fresh_block ∷ [])
 codes_granted {A} {c = c} {blocks = blocks} who codes = record {
   head_is = codes.head_is;
@@ -54,7 +54,7 @@ more_link {A} c f b ok = go (c.links b) (ok.link b)
     go l h = refl
 
 -- U4: the first block is installed
-pub codes_installed : {A : Type 0} {c : Chain A} {head tail : ℕ} {front last : Option ℕ} {blocks : List (Option (Block A))} (who f : ℕ)
+pub codes_installed : {A : Type 0} {c : Chain A} {head tail : ℕ} {front last : Option ℕ} {blocks : List (Option (BlockState A))} (who f : ℕ)
     → ChainOk c → c.blocks ≡ 0 → c.uses f ≡ Spare who → Codes c head tail front last blocks → Codes (installed c who f) head tail front (Some f) blocks
 codes_installed {A} {c = c} {blocks = blocks} who f ok none spare codes = record {
   head_is = codes.head_is;
@@ -76,7 +76,7 @@ codes_installed {A} {c = c} {blocks = blocks} who f ok none spare codes = record
         ((omega arith, sym (put_same c.names c.blocks f)), inr (fresh_is c (installed c who f) ok refl refl refl (unlinked c c.blocks (put c.names c.blocks f (c.blocks + 1)) ok (omega arith))))
 
 -- U4b: the first block is shown to the poppers
-pub codes_displayed : {A : Type 0} {c : Chain A} {head tail : ℕ} {front last : Option ℕ} {blocks : List (Option (Block A))} (who name : ℕ)
+pub codes_displayed : {A : Type 0} {c : Chain A} {head tail : ℕ} {front last : Option ℕ} {blocks : List (Option (BlockState A))} (who name : ℕ)
     → ChainOk c → c.shown ≡ Showing who → IsNamed c 0 name → Codes c head tail front last blocks → Codes (displayed c) head tail (Some name) last blocks
 codes_displayed {A} {c = c} {blocks = blocks} who name ok shown named codes =
     let seen : ShownOk c.blocks c.head c.front c.known c.passer (Showing who) = subst (λ s. ShownOk c.blocks c.head c.front c.known c.passer s) shown ok.seen in
@@ -95,7 +95,7 @@ tail_next q m (inl h) = subst (λ x. open_tail_of q + TAIL_STEP ≡ tail_of (tai
 tail_next q m (inr (who, is, last)) = subst (λ x. open_tail_of q + TAIL_STEP ≡ tail_of (tail_place (q + 1) x) false) (sym is) (omega arith)
 
 -- U5: the tail is exchanged, by which an item is appended
-pub codes_appended : {A : Type 0} {c : Chain A} {head tail : ℕ} {front last : Option ℕ} {blocks : List (Option (Block A))} (who : ℕ) (v : A) (m : Mover)
+pub codes_appended : {A : Type 0} {c : Chain A} {head tail : ℕ} {front last : Option ℕ} {blocks : List (Option (BlockState A))} (who : ℕ) (v : A) (m : Mover)
     → ChainOk c → c.closed ≡ false → ((m ≡ Rests) × (c.tail % BLOCK_SLOTS + 1 ≢ BLOCK_SLOTS)) ⊎ ((who : ℕ) × (m ≡ Laying who) × (c.tail % BLOCK_SLOTS + 1 ≡ BLOCK_SLOTS))
     → Codes c head tail front last blocks → Codes (appended c who v m) head (open_tail_of c.tail + TAIL_STEP) front last blocks
 codes_appended {A} {c = c} {blocks = blocks} who v m ok unshut moves codes = record {
@@ -107,7 +107,7 @@ codes_appended {A} {c = c} {blocks = blocks} who v m ok unshut moves codes = rec
   name = λ f. name_kept c (appended c who v m) f (c.uses f) (get_or blocks f None) (λ b is. (is, keeps b)) (codes.name f);
 }
   where
-    keeps : (b : ℕ) → Keeps c (appended c who v m) b
+    keeps : (b : ℕ) → SameBlock c (appended c who v m) b
     keeps b = record {
       over = λ e. e;
       on = λ e. e;
@@ -120,7 +120,7 @@ codes_appended {A} {c = c} {blocks = blocks} who v m ok unshut moves codes = rec
     }
 
 -- U6: the spare becomes the pushers' block
-pub codes_laid_out : {A : Type 0} {c : Chain A} {head tail : ℕ} {front last : Option ℕ} {blocks : List (Option (Block A))} (who f : ℕ)
+pub codes_laid_out : {A : Type 0} {c : Chain A} {head tail : ℕ} {front last : Option ℕ} {blocks : List (Option (BlockState A))} (who f : ℕ)
     → ChainOk c → c.mover ≡ Laying who → c.uses f ≡ Spare who → Codes c head tail front last blocks → Codes (laid_out c who f) head tail front (Some f) blocks
 codes_laid_out {A} {c = c} {head = head} {tail = tail} {front = front} {blocks = blocks} who f ok lays spare codes = record {
   head_is = codes.head_is;
@@ -150,7 +150,7 @@ codes_laid_out {A} {c = c} {head = head} {tail = tail} {front = front} {blocks =
         ((omega arith, sym (put_same c.names c.blocks f)), inr (fresh_is c (laid_out c who f) ok refl refl refl (sym (link c.blocks) ∙ unlinked c c.blocks (c.names (c.blocks + 1)) ok (omega arith))))
 
 -- U7: the tail moves on to the next block
-pub codes_opened : {A : Type 0} {c : Chain A} {head tail : ℕ} {front last : Option ℕ} {blocks : List (Option (Block A))} (who : ℕ)
+pub codes_opened : {A : Type 0} {c : Chain A} {head tail : ℕ} {front last : Option ℕ} {blocks : List (Option (BlockState A))} (who : ℕ)
     → ChainOk c → c.mover ≡ Opening who → Codes c head tail front last blocks → Codes (opened c) head (tail + TAIL_STEP) front last blocks
 codes_opened {A} {c = c} {blocks = blocks} who ok opens codes =
     let filled : BlocksOk c.tail c.blocks (Opening who) = subst (λ m. BlocksOk c.tail c.blocks m) opens ok.laid in

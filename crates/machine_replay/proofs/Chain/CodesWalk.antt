@@ -5,14 +5,14 @@ use Rattle.machine_replay.specs.Vocabulary.{BLOCK_SLOTS, READ}
 use Rattle.queue_laws.specs.{Common.Puts.put, Chain.ChainTransitions.reads, Chain.ChainTransitions.walked, Chain.ChainTransitions.walk_after, Chain.ChainTransitions.given_up, Chain.ChainTransitions.lost_of, Chain.ChainFacts.IsNamed, Chain.ChainAnswers.is_done, Chain.ChainAnswers.waits_at, Chain.ChainAnswers.IsState}
 use Rattle.queue_laws.proofs.Common.Puts.{put_ok, put_other, put_same}
 use Rattle.queue_laws.specs.Chain.ChainCells.{Done, Walk, GivenUp, Unused, Spare, Chained, Chain, ChainOk, item_at, LAST}
-use Rattle.machine_memory.specs.{declared.blocks.BlockPlace.BlockPlace, Blocks.Block, Blocks.blank}
+use Rattle.machine_memory.specs.{declared.blocks.BlockPlace.BlockPlace, Blocks.BlockState, Blocks.blank}
 use Rattle.machine_replay.proofs.Chain.{Codes.BlockIs, Codes.lies, Codes.block_put, Bits.state_read, Names.NameIs, Names.HeldIs, Names.AliveIs, Names.Codes, Names.Changed, Names.name_kept, Names.keeps_all, CodesAt.codes_at, CodesAt.other_block, CodesAt.other_slot}
 
 -- the block after the step: it is given up with its walk, or is this
-abbrev pub Left : {A : Type 0} → Walk → Option (Block A) → Block A → Type 0
+abbrev pub Left : {A : Type 0} → Walk → Option (BlockState A) → BlockState A → Type 0
 Left w y x = ((w ≡ GivenUp) × (y ≡ None)) ⊎ ((w ≢ GivenUp) × (y ≡ Some x))
 
-held_left : {A : Type 0} (s : Chain A) (b : ℕ) (w : Walk) (y : Option (Block A)) (x : Block A) → s.walks b ≡ w → Left w y x → BlockIs s b x.places x.next → HeldIs s b y
+held_left : {A : Type 0} (s : Chain A) (b : ℕ) (w : Walk) (y : Option (BlockState A)) (x : BlockState A) → s.walks b ≡ w → Left w y x → BlockIs s b x.places x.next → HeldIs s b y
 held_left s b w y x walk (inl h) is = inl (walk ∙ h.0, h.1)
 held_left s b w y x walk (inr h) is = inr ((λ e. h.0 (sym walk ∙ e)), subst (λ z. AliveIs s b z) (sym h.1) is)
 
@@ -21,9 +21,9 @@ other_walk : {A : Type 0} (c s : Chain A) (b i : ℕ) (w : Walk) → s.walks ≡
 other_walk c s b i w is ne = ap (λ f. f i) is ∙ put_other c.walks b i w ne
 
 -- the chain c, and the machine's words and blocks before and after a step
-module _ {A : Type 0} {c : Chain A} {head tail : ℕ} {front last : Option ℕ} {blocks after : List (Option (Block A))} where
+module _ {A : Type 0} {c : Chain A} {head tail : ℕ} {front last : Option ℕ} {blocks after : List (Option (BlockState A))} where
   -- V10: the item is read. The last slot's word does not tell of it
-  pub codes_read : (n i f : ℕ) (w : Walk) (q : BlockPlace A) (y : Option (Block A)) (x : Block A)
+  pub codes_read : (n i f : ℕ) (w : Walk) (q : BlockPlace A) (y : Option (BlockState A)) (x : BlockState A)
       → ChainOk c → i < BLOCK_SLOTS → item_at (n / BLOCK_SLOTS) i ≡ n → IsNamed c (n / BLOCK_SLOTS) f → BlockIs c (n / BLOCK_SLOTS) x.places x.next → c.readers n ≢ Done
       → ((j : ℕ) → j ≢ i → waits_at w j ≡ waits_at (c.walks (n / BLOCK_SLOTS)) j) → q.item ≡ None → (i ≡ LAST) ⊎ (q.state ≡ bit_or (get_or x.places i blank).state READ)
       → Changed blocks after f y → Left w y (record x { places = set x.places i q })
@@ -62,7 +62,7 @@ module _ {A : Type 0} {c : Chain A} {head tail : ℕ} {front last : Option ℕ} 
       state (inr e) unread_still = subst (λ z. IsState (reads c n w) (n / BLOCK_SLOTS) i z) (sym e) (state_read c (reads c n w) (n / BLOCK_SLOTS) i (get_or x.places i blank).state refl read (is.state i low (λ last d. unread (ap c.readers (sym at) ∙ d))))
 
   -- W1, W2: a passed block whose walk is this then
-  pub codes_walked : (b i f : ℕ) (w : Walk) (q : BlockPlace A) (y : Option (Block A)) (x : Block A)
+  pub codes_walked : (b i f : ℕ) (w : Walk) (q : BlockPlace A) (y : Option (BlockState A)) (x : BlockState A)
       → ChainOk c → i < LAST → IsNamed c b f → BlockIs c b x.places x.next
       → ((j : ℕ) → j ≢ i → waits_at w j ≡ waits_at (c.walks b) j) → q.item ≡ (get_or x.places i blank).item → IsState (walked c b w) b i q.state
       → Changed blocks after f y → Left w y (record x { places = set x.places i q })
@@ -89,7 +89,7 @@ pub after_waits : (who slot j : ℕ) → waits_at (walk_after who slot) j ≡ fa
 after_waits who slot j = elim (eqb_tells (slot + 1) LAST) [ inl t ↦ rw t.0 refl | inr n ↦ rw n.0 refl ]
 
 -- a spare that is given up
-pub codes_given_spare : {A : Type 0} {c : Chain A} {head tail : ℕ} {front last : Option ℕ} {blocks after : List (Option (Block A))} (who f : ℕ)
+pub codes_given_spare : {A : Type 0} {c : Chain A} {head tail : ℕ} {front last : Option ℕ} {blocks after : List (Option (BlockState A))} (who f : ℕ)
     → c.uses f ≡ Spare who → Changed blocks after f None → Codes c head tail front last blocks → Codes (given_up c (Some f)) head tail front last after
 codes_given_spare {A} {c = c} {blocks = blocks} {after = after} who f spare changed codes = record {
   head_is = codes.head_is;
@@ -103,7 +103,7 @@ codes_given_spare {A} {c = c} {blocks = blocks} {after = after} who f spare chan
 }
 
 -- a passed block, which its walk has given up
-pub codes_given_block : {A : Type 0} {c : Chain A} {head tail : ℕ} {front last : Option ℕ} {blocks : List (Option (Block A))} (b f : ℕ)
+pub codes_given_block : {A : Type 0} {c : Chain A} {head tail : ℕ} {front last : Option ℕ} {blocks : List (Option (BlockState A))} (b f : ℕ)
     → c.uses f ≡ Chained b → Codes c head tail front last blocks → Codes (given_up c (Some f)) head tail front last blocks
 codes_given_block {A} {c = c} {blocks = blocks} b f chained codes = record {
   head_is = codes.head_is;

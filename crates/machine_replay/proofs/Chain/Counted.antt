@@ -6,7 +6,7 @@ use Rattle.machine_replay.specs.{Vocabulary.Call, Vocabulary.Effect, Vocabulary.
 use Rattle.machine_replay.proofs.{Engine.StandOf.stand_of, Chain.Names.NameIs, Chain.Holding.ChainHolds, Engine.KindLaws.IsCounted}
 use Rattle.queue_laws.specs.Chain.{ChainCells.Walk, ChainCells.GivenUp, ChainCells.Use, ChainCells.Chained, ChainCells.Chain, ChainCells.queue_of, ChainCells.HoldsOnly, ChainCells.Nothing, ChainAt.At, ChainPasses.spare_in, ChainPasses.Spares}
 use Rattle.queue_laws.proofs.Chain.{Count.count, Count.count_same, Count.count_front, ChainHands.HandOf, ChainHands.in_hand, ChainHands.idle_hand, ChainCount.is_given_up, ChainCount.is_alive, ChainCount.alive, ChainCount.few_alive, ChainSpan.spans_if, ChainSpan.held_items}
-use Rattle.machine_memory.specs.{Blocks.Block, SharedMemory.Shared, Present.present}
+use Rattle.machine_memory.specs.{Blocks.BlockState, SharedMemory.MemoryState, Present.present}
 use Rattle.machine_steps.specs.World.{World, call_at}
 
 -- a call of the party stands on the chain
@@ -40,23 +40,23 @@ kept_walk GivenUp ne = absurd (ne refl)
 kept_walk w ne = refl
 
 -- a block is there exactly where it is alive
-name_present : {A : Type 0} (g : Chain A) (f : ℕ) (u : Use) (y : Option (Block A)) → NameIs g f u y → is_some y ≡ is_alive g.walks u
+name_present : {A : Type 0} (g : Chain A) (f : ℕ) (u : Use) (y : Option (BlockState A)) → NameIs g f u y → is_some y ≡ is_alive g.walks u
 name_present g f (Chained b) y (named, inl h) = ap is_some h.1 ∙ ap (λ w. not (is_given_up w)) (sym h.0)
 name_present g f (Chained b) None (named, inr h) = absurd h.1
 name_present g f (Chained b) (Some x) (named, inr h) = kept_walk (g.walks b) h.0
 name_present g f u y h = ap is_some h
 
-present_alive : {A : Type 0} (s : Shared A) (Q : State A) (g : Chain A) → ChainHolds s Q g → present s.blocks ≡ count (alive g) (length s.blocks)
+present_alive : {A : Type 0} (s : MemoryState A) (Q : State A) (g : Chain A) → ChainHolds s Q g → present s.blocks ≡ count (alive g) (length s.blocks)
 present_alive s Q g holds = present_count s.blocks ∙ count_same (λ i. is_some (get_or s.blocks i None)) (alive g) (length s.blocks) (λ f lt. name_present g f (g.uses f) (get_or s.blocks f None) (holds.codes.name f))
 
-alive_within : {A : Type 0} (s : Shared A) (Q : State A) (g : Chain A) → ChainHolds s Q g → (f : ℕ) → alive g f ≡ true → f < length s.blocks
+alive_within : {A : Type 0} (s : MemoryState A) (Q : State A) (g : Chain A) → ChainHolds s Q g → (f : ℕ) → alive g f ≡ true → f < length s.blocks
 alive_within s Q g holds f e = within_list s.blocks f (name_present g f (g.uses f) (get_or s.blocks f None) (holds.codes.name f) ∙ e)
 
 hand_at : {A : Type 0} (g : Chain A) (who : ℕ) (x : Option (Running A)) → StandsAt g who x → HandOf g who (is_some x)
 hand_at g who None h = idle_hand g who h.0 h.1
 hand_at g who (Some r) h = in_hand h.here h.spares
 
-pub chain_counted : {A : Type 0} (w : World (Shared A) (Running A)) (b : Book A) (g : Chain A) → ChainHolds w.shared b.queue g → b.busy ≡ present w.calls → ((p : ℕ) → StandsAt g p (call_at w p)) → IsCounted w b
+pub chain_counted : {A : Type 0} (w : World (MemoryState A) (Running A)) (b : Book A) (g : Chain A) → ChainHolds w.shared b.queue g → b.busy ≡ present w.calls → ((p : ℕ) → StandsAt g p (call_at w p)) → IsCounted w b
 chain_counted {A} w b g holds busy each = record {
   within =
       let few = few_alive g (length w.shared.blocks) (length w.calls) (λ p. is_some (call_at w p)) holds.ok hands (λ p e. within_list w.calls p e) in

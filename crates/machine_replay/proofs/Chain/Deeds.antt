@@ -5,7 +5,7 @@ use Rattle.queue_steps.specs.{ChainWords.offset_of, declared.steps.chain.ChainLo
 use Rattle.queue_laws.specs.Chain.ChainCells.{Writing, Reading, Laying, Passing, Linking, Showing, Spare, Chain, Part, Write, Read, Tail, Head, Next, First, Passed, writer_of, reader_of, mover_of, passer_of, linker_of, shower_of, HoldsOnly, Nothing}
 use Rattle.queue_laws.specs.Chain.{ChainFacts.head_of, ChainFacts.open_tail_of, ChainFacts.IsNamed, ChainFacts.Claimed, ChainFacts.Got, ChainAt.Only, ChainAt.Either}
 use Rattle.queue_laws.proofs.Chain.ChainAnswers.{head_offset}
-use Rattle.machine_memory.specs.{Blocks.Block, Blocks.put_state, Blocks.put_item, Blocks.put_next, SharedMemory.block_touched}
+use Rattle.machine_memory.specs.{Blocks.BlockState, Blocks.put_state, Blocks.put_item, Blocks.put_next, SharedMemory.block_touched}
 use Rattle.machine_steps.specs.ChainLeft.{reached, settled_at, settled_by}
 
 -- nothing; to put this into a slot; that, and to link the block to a fresh one; to read a slot
@@ -39,20 +39,20 @@ deed_of (Local.Chain l) t o v = chain_deed l t o v
 deed_of _ t o v = Rest
 
 -- the blocks once it is done
-abbrev pub done : {A : Type 0} → Deed A → List (Option (Block A)) → List (Option (Block A))
+abbrev pub done : {A : Type 0} → Deed A → List (Option (BlockState A)) → List (Option (BlockState A))
 done Rest bs = bs
 done (Puts b i v) bs = put_item bs b i v
 done (Lays b i v fresh) bs = put_next (put_item bs b i v) b (Some fresh)
 done (Reads b i) bs = put_state bs b i READ
 
-touch_done : {A : Type 0} (t : Touch) (x : Option ℕ) (v : Option A) (bs : List (Option (Block A))) → reached t x v bs ≡ done (touch_deed t x v) bs
+touch_done : {A : Type 0} (t : Touch) (x : Option ℕ) (v : Option A) (bs : List (Option (BlockState A))) → reached t x v bs ≡ done (touch_deed t x v) bs
 touch_done Touch.Nothing x v bs = refl
 touch_done (Touch.Put i) None v bs = refl
 touch_done (Touch.Take i) None v bs = refl
 touch_done (Touch.Swap i) None v bs = refl
 touch_done t (Some b) v bs = refl
 
-chain_done : {A : Type 0} (l : ChainLocal ℕ) (t : Touch) (o : Op ℕ) (v : Option A) (bs : List (Option (Block A))) → settled_at l t (block_touched o) v bs ≡ done (chain_deed l t o v) bs
+chain_done : {A : Type 0} (l : ChainLocal ℕ) (t : Touch) (o : Op ℕ) (v : Option A) (bs : List (Option (BlockState A))) → settled_at l t (block_touched o) v bs ≡ done (chain_deed l t o v) bs
 chain_done (chain.Laying p tail block fresh) t o v bs = refl
 chain_done (chain.Opening p tail block fresh) t o v bs = refl
 chain_done (chain.Chaining p tail block fresh) t o v bs = refl
@@ -63,7 +63,7 @@ chain_done (chain.Entering head block) t o v bs = refl
 chain_done (chain.Awaiting head block) t o v bs = refl
 chain_done _ t o v bs = touch_done t (block_touched o) v bs
 
-pub deed_done : {A : Type 0} (l : Local ℕ) (t : Touch) (o : Op ℕ) (v : Option A) (bs : List (Option (Block A))) → settled_by l t o v bs ≡ done (deed_of l t o v) bs
+pub deed_done : {A : Type 0} (l : Local ℕ) (t : Touch) (o : Op ℕ) (v : Option A) (bs : List (Option (BlockState A))) → settled_by l t o v bs ≡ done (deed_of l t o v) bs
 deed_done (Local.Chain l) t o v bs = chain_done l t o v bs
 deed_done _ t o v bs = refl
 

@@ -8,7 +8,7 @@ use Rattle.machine_replay.proofs.{Engine.StandOf.running_of, Chain.Far.one_of_po
 use Rattle.queue_laws.specs.Chain.ChainAt.{At, Only, push_tail, push_block, asking, installing, showing, claiming, spending, pop_head, pop_block, pop_tail, taking, following, peeking, passing, entering, awaiting, reading, beginning, walking, destroying, count_tail, count_head, count_again, empty_head, empty_tail, closing, closed_tail}
 use Rattle.queue_laws.specs.Chain.ChainCells.{Shown, Hidden, Showing, Seen, Chain, ChainOk, ShownOk, First, owner, shower_of, HoldsOnly, Nothing, queue_of}
 use Rattle.queue_laws.proofs.Chain.{ChainRanks.is_seen, ChainRight.NextOkSpares, ChainRight.step_right, ChainStep.is_chain}
-use Rattle.machine_memory.specs.SharedMemory.{Shared}
+use Rattle.machine_memory.specs.SharedMemory.{MemoryState}
 use Rattle.machine_steps.specs.{Steps.answer_to, Steps.step_of, Steps.running_after, Steps.next_after, Steps.carried_then, World.World, World.call_at}
 use Rattle.machine_replay.proofs.Chain.Near.{near_at, near_within, near_pop, near_same, Fewer, first_place, same_place, IsBare, fewer}
 
@@ -27,7 +27,7 @@ early_ends {c = c} head u x (pop_tail n b none is front) a ok found at_it first 
 early_ends head u x _ a ok found at_it first goes = other_row _ _ refl at_it
 
 -- a step of a pop leaves the tail
-pop_leaves : {A : Type 0} {c : Chain A} {who : ℕ} {ms : List (State A)} {k : Stand A} (ok : Bool) (s : Shared A) → At c who ms k → one_of_pop k.local ≡ 1
+pop_leaves : {A : Type 0} {c : Chain A} {who : ℕ} {ms : List (State A)} {k : Stand A} (ok : Bool) (s : MemoryState A) → At c who ms k → one_of_pop k.local ≡ 1
     → (step_of Kind.Unbounded ok s (running_of k)).shared.tail ≡ s.tail
 unfolding one_of_pop
 pop_leaves ok s (pop_head none) pop = refl
@@ -79,10 +79,10 @@ not_none (Some b) none some = cc
 
 module _ (A : Type 0) where
   -- beside a pop, the tail is at its first place while no block is to be seen
-  abbrev Ready : Shared A → Running A → Type 0
+  abbrev Ready : MemoryState A → Running A → Type 0
   Ready s r = one_of_pop r.local ≡ 1 → s.head_block ≡ None → position_of s.tail ≡ 0
 
-  abbrev near : Shared A → Running A → ℕ
+  abbrev near : MemoryState A → Running A → ℕ
   near s r = near_at s.tail s.head r.local - one_of_pop r.local
 
   -- once the first block is shown such a party has no part at all
@@ -92,18 +92,18 @@ module _ (A : Type 0) where
       let no : None ≡ Some j = sym (ap shower_of seen) ∙ mine in
       cc
 
-  none_before : (ok : Bool) (s : Shared A) (r : Running A) → (step_of Kind.Unbounded ok s r).shared.head_block ≡ None → s.head_block ≡ None
+  none_before : (ok : Bool) (s : MemoryState A) (r : Running A) → (step_of Kind.Unbounded ok s r).shared.head_block ≡ None → s.head_block ≡ None
   none_before ok s r none = go s.head_block refl
     where
       go : (b : Option ℕ) → s.head_block ≡ b → s.head_block ≡ None
       go None e = e
       go (Some b) e = absurd (not_none (step_of Kind.Unbounded ok s r).shared.head_block none (ready_on A ok s r (subst (λ z. IsSome z) (sym e) refl)))
 
-  own_nears : (busy : ℕ) (ok : Bool) (s : Shared A) (Q : State A) (g : Chain A) (p : ℕ) (x x' : Running A) (o : Open A) → Ready s x → ChainHolds s Q g → ChainFits busy s Q g p x o → IsBare g p
+  own_nears : (busy : ℕ) (ok : Bool) (s : MemoryState A) (Q : State A) (g : Chain A) (p : ℕ) (x x' : Running A) (o : Open A) → Ready s x → ChainHolds s Q g → ChainFits busy s Q g p x o → IsBare g p
       → (step_of Kind.Unbounded ok s x).call ≡ Some x' → Ready (step_of Kind.Unbounded ok s x).shared x' × (near (step_of Kind.Unbounded ok s x).shared x' < near s x)
   own_nears busy ok s Q g p x x' o ready holds f bare goes = by_kind (eqb_tells (one_of_pop x.local) 1) s.head_block refl
     where
-      t : Shared A
+      t : MemoryState A
       t = (step_of Kind.Unbounded ok s x).shared
 
       a : Answer ℕ
@@ -149,7 +149,7 @@ module _ (A : Type 0) where
           (λ also none. absurd (not_none t.head_block none (ready_on A ok s x some)), omega (arith, falls, there, here))
 
   -- the step of another party that has had no effect, and has none
-  keeps_ready : (s s' : Shared A) (Q : State A) (g : Chain A) (r : Running A) → ChainHolds s Q g → Ready s r → (s' ≡ s) ⊎ Turns (chain_rules A) s s' Q g → Ready s' r × (near s' r ≡ near s r)
+  keeps_ready : (s s' : MemoryState A) (Q : State A) (g : Chain A) (r : Running A) → ChainHolds s Q g → Ready s r → (s' ≡ s) ⊎ Turns (chain_rules A) s s' Q g → Ready s' r × (near s' r ≡ near s r)
   keeps_ready s s' Q g r holds ready (inl same) = (subst (λ z. Ready z r) (sym same) ready, ap (λ z. near z r) same)
   keeps_ready s s' Q g r holds ready (inr t) =
       let words = words_stay t.granted s t.fits.here t.none holds.codes.tail_is t.quiet in
@@ -175,7 +175,7 @@ module _ (A : Type 0) where
   }
 
   -- where no other party is to show the first block, it is shown, or nothing was accepted yet, or the call is to show it
-  readies : (parties : ℕ) (w : World (Shared A) (Running A)) (st : ℕ → Standing) (h : Here A Kind.Unbounded (chain_rules A) parties w st) (p : ℕ) (r : Running A) → call_at w p ≡ Some r → NobodyShows Kind.Unbounded w p → Ready w.shared r
+  readies : (parties : ℕ) (w : World (MemoryState A) (Running A)) (st : ℕ → Standing) (h : Here A Kind.Unbounded (chain_rules A) parties w st) (p : ℕ) (r : Running A) → call_at w p ≡ Some r → NobodyShows Kind.Unbounded w p → Ready w.shared r
   readies parties w st h p r is nobody pop none = go h.sim.g.shown refl h.sim.holds.ok.seen
     where
       go : (x : Shown) → h.sim.g.shown ≡ x → ShownOk h.sim.g.blocks h.sim.g.head h.sim.g.front h.sim.g.known h.sim.g.passer x → position_of w.shared.tail ≡ 0

@@ -6,7 +6,7 @@ use Rattle.queue_steps.specs.{State.State, Looks.call_of_look, ChainWords.offset
 use Rattle.queue_laws.specs.{Common.Pushes.pushes, Common.Stand.Stand, Chain.ChainCells.Shown, Chain.ChainCells.Seen, Chain.ChainCells.Chain, Chain.ChainCells.ChainOk, Chain.ChainCells.ShownOk, Chain.ChainCells.LAST, Chain.ChainAnswers.tail_word, Chain.ChainAnswers.head_word, Chain.ChainAnswers.shown_of, Chain.ChainFacts.head_of, Chain.ChainFacts.open_tail_of}
 use Rattle.queue_laws.proofs.{Common.Ranks.either_small, Chain.ChainAnswers.head_offset, Chain.ChainRanks.rank, Chain.ChainRanks.lag, Chain.ChainRanks.walk_rank, Chain.ChainRanks.is_seen, Chain.ChainRanksWalk.last_claimed, Chain.ChainRight.NextOkSpares}
 use Rattle.queue_laws.specs.Chain.ChainAt.{At, push_tail, push_block, asking, installing, showing, claiming, laying, opening, chaining, writing, spending, pop_block, pop_tail, taking, reading, walking, destroying, count_head, count_again, count_tail}
-use Rattle.machine_memory.specs.SharedMemory.{Shared}
+use Rattle.machine_memory.specs.SharedMemory.{MemoryState}
 use Rattle.machine_steps.specs.Steps.{running_after}
 use Rattle.machine_replay.proofs.Chain.Names.{Codes}
 
@@ -131,11 +131,11 @@ seen_if : (x : Shown) (name : ℕ) → IsSome (shown_of x name) → x ≡ Seen
 seen_if Seen name h = refl
 seen_if x name h = cc
 
-pub seen_is : {A : Type 0} (s : Shared A) (g : Chain A) → IsSome s.head_block → Codes g s.head s.tail s.head_block s.tail_block s.blocks → g.shown ≡ Seen
+pub seen_is : {A : Type 0} (s : MemoryState A) (g : Chain A) → IsSome s.head_block → Codes g s.head s.tail s.head_block s.tail_block s.blocks → g.shown ≡ Seen
 seen_is s g ready codes = seen_if g.shown (g.names g.front) (subst (λ b. IsSome b) codes.front_is ready)
 
 -- by the machine's words
-pub far_of : {A : Type 0} (s : Shared A) (g : Chain A) (l : Local ℕ) → IsSome s.head_block → ChainOk g → Codes g s.head s.tail s.head_block s.tail_block s.blocks → rank g l ≡ far_at s.tail s.head l
+pub far_of : {A : Type 0} (s : MemoryState A) (g : Chain A) (l : Local ℕ) → IsSome s.head_block → ChainOk g → Codes g s.head s.tail s.head_block s.tail_block s.blocks → rank g l ≡ far_at s.tail s.head l
 far_of s g l ready ok codes =
     let seen = seen_is s g ready codes in
     let shown : ShownOk g.blocks g.head g.front g.known g.passer Seen = subst (λ x. ShownOk g.blocks g.head g.front g.known g.passer x) seen ok.seen in

@@ -5,7 +5,7 @@ use Rattle.machine_replay.specs.{Vocabulary.Call, Vocabulary.Reply, Vocabulary.E
 use Rattle.queue_laws.specs.{Common.Effects.with_effect, Chain.ChainCells.Chain, Chain.ChainCells.queue_of, Chain.ChainCells.ChainOk, Chain.ChainCells.HoldsOnly, Chain.ChainCells.Nothing, Chain.ChainPasses.Passes, Chain.ChainPasses.Spares, Chain.ChainPasses.spare_in, Chain.ChainAt.At, Chain.ChainAnswers.Answers, Chain.ChainAfter.chain_of, Chain.ChainAfter.after_of, Chain.ChainAfter.carried_of, Chain.ChainAfter.left_by}
 use Rattle.machine_replay.proofs.{Engine.StandOf.stand_of, Progress.FewSteps.FewSteps, Progress.FewSteps.few_begun, Progress.FewSteps.few_joined, Progress.FewSteps.few_watched, Progress.FewSteps.few_own, Progress.FewSteps.few_stays, Chain.Moments.chain_begun, Chain.Moments.allowed_in, Engine.Moments.same_moments}
 use Rattle.queue_laws.proofs.Chain.{ChainFacts.holds_stays, ChainAt.at_stays, ChainStart.Begins, ChainStart.at_begun, ChainGiven.spares_stay, ChainRight.NextOkSpares, ChainRight.step_right, ChainRanks.rank, ChainRanks.longest, ChainRanks.rank_small, ChainRanks.rank_some, ChainRanks.Falls, ChainRanksStep.step_falls, ChainRanksStep.wait_free_falls, ChainRanksStep.wait_free_small}
-use Rattle.machine_memory.specs.SharedMemory.{Shared}
+use Rattle.machine_memory.specs.SharedMemory.{MemoryState}
 use Rattle.machine_steps.specs.Steps.{CanStep, step_of, start_of, running_after, reply_after}
 use Rattle.machine_replay.proofs.Engine.Events as engine
 
@@ -14,26 +14,26 @@ abbrev pub ChainIdle : {A : Type 0} → Chain A → ℕ → Type 0
 ChainIdle g p = HoldsOnly g p Nothing × Spares g p None
 
 -- where the party's call stands, that it has no spare but that in its hands, and that it has few steps before it
-pub record ChainFits {A : Type 0} (busy : ℕ) (s : Shared A) (Q : State A) (g : Chain A) (p : ℕ) (x : Running A) (o : Open A) : Type 0 where
+pub record ChainFits {A : Type 0} (busy : ℕ) (s : MemoryState A) (Q : State A) (g : Chain A) (p : ℕ) (x : Running A) (o : Open A) : Type 0 where
   pub here : At g p o.moments (stand_of x o.call o.effects)
   pub spares : Spares g p (spare_in x.local)
   pub few : FewSteps busy o (rank g x.local) longest
 
 -- the engine's words at a chain, for any shared memory that stands for it
-abbrev pub ChainGoes : (A : Type 0) (Stands : Shared A → State A → Chain A → Type 0) → ℕ → Shared A → State A → Chain A → ℕ → Open A → Option (Running A) → Option (Reply A) → Type 0
-ChainGoes A Stands = engine.NextFits A (Shared A) (Running A) (Chain A) None (step_of Kind.Unbounded) (start_of Kind.Unbounded) (CanStep Kind.Unbounded) Stands ChainIdle ChainFits
+abbrev pub ChainGoes : (A : Type 0) (Stands : MemoryState A → State A → Chain A → Type 0) → ℕ → MemoryState A → State A → Chain A → ℕ → Open A → Option (Running A) → Option (Reply A) → Type 0
+ChainGoes A Stands = engine.NextFits A (MemoryState A) (Running A) (Chain A) None (step_of Kind.Unbounded) (start_of Kind.Unbounded) (CanStep Kind.Unbounded) Stands ChainIdle ChainFits
 
-abbrev ChainBegins : (A : Type 0) (Stands : Shared A → State A → Chain A → Type 0) → Shared A → State A → Chain A → ℕ → Call A → Option (Running A) → Option (Reply A) → Type 0
-ChainBegins A Stands = engine.BeginsWell A (Shared A) (Running A) (Chain A) None (step_of Kind.Unbounded) (start_of Kind.Unbounded) (CanStep Kind.Unbounded) Stands ChainIdle ChainFits
+abbrev ChainBegins : (A : Type 0) (Stands : MemoryState A → State A → Chain A → Type 0) → MemoryState A → State A → Chain A → ℕ → Call A → Option (Running A) → Option (Reply A) → Type 0
+ChainBegins A Stands = engine.BeginsWell A (MemoryState A) (Running A) (Chain A) None (step_of Kind.Unbounded) (start_of Kind.Unbounded) (CanStep Kind.Unbounded) Stands ChainIdle ChainFits
 
 -- the block that a reply gives up makes no difference to the count
 falls_left : {A : Type 0} (r : Chain A) (n : Next ℕ) (m : ℕ) → Falls r n m → Falls (left_by r n) n m
 falls_left r (Next.Step l t o) m h = h
 falls_left r (Next.Reply x spare) m h = tt
 
-module _ {A : Type 0} (Stands : Shared A → State A → Chain A → Type 0) (busy : ℕ) where
+module _ {A : Type 0} (Stands : MemoryState A → State A → Chain A → Type 0) (busy : ℕ) where
   -- where the call stands after its step, or its reply
-  goes_on : (s : Shared A) (g : Chain A) (p : ℕ) (o : Open A) (n : Next ℕ) (v : Option A) (es : List (Effect A)) (m : ℕ)
+  goes_on : (s : MemoryState A) (g : Chain A) (p : ℕ) (o : Open A) (n : Next ℕ) (v : Option A) (es : List (Effect A)) (m : ℕ)
       → FewSteps busy o m longest → (busy ≡ 1 → Falls g n m) → (is_wait_free o.call ≡ true → Falls g n m) → NextOkSpares g p (queue_of g ∷ o.moments) n v o.call es
       → ChainGoes A Stands busy s (queue_of g) g p (after_own busy o (queue_of g) es) (running_after n v) (reply_after n v)
   goes_on s g p o (Next.Step l t x) v es m few falls hurry ends =
@@ -44,7 +44,7 @@ module _ {A : Type 0} (Stands : Shared A → State A → Chain A → Type 0) (bu
       rw y.1 ((ends.0, ends.1), (y.2, λ e. allowed_in o.call y.0 (queue_of g ∷ o.moments) (y.3 e)))
 
   -- where a call stands after the step that got this answer
-  pub chain_goes : (s t : Shared A) (Q : State A) (g : Chain A) (p : ℕ) (x : Running A) (o : Open A) (a : Answer ℕ)
+  pub chain_goes : (s t : MemoryState A) (Q : State A) (g : Chain A) (p : ℕ) (x : Running A) (o : Open A) (a : Answer ℕ)
       → (ok : ChainOk g) (found : Answers g x.op a) (f : ChainFits busy s Q g p x o) → (busy ≡ 1 → (j : ℕ) → j ≢ p → ChainIdle g j)
       → ChainGoes A Stands busy t (queue_of (left_by (after_of f.here a) (chain_next (chain_of x.local) a))) (left_by (after_of f.here a) (chain_next (chain_of x.local) a)) p
       (after_own busy o (queue_of (left_by (after_of f.here a) (chain_next (chain_of x.local) a))) (with_effect o.effects (step_right f.here a ok found f.spares).e))
@@ -58,7 +58,7 @@ module _ {A : Type 0} (Stands : Shared A → State A → Chain A → Type 0) (bu
       (λ e. falls_left r n (rank g x.local) (wait_free_falls f.here a found e)) right.ends
 
 -- a call of another party stands where it stood
-pub chain_watched : {A : Type 0} (busy busy' : ℕ) (s t : Shared A) (Q : State A) (g h : Chain A) (p j : ℕ) (x : Running A) (o : Open A) → ChainOk g → ChainOk h → j ≢ p → Passes p g h → busy ≢ 1
+pub chain_watched : {A : Type 0} (busy busy' : ℕ) (s t : MemoryState A) (Q : State A) (g h : Chain A) (p j : ℕ) (x : Running A) (o : Open A) → ChainOk g → ChainOk h → j ≢ p → Passes p g h → busy ≢ 1
     → ChainFits busy s Q g j x o → ChainFits busy' t (queue_of h) h j x (watched (queue_of h) o)
 chain_watched busy busy' s t Q g h p j x o ok after ne pass many f = record {
   here = subst (λ ms. At h j ms (stand_of x o.call o.effects)) (same_moments (queue_of h) o.moments) (at_stays ok after ne pass f.here);
@@ -71,18 +71,18 @@ pub chain_idle : {A : Type 0} (g h : Chain A) (p j : ℕ) → j ≢ p → Passes
 chain_idle g h p j ne pass idle = (holds_stays p j Nothing ne pass idle.0, spares_stay p j None ne pass idle.1)
 
 -- where another call begins
-pub chain_joins : {A : Type 0} (busy busy' : ℕ) (s : Shared A) (Q : State A) (g : Chain A) (p : ℕ) (x : Running A) (o : Open A) → ChainFits busy s Q g p x o → ChainFits busy' s Q g p x (joined o)
+pub chain_joins : {A : Type 0} (busy busy' : ℕ) (s : MemoryState A) (Q : State A) (g : Chain A) (p : ℕ) (x : Running A) (o : Open A) → ChainFits busy s Q g p x o → ChainFits busy' s Q g p x (joined o)
 chain_joins busy busy' s Q g p x o f = record { here = f.here; spares = f.spares; few = few_joined busy busy' o (rank g x.local) longest f.few }
 
 -- a call just begun
-fresh : {A : Type 0} (s : Shared A) (Q : State A) (g : Chain A) (p : ℕ) (k : Call A) (x : Running A) → At g p [] (stand_of x k []) → Spares g p (spare_in x.local) → (busy : ℕ) → ChainFits busy s Q g p x (begun k)
+fresh : {A : Type 0} (s : MemoryState A) (Q : State A) (g : Chain A) (p : ℕ) (k : Call A) (x : Running A) → At g p [] (stand_of x k []) → Spares g p (spare_in x.local) → (busy : ℕ) → ChainFits busy s Q g p x (begun k)
 fresh s Q g p k x here spares busy = record {
   here = here;
   spares = spares;
   few = few_begun busy k (rank g x.local) longest (rank_small g x.local) (λ e. (wait_free_small g here e).0);
 }
 
-pub chain_begins : {A : Type 0} (Stands : Shared A → State A → Chain A → Type 0) (s : Shared A) (Q : State A) (g : Chain A) (p : ℕ) (k : Call A) → Q.cap ≡ None → ChainIdle g p
+pub chain_begins : {A : Type 0} (Stands : MemoryState A → State A → Chain A → Type 0) (s : MemoryState A) (Q : State A) (g : Chain A) (p : ℕ) (k : Call A) → Q.cap ≡ None → ChainIdle g p
     → ChainBegins A Stands s Q g p k (start_of Kind.Unbounded k).call (start_of Kind.Unbounded k).reply
 chain_begins {A} Stands s Q g p k open_ended idle = by (chain_begin (call_kind k)) (at_begun k)
   where

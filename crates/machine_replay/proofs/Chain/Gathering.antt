@@ -3,7 +3,7 @@ use Rattle.std.proofs.Common.{◌≡◌, ◌∙◌, ℕ, suc, ◌+◌, ◌-◌, 
 use Rattle.std.proofs.lemmas.List.{length-set}
 use Rattle.queue_steps.specs.{ChainWords.offset_of, declared.steps.chain.ChainLocal.ChainLocal as chain}
 use Rattle.machine_replay.specs.Vocabulary.{Op, Touch, Local, ChainLocal, Running}
-use Rattle.machine_memory.specs.{SharedMemory.block_touched, declared.blocks.BlockPlace.BlockPlace, Blocks.Block, Blocks.put_item, Blocks.without}
+use Rattle.machine_memory.specs.{SharedMemory.block_touched, declared.blocks.BlockPlace.BlockPlace, Blocks.BlockState, Blocks.put_item, Blocks.without}
 use Rattle.machine_steps.specs.ChainLeft.{laid, marked, reached, settled_at, settled_by, settled_blocks, front_at, settled_front, unread_in, unread, unread_at, behind_at, chained, chain_left}
 
 -- what comes first of what is left goes to the end of what there is
@@ -28,22 +28,22 @@ places-end left [] all none e = sym (append-nil left) ∙ e
 places-end left (x ∷ xs) all none e = absurd (omega (arith, none))
 
 -- nothing is gathered yet
-pub chained-begin : {T : Type 0} (n : ℕ) (bs : List (Option (Block T))) (b : Option ℕ) (left : List T) → length left ≡ 0 → left ++ chained (n - 0) bs b ≡ chained n bs b
+pub chained-begin : {T : Type 0} (n : ℕ) (bs : List (Option (BlockState T))) (b : Option ℕ) (left : List T) → length left ≡ 0 → left ++ chained (n - 0) bs b ≡ chained n bs b
 chained-begin n bs b [] none = let same : n - 0 ≡ n = omega arith in ap (λ m. chained m bs b) same
 chained-begin n bs b (x ∷ xs) none = absurd (omega (arith, none))
 
 -- the next block is gathered
-pub chained-turn : {T : Type 0} (n i : ℕ) (bs : List (Option (Block T))) (b : Option ℕ) → i < n → chained (n - i) bs b ≡ unread_at bs b ++ chained (n - (i + 1)) (without b bs) (behind_at bs b)
+pub chained-turn : {T : Type 0} (n i : ℕ) (bs : List (Option (BlockState T))) (b : Option ℕ) → i < n → chained (n - i) bs b ≡ unread_at bs b ++ chained (n - (i + 1)) (without b bs) (behind_at bs b)
 chained-turn n i bs b lt =
     let e : n - i ≡ suc (n - (i + 1)) = omega arith in
     rw e refl
 
-pub blocks-append : {T : Type 0} (calls : List (Option (Running T))) (r : Running T) (bs : List (Option (Block T))) → settled_blocks (calls ++ Some r ∷ []) bs ≡ settled_by r.local r.touch r.op r.carried (settled_blocks calls bs)
+pub blocks-append : {T : Type 0} (calls : List (Option (Running T))) (r : Running T) (bs : List (Option (BlockState T))) → settled_blocks (calls ++ Some r ∷ []) bs ≡ settled_by r.local r.touch r.op r.carried (settled_blocks calls bs)
 blocks-append [] r bs = refl
 blocks-append (None ∷ calls) r bs = blocks-append calls r bs
 blocks-append (Some x ∷ calls) r bs = blocks-append calls r (settled_by x.local x.touch x.op x.carried bs)
 
-pub blocks-append_none : {T : Type 0} (calls : List (Option (Running T))) (bs : List (Option (Block T))) → settled_blocks (calls ++ None ∷ []) bs ≡ settled_blocks calls bs
+pub blocks-append_none : {T : Type 0} (calls : List (Option (Running T))) (bs : List (Option (BlockState T))) → settled_blocks (calls ++ None ∷ []) bs ≡ settled_blocks calls bs
 blocks-append_none [] bs = refl
 blocks-append_none (None ∷ calls) bs = blocks-append_none calls bs
 blocks-append_none (Some x ∷ calls) bs = blocks-append_none calls (settled_by x.local x.touch x.op x.carried bs)
@@ -59,16 +59,16 @@ front-append_none (None ∷ calls) front = front-append_none calls front
 front-append_none (Some x ∷ calls) front = front-append_none calls (front_at x.local front)
 
 -- no block comes or goes where calls do what they have claimed
-item-length : {T : Type 0} (bs : List (Option (Block T))) (b i : ℕ) (v : Option T) → length (put_item bs b i v) ≡ length bs
+item-length : {T : Type 0} (bs : List (Option (BlockState T))) (b i : ℕ) (v : Option T) → length (put_item bs b i v) ≡ length bs
 item-length bs b i v = length-set bs b _
 
-laid-length : {T : Type 0} (tail block fresh : ℕ) (v : Option T) (bs : List (Option (Block T))) → length (laid tail block fresh v bs) ≡ length bs
+laid-length : {T : Type 0} (tail block fresh : ℕ) (v : Option T) (bs : List (Option (BlockState T))) → length (laid tail block fresh v bs) ≡ length bs
 laid-length tail block fresh v bs = length-set _ block _ ∙ item-length bs block (offset_of tail) v
 
-marked-length : {T : Type 0} (block slot : ℕ) (bs : List (Option (Block T))) → length (marked block slot bs) ≡ length bs
+marked-length : {T : Type 0} (block slot : ℕ) (bs : List (Option (BlockState T))) → length (marked block slot bs) ≡ length bs
 marked-length block slot bs = length-set bs block _
 
-reached-length : {T : Type 0} (t : Touch) (b : Option ℕ) (v : Option T) (bs : List (Option (Block T))) → length (reached t b v bs) ≡ length bs
+reached-length : {T : Type 0} (t : Touch) (b : Option ℕ) (v : Option T) (bs : List (Option (BlockState T))) → length (reached t b v bs) ≡ length bs
 reached-length (Touch.Put i) (Some b) v bs = item-length bs b i v
 reached-length (Touch.Take i) (Some b) v bs = marked-length b i bs
 reached-length (Touch.Swap i) (Some b) v bs = refl
@@ -79,7 +79,7 @@ reached-length t None v bs = nothing t
     nothing Touch.Nothing = refl
     nothing t = refl
 
-at-length : {T : Type 0} (l : ChainLocal ℕ) (t : Touch) (b : Option ℕ) (v : Option T) (bs : List (Option (Block T))) → length (settled_at l t b v bs) ≡ length bs
+at-length : {T : Type 0} (l : ChainLocal ℕ) (t : Touch) (b : Option ℕ) (v : Option T) (bs : List (Option (BlockState T))) → length (settled_at l t b v bs) ≡ length bs
 at-length (chain.Laying p tail block fresh) t b v bs = laid-length tail block fresh v bs
 at-length (chain.Opening p tail block fresh) t b v bs = laid-length tail block fresh v bs
 at-length (chain.Chaining p tail block fresh) t b v bs = laid-length tail block fresh v bs
@@ -90,27 +90,27 @@ at-length (chain.Entering head block) t b v bs = marked-length block (offset_of 
 at-length (chain.Awaiting head block) t b v bs = marked-length block (offset_of head) bs
 at-length l t b v bs = reached-length t b v bs
 
-by-length : {T : Type 0} (l : Local ℕ) (t : Touch) (o : Op ℕ) (v : Option T) (bs : List (Option (Block T))) → length (settled_by l t o v bs) ≡ length bs
+by-length : {T : Type 0} (l : Local ℕ) (t : Touch) (o : Op ℕ) (v : Option T) (bs : List (Option (BlockState T))) → length (settled_by l t o v bs) ≡ length bs
 by-length (Local.Chain l) t o v bs = at-length l t (block_touched o) v bs
 by-length l t o v bs = refl
 
-pub blocks-length : {T : Type 0} (calls : List (Option (Running T))) (bs : List (Option (Block T))) → length (settled_blocks calls bs) ≡ length bs
+pub blocks-length : {T : Type 0} (calls : List (Option (Running T))) (bs : List (Option (BlockState T))) → length (settled_blocks calls bs) ≡ length bs
 blocks-length [] bs = refl
 blocks-length (None ∷ calls) bs = blocks-length calls bs
 blocks-length (Some r ∷ calls) bs = blocks-length calls (settled_by r.local r.touch r.op r.carried bs) ∙ by-length r.local r.touch r.op r.carried bs
 
 -- what is gathered so far and what is still to come, after one block more
-pub chained-next : {T : Type 0} (n i : ℕ) (bs : List (Option (Block T))) (b : Option ℕ) (left all : List T) → i < n → left ++ chained (n - i) bs b ≡ all
+pub chained-next : {T : Type 0} (n i : ℕ) (bs : List (Option (BlockState T))) (b : Option ℕ) (left all : List T) → i < n → left ++ chained (n - i) bs b ≡ all
     → left ++ (unread_at bs b ++ chained (n - (i + 1)) (without b bs) (behind_at bs b)) ≡ all
 chained-next n i bs b left all lt e = ap (λ l. left ++ l) (sym (chained-turn n i bs b lt)) ∙ e
 
 -- none is left
-pub chained-end : {T : Type 0} (n i : ℕ) (bs : List (Option (Block T))) (b : Option ℕ) (left all : List T) → n ≤ i → left ++ chained (n - i) bs b ≡ all → left ≡ all
+pub chained-end : {T : Type 0} (n i : ℕ) (bs : List (Option (BlockState T))) (b : Option ℕ) (left all : List T) → n ≤ i → left ++ chained (n - i) bs b ≡ all → left ≡ all
 chained-end n i bs b left all le e =
     let none : n - i ≡ 0 = omega arith in
     sym (append-nil left) ∙ ap (λ k. left ++ chained k bs b) (sym none) ∙ e
 
 -- where every call has done what it has claimed, what the blocks hold is what is left
-pub settled-left : {T : Type 0} (done calls : List (Option (Running T))) (first first' : Option ℕ) (bs bs' : List (Option (Block T))) → done ≡ calls → bs' ≡ settled_blocks done bs → first' ≡ settled_front done first
+pub settled-left : {T : Type 0} (done calls : List (Option (Running T))) (first first' : Option ℕ) (bs bs' : List (Option (BlockState T))) → done ≡ calls → bs' ≡ settled_blocks done bs → first' ≡ settled_front done first
     → chained (length bs') bs' first' ≡ chain_left calls first bs
 settled-left done calls first first' bs bs' all blocks front = rw (blocks, front, blocks-length done bs, all) refl

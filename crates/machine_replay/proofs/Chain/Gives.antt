@@ -4,21 +4,21 @@ use Rattle.std.proofs.lemmas.{List.get_or_past, List.length-set, Bool.Decides.eq
 use Rattle.machine_replay.specs.Vocabulary.{Answer, Next, BLOCK_SLOTS}
 use Rattle.queue_laws.specs.Chain.{ChainCells.Done, ChainCells.GivenUp, ChainCells.Chained, ChainCells.Chain, ChainCells.ChainOk, ChainCells.item_at, ChainCells.LAST, ChainFacts.IsNamed, ChainAnswers.IsState, ChainAnswers.StateAnswers, ChainAfter.left_by}
 use Rattle.queue_laws.proofs.Chain.ChainRight.{Gives}
-use Rattle.machine_memory.specs.Blocks.{Block, fresh_block, without, places_in, place_count}
+use Rattle.machine_memory.specs.Blocks.{BlockState, fresh_block, without, places_in, place_count}
 use Rattle.machine_steps.specs.Steps.{spare_in}
 use Rattle.machine_replay.proofs.Chain.{Codes.BlockIs, Names.NameIs, Names.HeldIs, Names.Codes, Names.alive_of, Names.name_of, CodesWalk.codes_given_spare, CodesWalk.codes_given_block, Blocks.there, Blocks.changed_set, Blocks.place_in}
 
 -- what stands under the name of the chain's block b
-held_of : {A : Type 0} {c : Chain A} {head tail : ℕ} {front last : Option ℕ} {blocks : List (Option (Block A))} (b f : ℕ) → ChainOk c → IsNamed c b f → Codes c head tail front last blocks → HeldIs c b (get_or blocks f None)
+held_of : {A : Type 0} {c : Chain A} {head tail : ℕ} {front last : Option ℕ} {blocks : List (Option (BlockState A))} (b f : ℕ) → ChainOk c → IsNamed c b f → Codes c head tail front last blocks → HeldIs c b (get_or blocks f None)
 held_of {c = c} {blocks = blocks} b f ok named codes = (name_of c b f (get_or blocks f None) (ap c.uses named.1 ∙ ok.name b named.0) (codes.name f)).1
 
 -- a block that is not given up is there
-pub block_at : {A : Type 0} {c : Chain A} {head tail : ℕ} {front last : Option ℕ} {blocks : List (Option (Block A))} (b f : ℕ) → ChainOk c → IsNamed c b f → c.walks b ≢ GivenUp → Codes c head tail front last blocks
-    → (x : Block A) × (get_or blocks f None ≡ Some x) × BlockIs c b x.places x.next
+pub block_at : {A : Type 0} {c : Chain A} {head tail : ℕ} {front last : Option ℕ} {blocks : List (Option (BlockState A))} (b f : ℕ) → ChainOk c → IsNamed c b f → c.walks b ≢ GivenUp → Codes c head tail front last blocks
+    → (x : BlockState A) × (get_or blocks f None ≡ Some x) × BlockIs c b x.places x.next
 block_at {c = c} {blocks = blocks} b f ok named on codes = alive_of c b (get_or blocks f None) on (held_of b f ok named codes)
 
 -- a number that has no block has none once it is given up again
-codes_reset : {A : Type 0} {c : Chain A} {head tail : ℕ} {front last : Option ℕ} {blocks : List (Option (Block A))} (f : ℕ) → get_or blocks f None ≡ None → Codes c head tail front last blocks → Codes c head tail front last (set blocks f None)
+codes_reset : {A : Type 0} {c : Chain A} {head tail : ℕ} {front last : Option ℕ} {blocks : List (Option (BlockState A))} (f : ℕ) → get_or blocks f None ≡ None → Codes c head tail front last blocks → Codes c head tail front last (set blocks f None)
 codes_reset {A} {c = c} {blocks = blocks} f none codes = record {
   head_is = codes.head_is;
   tail_is = codes.tail_is;
@@ -38,7 +38,7 @@ codes_reset {A} {c = c} {blocks = blocks} f none codes = record {
     ]
 
 -- the block that a call gives up where it replies
-pub codes_left : {A : Type 0} {c : Chain A} {head tail : ℕ} {front last : Option ℕ} {blocks : List (Option (Block A))} (who : ℕ) (n : Next ℕ) → ChainOk c → Gives c who n → Codes c head tail front last blocks
+pub codes_left : {A : Type 0} {c : Chain A} {head tail : ℕ} {front last : Option ℕ} {blocks : List (Option (BlockState A))} (who : ℕ) (n : Next ℕ) → ChainOk c → Gives c who n → Codes c head tail front last blocks
     → Codes (left_by c n) head tail front last (without (spare_in n) blocks)
 codes_left who (Next.Step l t o) ok gives codes = codes
 codes_left who (Next.Reply x None) ok gives codes = codes
@@ -54,11 +54,11 @@ pub one_block : {A : Type 0} (c : Chain A) (b i f : ℕ) → ChainOk c → IsNam
 one_block c b i f ok x y = let z : Chained i ≡ Chained b = sym (ap c.uses y.1 ∙ ok.name i y.0) ∙ (ap c.uses x.1 ∙ ok.name b x.0) in cc
 
 -- a block that is there has all its places
-pub has_place : {A : Type 0} {c : Chain A} (bs : List (Option (Block A))) (b f i : ℕ) (x : Block A) → get_or bs f None ≡ Some x → BlockIs c b x.places x.next → i < BLOCK_SLOTS → i < place_count bs f
+pub has_place : {A : Type 0} {c : Chain A} (bs : List (Option (BlockState A))) (b f i : ℕ) (x : BlockState A) → get_or bs f None ≡ Some x → BlockIs c b x.places x.next → i < BLOCK_SLOTS → i < place_count bs f
 has_place bs b f i x is block low = subst (λ y. i < length (places_in y)) (sym is) (subst (λ n. i < n) (sym block.wide) low)
 
 -- what the state of a slot answers
-pub state_answers : {A : Type 0} {c : Chain A} (bs : List (Option (Block A))) (b f i n : ℕ) (x : Block A) → ChainOk c → IsNamed c b f → BlockIs c b x.places x.next → i < BLOCK_SLOTS → (i ≡ LAST → c.readers (item_at b i) ≢ Done)
+pub state_answers : {A : Type 0} {c : Chain A} (bs : List (Option (BlockState A))) (b f i n : ℕ) (x : BlockState A) → ChainOk c → IsNamed c b f → BlockIs c b x.places x.next → i < BLOCK_SLOTS → (i ≡ LAST → c.readers (item_at b i) ≢ Done)
     → n ≡ (place_in x i).state → StateAnswers c f i (Answer.Found n)
 state_answers {c = c} bs b f i n x ok named block low unread is j other =
     (n, refl, subst (λ k. IsState c k i n) (sym (one_block c b j f ok named other)) (subst (λ m. IsState c b i m) (sym is) (block.state i low unread)))

@@ -5,20 +5,20 @@ use Rattle.machine_replay.specs.{Vocabulary.Call, Vocabulary.Effect, Vocabulary.
 use Rattle.queue_laws.specs.{Common.Effects.with_effect, Chain.ChainCells.Chain, Chain.ChainCells.queue_of, Chain.ChainAt.At, Chain.ChainAnswers.Answers, Chain.ChainAfter.chain_of, Chain.ChainAfter.after_of, Chain.ChainAfter.carried_of, Chain.ChainAfter.left_by, Chain.ChainPasses.Spares, Chain.ChainPasses.spare_in}
 use Rattle.machine_replay.proofs.{Engine.StandOf.stand_of, Engine.KindLaws.LawsOf, Chain.Names.Codes, Chain.Holding.ChainHolds, Chain.Moments.chain_moves, Chain.Fits.ChainIdle, Chain.Fits.ChainFits, Chain.Fits.ChainGoes, Chain.Fits.chain_goes, Chain.Fits.chain_watched, Chain.Fits.chain_idle, Chain.Fits.chain_joins, Chain.Fits.chain_begins}
 use Rattle.queue_laws.proofs.Chain.{ChainStep.is_chain, ChainRight.NextOkSpares, ChainRight.step_right}
-use Rattle.machine_memory.specs.{SharedMemory.Shared, SharedMemory.CanTouch, SharedMemory.CanOperate, SharedMemory.block_touched, SharedMemory.slots_there, EffectOf.effect_of}
+use Rattle.machine_memory.specs.{SharedMemory.MemoryState, SharedMemory.CanTouch, SharedMemory.CanOperate, SharedMemory.block_touched, SharedMemory.slots_there, EffectOf.effect_of}
 use Rattle.machine_steps.specs.Steps.{CanReply, CanStep, after_touch, answer_to, carried_then, shared_then, next_after, running_after, reply_after, step_of, start_of}
 use Rattle.machine_replay.proofs.Engine.Events as engine
 
 -- what the call does after its step, by what it found
-abbrev pub next_on : {A : Type 0} → Bool → Shared A → Running A → Next ℕ
+abbrev pub next_on : {A : Type 0} → Bool → MemoryState A → Running A → Next ℕ
 next_on ok s x = chain_next (chain_of x.local) (answer_to ok s x)
 
 -- the chain after the step, and after the block that is given up then, if there is one
-abbrev pub chain_then : {A : Type 0} (ok : Bool) (s : Shared A) (g : Chain A) (p : ℕ) (ms : List (State A)) (x : Running A) (k : Call A) (es : List (Effect A)) → At g p ms (stand_of x k es) → Chain A
+abbrev pub chain_then : {A : Type 0} (ok : Bool) (s : MemoryState A) (g : Chain A) (p : ℕ) (ms : List (State A)) (x : Running A) (k : Call A) (es : List (Effect A)) → At g p ms (stand_of x k es) → Chain A
 chain_then ok s g p ms x k es at = left_by (after_of at (answer_to ok s x)) (next_on ok s x)
 
 -- the step of a call can be taken, it answers for the chain and hands the call what the chain says, and what it leaves stands for the chain after it
-pub record StepStands {A : Type 0} (ok : Bool) (s : Shared A) (g : Chain A) (p : ℕ) (ms : List (State A)) (x : Running A) (k : Call A) (es : List (Effect A)) (at : At g p ms (stand_of x k es)) : Type 0 where
+pub record StepStands {A : Type 0} (ok : Bool) (s : MemoryState A) (g : Chain A) (p : ℕ) (ms : List (State A)) (x : Running A) (k : Call A) (es : List (Effect A)) (at : At g p ms (stand_of x k es)) : Type 0 where
   pub touches : CanTouch x.touch (slots_there s (block_touched x.op))
   pub operates : CanOperate (after_touch s x) x.op
   pub found : Answers g x.op (answer_to ok s x)
@@ -27,11 +27,11 @@ pub record StepStands {A : Type 0} (ok : Bool) (s : Shared A) (g : Chain A) (p :
 
 -- each step of each call does so
 abbrev pub StepsStand : Type 0 → Type 0
-StepsStand A = (ok : Bool) (s : Shared A) (Q : State A) (g : Chain A) (p : ℕ) (ms : List (State A)) (x : Running A) (k : Call A) (es : List (Effect A))
+StepsStand A = (ok : Bool) (s : MemoryState A) (Q : State A) (g : Chain A) (p : ℕ) (ms : List (State A)) (x : Running A) (k : Call A) (es : List (Effect A))
     → ChainHolds s Q g → (at : At g p ms (stand_of x k es)) → Spares g p (spare_in x.local) → StepStands ok s g p ms x k es at
 
 -- the step function at a local state of a chain
-same_next : {A : Type 0} (ok : Bool) (s : Shared A) (g : Chain A) (p : ℕ) (ms : List (State A)) (x : Running A) (k : Call A) (es : List (Effect A)) → At g p ms (stand_of x k es)
+same_next : {A : Type 0} (ok : Bool) (s : MemoryState A) (g : Chain A) (p : ℕ) (ms : List (State A)) (x : Running A) (k : Call A) (es : List (Effect A)) → At g p ms (stand_of x k es)
     → next_after Kind.Unbounded ok s x ≡ next_on ok s x
 same_next ok s g p ms x k es at = ap (λ l. next_of Kind.Unbounded l (answer_to ok s x)) (is_chain at)
 
@@ -40,7 +40,7 @@ can_reply : {A : Type 0} (s : Chain A) (p : ℕ) (ms : List (State A)) (n : Next
 can_reply s p ms (Next.Step l t o) v k es ends = tt
 can_reply s p ms (Next.Reply x spare) v k es ends = rw ends.2.1 refl
 
-can_step : {A : Type 0} (stands : StepsStand A) (busy : ℕ) (ok : Bool) (s : Shared A) (Q : State A) (g : Chain A) (p : ℕ) (x : Running A) (o : Open A) → ChainHolds s Q g → ChainFits busy s Q g p x o → CanStep Kind.Unbounded ok s x
+can_step : {A : Type 0} (stands : StepsStand A) (busy : ℕ) (ok : Bool) (s : MemoryState A) (Q : State A) (g : Chain A) (p : ℕ) (x : Running A) (o : Open A) → ChainHolds s Q g → ChainFits busy s Q g p x o → CanStep Kind.Unbounded ok s x
 can_step stands busy ok s Q g p x o holds f =
     let step = stands ok s Q g p o.moments x o.call o.effects holds f.here f.spares in
     let right = step_right f.here (answer_to ok s x) holds.ok step.found f.spares in
@@ -54,10 +54,10 @@ can_step stands busy ok s Q g p x o holds f =
     }
 
 -- the engine's words at the shared memory of a chain
-abbrev ChainStepsWell : (A : Type 0) → ℕ → Shared A → State A → Chain A → ℕ → Open A → Running A → Bool → Type 0
-ChainStepsWell A busy s Q g p o x ok = engine.StepsWell A (Shared A) (Running A) (Chain A) None (step_of Kind.Unbounded) (start_of Kind.Unbounded) (CanStep Kind.Unbounded) ChainHolds ChainIdle ChainFits busy s Q g p o (step_of Kind.Unbounded ok s x)
+abbrev ChainStepsWell : (A : Type 0) → ℕ → MemoryState A → State A → Chain A → ℕ → Open A → Running A → Bool → Type 0
+ChainStepsWell A busy s Q g p o x ok = engine.StepsWell A (MemoryState A) (Running A) (Chain A) None (step_of Kind.Unbounded) (start_of Kind.Unbounded) (CanStep Kind.Unbounded) ChainHolds ChainIdle ChainFits busy s Q g p o (step_of Kind.Unbounded ok s x)
 
-steps_well : {A : Type 0} (stands : StepsStand A) (busy : ℕ) (ok : Bool) (s : Shared A) (Q : State A) (g : Chain A) (p : ℕ) (x : Running A) (o : Open A)
+steps_well : {A : Type 0} (stands : StepsStand A) (busy : ℕ) (ok : Bool) (s : MemoryState A) (Q : State A) (g : Chain A) (p : ℕ) (x : Running A) (o : Open A)
     → ChainHolds s Q g → ChainFits busy s Q g p x o → (busy ≡ 1 → (j : ℕ) → j ≢ p → ChainIdle g j) → ChainStepsWell A busy s Q g p o x ok
 steps_well {A} stands busy ok s Q g p x o holds f quiet =
     let a = answer_to ok s x in

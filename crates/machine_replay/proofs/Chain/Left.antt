@@ -5,26 +5,26 @@ use Rattle.queue_steps.specs.State.{State}
 use Rattle.machine_replay.specs.{Vocabulary.Kind, Vocabulary.BLOCK_SLOTS, Vocabulary.Running, Book.Book}
 use Rattle.queue_laws.specs.Chain.ChainCells.{Reading, Done, Passer, Stands, Passing, Entering, Shown, Hidden, Showing, Seen, GivenUp, Before, Unused, Spare, Chained, Chain, ChainOk, FrontOk, ShownOk, item_at, LAST, Head, passer_of}
 use Rattle.queue_laws.proofs.Chain.{ChainTransitions.no_block, ChainCount.number_of, ChainSpan.not_done, Count.count_all, Count.count_into}
-use Rattle.machine_memory.specs.{Blocks.Block, Blocks.fresh_block, Blocks.places_in, Blocks.behind_in, Blocks.without, SharedMemory.Shared}
+use Rattle.machine_memory.specs.{Blocks.BlockState, Blocks.fresh_block, Blocks.places_in, Blocks.behind_in, Blocks.without, SharedMemory.MemoryState}
 use Rattle.machine_steps.specs.{ChainLeft.unread, ChainLeft.chained, ChainLeft.settled_blocks, Left.left_of, World.World, World.call_at}
 use Rattle.machine_replay.proofs.Chain.{Codes.BlockIs, Names.NameIs, Names.name_of, Names.alive_of, Fresh.next_high, Fresh.unwalked, Holding.ChainHolds, Counted.StandsAt, Done.all_done, Done.settled_block, Shows.AllStand, Shows.deed_at, Shows.in_call, Shows.block_shows, Links.next_is, Links.last_next, Links.spare_empty, Links.front_then, Links.front_is}
 
 -- from no block on there is nothing
-chained_none : {A : Type 0} (n : ℕ) (bs : List (Option (Block A))) → chained n bs None ≡ []
+chained_none : {A : Type 0} (n : ℕ) (bs : List (Option (BlockState A))) → chained n bs None ≡ []
 chained_none zero bs = refl
 chained_none (suc n) bs = chained_none n bs
 
 -- from a block on that shows nothing and is the last, there is nothing
-chained_empty : {A : Type 0} (n : ℕ) (bs : List (Option (Block A))) (f : ℕ) (x : Block A) → get_or bs f None ≡ Some x → unread x.places ≡ [] → x.next ≡ None → chained n bs (Some f) ≡ []
+chained_empty : {A : Type 0} (n : ℕ) (bs : List (Option (BlockState A))) (f : ℕ) (x : BlockState A) → get_or bs f None ≡ Some x → unread x.places ≡ [] → x.next ≡ None → chained n bs (Some f) ≡ []
 chained_empty zero bs f x e none last = refl
 chained_empty (suc n) bs f x e none last =
     ap (λ y. unread (places_in y) ++ chained n (without (Some f) bs) (behind_in y)) e ∙ (ap (λ ps. ps ++ chained n (without (Some f) bs) x.next) none ∙ (ap (λ y. chained n (without (Some f) bs) y) last ∙ chained_none n (without (Some f) bs)))
 
 -- these blocks are those, but for the chain's before the block b
-abbrev Agrees : {A : Type 0} → Chain A → ℕ → List (Option (Block A)) → List (Option (Block A)) → Type 0
+abbrev Agrees : {A : Type 0} → Chain A → ℕ → List (Option (BlockState A)) → List (Option (BlockState A)) → Type 0
 Agrees g b bs all = (f : ℕ) → ((j : ℕ) → j < b → f ≢ g.names j) → get_or bs f None ≡ get_or all f None
 
-agrees_next : {A : Type 0} (g : Chain A) (b : ℕ) (bs all : List (Option (Block A))) → Agrees g b bs all → Agrees g (b + 1) (set bs (g.names b) None) all
+agrees_next : {A : Type 0} (g : Chain A) (b : ℕ) (bs all : List (Option (BlockState A))) → Agrees g b bs all → Agrees g (b + 1) (set bs (g.names b) None) all
 agrees_next g b bs all agrees f apart = get_or-set_other bs (g.names b) f None None (apart b (omega arith)) ∙ agrees f (λ j lt. apart j (omega arith))
 
 -- the names of the chain's blocks differ, and are no spare's
@@ -35,14 +35,14 @@ spare_name : {A : Type 0} (g : Chain A) (f p j : ℕ) → ChainOk g → g.uses f
 spare_name g f p j ok spare lt e = let twice : Spare p ≡ Chained j = sym spare ∙ (ap g.uses e ∙ ok.name j lt) in cc
 
 -- what is so of the walk along the chain's links from the block F on: the blocks are there
-record Walks {A : Type 0} (g : Chain A) (calls : List (Option (Running A))) (blocks : List (Option (Block A))) (start : ℕ) : Type 0 where
+record Walks {A : Type 0} (g : Chain A) (calls : List (Option (Running A))) (blocks : List (Option (BlockState A))) (start : ℕ) : Type 0 where
   pub ok : ChainOk g
   pub each : AllStand g calls
-  pub block : (b : ℕ) → start ≤ b → b < g.blocks → (x : Block A) × (get_or blocks (g.names b) None ≡ Some x) × BlockIs g b x.places x.next
+  pub block : (b : ℕ) → start ≤ b → b < g.blocks → (x : BlockState A) × (get_or blocks (g.names b) None ≡ Some x) × BlockIs g b x.places x.next
   pub spare : (f p : ℕ) → g.uses f ≡ Spare p → get_or blocks f None ≡ Some fresh_block
 
 -- from a block of the chain on, the list from its first item on is gathered
-walk : {A : Type 0} (g : Chain A) (calls : List (Option (Running A))) (blocks bs : List (Option (Block A))) (start k fuel b : ℕ) → Walks g calls blocks start → start ≤ b → b + suc k ≡ g.blocks → suc k ≤ fuel
+walk : {A : Type 0} (g : Chain A) (calls : List (Option (Running A))) (blocks bs : List (Option (BlockState A))) (start k fuel b : ℕ) → Walks g calls blocks start → start ≤ b → b + suc k ≡ g.blocks → suc k ≤ fuel
     → Agrees g b bs (settled_blocks calls blocks) → chained fuel bs (Some (g.names b)) ≡ drop (b * BLOCK_SLOTS - g.head) g.items
 walk g calls blocks bs start k zero b w low left enough agrees = absurd (omega arith)
 walk {A} g calls blocks bs start k (suc fuel) b w low left enough agrees =
@@ -51,10 +51,10 @@ walk {A} g calls blocks bs start k (suc fuel) b w low left enough agrees =
     lt : b < g.blocks
     lt = omega arith
 
-    here : (x : Block A) × (get_or blocks (g.names b) None ≡ Some x) × BlockIs g b x.places x.next
+    here : (x : BlockState A) × (get_or blocks (g.names b) None ≡ Some x) × BlockIs g b x.places x.next
     here = w.block b low lt
 
-    x : Block A
+    x : BlockState A
     x = here.0
 
     there : get_or bs (g.names b) None ≡ Some (all_done calls (g.names b) here.0)
@@ -106,7 +106,7 @@ not_over {A} g calls b ok each low over = let before = unwalked g b ok (unread g
       | inr t ↦ inside (let ne = t.1 in omega arith)
     ]
 
-walks_from : {A : Type 0} (s : Shared A) (Q : State A) (g : Chain A) (calls : List (Option (Running A))) → ChainHolds s Q g → AllStand g calls → Walks g calls s.blocks g.front
+walks_from : {A : Type 0} (s : MemoryState A) (Q : State A) (g : Chain A) (calls : List (Option (Running A))) → ChainHolds s Q g → AllStand g calls → Walks g calls s.blocks g.front
 walks_from s Q g calls holds each = record {
   ok = holds.ok;
   each = each;
@@ -117,7 +117,7 @@ walks_from s Q g calls holds each = record {
 }
 
 -- there are no more blocks in the chain than in the machine
-blocks_few : {A : Type 0} (s : Shared A) (Q : State A) (g : Chain A) → ChainHolds s Q g → g.blocks ≤ length s.blocks
+blocks_few : {A : Type 0} (s : MemoryState A) (Q : State A) (g : Chain A) → ChainHolds s Q g → g.blocks ≤ length s.blocks
 blocks_few s Q g holds =
     let few = count_into (λ j. true) (λ j. true) g.blocks (length s.blocks) g.names (λ f. number_of (g.uses f)) (λ b lt is. (within b lt, refl, ap number_of (holds.ok.name b lt))) in
     let all = count_all g.blocks in
@@ -135,7 +135,7 @@ blocks_few s Q g holds =
         ] refl
 
 -- the walk from the poppers' block on
-walk_from : {A : Type 0} (s : Shared A) (Q : State A) (g : Chain A) (calls : List (Option (Running A))) → ChainHolds s Q g → AllStand g calls → g.front < g.blocks → chained (length s.blocks) (settled_blocks calls s.blocks) (Some (g.names g.front)) ≡ g.items
+walk_from : {A : Type 0} (s : MemoryState A) (Q : State A) (g : Chain A) (calls : List (Option (Running A))) → ChainHolds s Q g → AllStand g calls → g.front < g.blocks → chained (length s.blocks) (settled_blocks calls s.blocks) (Some (g.names g.front)) ≡ g.items
 walk_from s Q g calls holds each lt =
     let few = blocks_few s Q g holds in
     let low = front_low g.head g.front g.passer holds.ok.fronted in
@@ -143,7 +143,7 @@ walk_from s Q g calls holds each lt =
     ∙ ap (λ k. drop k g.items) (let e : g.front * BLOCK_SLOTS - g.head ≡ 0 = omega arith in e)
 
 -- the list that is left is the queue's
-pub chain_left : {A : Type 0} (w : World (Shared A) (Running A)) (b : Book A) (g : Chain A) → ChainHolds w.shared b.queue g → ((p : ℕ) → StandsAt g p (call_at w p)) → left_of Kind.Unbounded w ≡ b.queue.items
+pub chain_left : {A : Type 0} (w : World (MemoryState A) (Running A)) (b : Book A) (g : Chain A) → ChainHolds w.shared b.queue g → ((p : ℕ) → StandsAt g p (call_at w p)) → left_of Kind.Unbounded w ≡ b.queue.items
 chain_left {A} w b g holds each =
     ap (λ y. chained (length w.shared.blocks) (settled_blocks w.calls w.shared.blocks) y) (front_is g w.calls w.shared.head_block holds.ok each holds.codes.front_is)
     ∙ (go g.shown refl holds.ok.seen ∙ sym (ap (λ q. q.items) holds.queue_is))

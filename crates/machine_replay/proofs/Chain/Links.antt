@@ -4,7 +4,7 @@ use Rattle.std.proofs.lemmas.List.{get_or-replicate, length-replicate}
 use Rattle.machine_replay.specs.Vocabulary.{BLOCK_SLOTS, Running}
 use Rattle.queue_laws.specs.Chain.ChainCells.{Mover, Rests, Laying, Opening, LinkState, Unlinked, Linking, Linked, Shown, Hidden, Showing, Seen, Spare, Chained, Chain, ChainOk, LinkOk, Next, First, Tail, mover_of, linker_of, shower_of}
 use Rattle.queue_laws.specs.Chain.{ChainAnswers.linked_of, ChainAnswers.shown_of, ChainPasses.spare_in, ChainPasses.Spares}
-use Rattle.machine_memory.specs.{declared.blocks.BlockPlace.BlockPlace, Blocks.Block, Blocks.blank, Blocks.fresh_block}
+use Rattle.machine_memory.specs.{declared.blocks.BlockPlace.BlockPlace, Blocks.BlockState, Blocks.blank, Blocks.fresh_block}
 use Rattle.machine_steps.specs.ChainLeft.{unread, settled_front, front_at}
 use Rattle.machine_replay.proofs.Chain.{Codes.BlockIs, Counted.InCall, Counted.StandsAt, Shows.AllStand, Shows.deed_in, Shows.deed_at, Shows.in_call, Shows.unread_none}
 use Rattle.machine_replay.proofs.Chain.Deeds.{Deed, Rest, Puts, Lays, Reads, PutsAt, LinksTo, IsClaimed, IsLaid}
@@ -30,20 +30,20 @@ links_claimed {A} g q b h (Lays f j x fresh) ok lt (n, v, mine, slot, is, laid) 
     go (inr x) = inr (x.0, ap g.uses (sym links.1) ∙ x.1, ap (λ k. k + 1) (sym block) ∙ x.2)
 
 -- what all calls keep of a block's link
-keeps_next : {A : Type 0} (g : Chain A) (calls : List (Option (Running A))) (b : ℕ) (n : Option ℕ) (x : Block A) → ChainOk g → AllStand g calls → b < g.blocks
+keeps_next : {A : Type 0} (g : Chain A) (calls : List (Option (Running A))) (b : ℕ) (n : Option ℕ) (x : BlockState A) → ChainOk g → AllStand g calls → b < g.blocks
     → ((q h : ℕ) → ((g.links b ≡ Linking q) × (h ≡ g.names (b + 1))) ⊎ ((g.mover ≡ Laying q) × (g.uses h ≡ Spare q) × (b + 1 ≡ g.blocks)) → Some h ≡ n)
-    → (p : ℕ) (r : Running A) → get_or calls p None ≡ Some r → (y : Block A) → HasNext n y → HasNext n (done_to (deed_in r) (g.names b) y)
+    → (p : ℕ) (r : Running A) → get_or calls p None ≡ Some r → (y : BlockState A) → HasNext n y → HasNext n (done_to (deed_in r) (g.names b) y)
 keeps_next g calls b n x ok each lt only p r e y q = next_kept (deed_in r) (g.names b) n y (λ h links. only p h (links_claimed g p b h (deed_in r) ok lt (deed_at g calls ok each p r e).claimed links)) q
 
 -- a block that is not the last one is linked to the next one
-pub next_is : {A : Type 0} (g : Chain A) (calls : List (Option (Running A))) (b : ℕ) (x : Block A) → ChainOk g → AllStand g calls → b + 1 < g.blocks → BlockIs g b x.places x.next → (all_done calls (g.names b) x).next ≡ Some (g.names (b + 1))
+pub next_is : {A : Type 0} (g : Chain A) (calls : List (Option (Running A))) (b : ℕ) (x : BlockState A) → ChainOk g → AllStand g calls → b + 1 < g.blocks → BlockIs g b x.places x.next → (all_done calls (g.names b) x).next ≡ Some (g.names (b + 1))
 next_is {A} g calls b x ok each lt is = go (g.links b) refl (ok.link b)
   where
     only : (q h : ℕ) → ((g.links b ≡ Linking q) × (h ≡ g.names (b + 1))) ⊎ ((g.mover ≡ Laying q) × (g.uses h ≡ Spare q) × (b + 1 ≡ g.blocks)) → Some h ≡ Some (g.names (b + 1))
     only q h (inl z) = ap (λ k. Some k) z.1
     only q h (inr z) = absurd (let last = z.2 in omega arith)
 
-    stays : (p : ℕ) (r : Running A) → get_or calls p None ≡ Some r → (y : Block A) → HasNext (Some (g.names (b + 1))) y → HasNext (Some (g.names (b + 1))) (done_to (deed_in r) (g.names b) y)
+    stays : (p : ℕ) (r : Running A) → get_or calls p None ≡ Some r → (y : BlockState A) → HasNext (Some (g.names (b + 1))) y → HasNext (Some (g.names (b + 1))) (done_to (deed_in r) (g.names b) y)
     stays = keeps_next g calls b (Some (g.names (b + 1))) x ok each (omega arith) only
 
     go : (l : LinkState) → g.links b ≡ l → LinkOk g.blocks b l → (all_done calls (g.names b) x).next ≡ Some (g.names (b + 1))
@@ -55,7 +55,7 @@ next_is {A} g calls b x ok each lt is = go (g.links b) refl (ok.link b)
         makes_all calls (g.names b) IsWide (HasNext (Some (g.names (b + 1)))) (λ p r e2 y w. wide_done (deed_in r) (g.names b) y w) (λ p r e2 y z. (wide_done (deed_in r) (g.names b) y z.0, stays p r e2 y z.1)) q c.0 c.1 (λ y w. next_made (deed_in c.0) (g.names b) (g.names (b + 1)) y links) x is.wide
 
 -- the last block is linked to none, or to a spare
-pub last_next : {A : Type 0} (g : Chain A) (calls : List (Option (Running A))) (b : ℕ) (x : Block A) → ChainOk g → AllStand g calls → b + 1 ≡ g.blocks → BlockIs g b x.places x.next
+pub last_next : {A : Type 0} (g : Chain A) (calls : List (Option (Running A))) (b : ℕ) (x : BlockState A) → ChainOk g → AllStand g calls → b + 1 ≡ g.blocks → BlockIs g b x.places x.next
     → ((all_done calls (g.names b) x).next ≡ None) ⊎ ((f : ℕ) × (p : ℕ) × ((all_done calls (g.names b) x).next ≡ Some f) × (g.uses f ≡ Spare p))
 last_next {A} g calls b x ok each last is = go g.mover refl
   where

@@ -5,7 +5,7 @@ use Rattle.std.specs.Option.{option_to_list}
 use Rattle.machine_replay.specs.Vocabulary.{BLOCK_SLOTS, READ, Running}
 use Rattle.queue_laws.specs.Chain.ChainCells.{Writer, Free, Writing, Wrote, Reader, Unread, Reading, Done, Chained, Chain, ChainOk, ItemOk, item_at, Part, Write, Read, owner, writer_of, reader_of}
 use Rattle.queue_laws.specs.Chain.ChainAnswers.{is_done}
-use Rattle.machine_memory.specs.{declared.blocks.BlockPlace.BlockPlace, Blocks.Block, Blocks.blank}
+use Rattle.machine_memory.specs.{declared.blocks.BlockPlace.BlockPlace, Blocks.BlockState, Blocks.blank}
 use Rattle.machine_steps.specs.ChainLeft.{unread_in, unread, front_at}
 use Rattle.machine_replay.proofs.Chain.{Codes.BlockIs, Codes.lies, Counted.InCall, Counted.StandsAt, DeedsAt.at_deed}
 use Rattle.machine_replay.proofs.Chain.Deeds.{Deed, Puts, Lays, Reads, deed_of, PutsAt, IsSlotOf, IsClaimed, DeedIs}
@@ -77,28 +77,28 @@ shows_item g n v p item unread low at =
     rw (unread, item) (ap (λ k. v ∷ drop k g.items) (let e : n + 1 - g.head ≡ suc (n - g.head) = omega arith in e) ∙ drop_one g.items (n - g.head) v at)
 
 -- each place of a block of the chain shows its item
-slot_shows : {A : Type 0} (g : Chain A) (calls : List (Option (Running A))) (b i : ℕ) (x : Block A) → ChainOk g → AllStand g calls → b < g.blocks → i < BLOCK_SLOTS → BlockIs g b x.places x.next
+slot_shows : {A : Type 0} (g : Chain A) (calls : List (Option (Running A))) (b i : ℕ) (x : BlockState A) → ChainOk g → AllStand g calls → b < g.blocks → i < BLOCK_SLOTS → BlockIs g b x.places x.next
     → Shows g (item_at b i) (get_or (all_done calls (g.names b) x).places i blank)
 slot_shows {A} g calls b i x ok each lt low is = go (g.writers n) (g.readers n) refl refl (ok.item n)
   where
     n : ℕ
     n = item_at b i
 
-    after : Block A
+    after : BlockState A
     after = all_done calls (g.names b) x
 
-    wide : (p : ℕ) (r : Running A) → get_or calls p None ≡ Some r → (y : Block A) → IsWide y → IsWide (done_to (deed_in r) (g.names b) y)
+    wide : (p : ℕ) (r : Running A) → get_or calls p None ≡ Some r → (y : BlockState A) → IsWide y → IsWide (done_to (deed_in r) (g.names b) y)
     wide p r e y w = wide_done (deed_in r) (g.names b) y w
 
     -- nobody puts anything else there, nobody reads it
-    item_stays : (v : Option A) → ((q : ℕ) (u : A) → g.writers (item_at b i) ≡ Writing q u → Some u ≡ v) → (p : ℕ) (r : Running A) → get_or calls p None ≡ Some r → (y : Block A) → IsWide y × HasItem i v y
+    item_stays : (v : Option A) → ((q : ℕ) (u : A) → g.writers (item_at b i) ≡ Writing q u → Some u ≡ v) → (p : ℕ) (r : Running A) → get_or calls p None ≡ Some r → (y : BlockState A) → IsWide y × HasItem i v y
         → IsWide (done_to (deed_in r) (g.names b) y) × HasItem i v (done_to (deed_in r) (g.names b) y)
     item_stays v same p r e y h = (
       wide p r e y h.0,
       item_kept (deed_in r) (g.names b) i v y low h.0 (λ z puts. let c = puts_claimed g p b i (deed_in r) z ok lt (deed_at g calls ok each p r e).claimed puts in c.2 ∙ same p c.0 c.1) h.1,
     )
 
-    unread_stays : (t : Bool) → ((q : ℕ) → g.readers (item_at b i) ≡ Reading q → t ≡ false) → (p : ℕ) (r : Running A) → get_or calls p None ≡ Some r → (y : Block A) → IsWide y × SaysUnread i t y
+    unread_stays : (t : Bool) → ((q : ℕ) → g.readers (item_at b i) ≡ Reading q → t ≡ false) → (p : ℕ) (r : Running A) → get_or calls p None ≡ Some r → (y : BlockState A) → IsWide y × SaysUnread i t y
         → IsWide (done_to (deed_in r) (g.names b) y) × SaysUnread i t (done_to (deed_in r) (g.names b) y)
     unread_stays t never p r e y h = (
       wide p r e y h.0,
@@ -164,7 +164,7 @@ places_show g (p ∷ ps) m all =
     ∙ (ap (λ k. unread_in p ++ (unread ps ++ drop k g.items)) (let e : m + length (p ∷ ps) - g.head ≡ m + 1 + length ps - g.head = omega arith in e) ∙ (ap (λ ys. unread_in p ++ ys) others ∙ here))
 
 -- the list from a block's first item on is what it shows, and the list from the next one's
-pub block_shows : {A : Type 0} (g : Chain A) (calls : List (Option (Running A))) (b : ℕ) (x : Block A) → ChainOk g → AllStand g calls → b < g.blocks → BlockIs g b x.places x.next
+pub block_shows : {A : Type 0} (g : Chain A) (calls : List (Option (Running A))) (b : ℕ) (x : BlockState A) → ChainOk g → AllStand g calls → b < g.blocks → BlockIs g b x.places x.next
     → unread (all_done calls (g.names b) x).places ++ drop ((b + 1) * BLOCK_SLOTS - g.head) g.items ≡ drop (b * BLOCK_SLOTS - g.head) g.items
 block_shows {A} g calls b x ok each lt is =
     let wide : IsWide (all_done calls (g.names b) x) = keeps_all calls (g.names b) IsWide (λ p r e y w. wide_done (deed_in r) (g.names b) y w) x is.wide in

@@ -8,7 +8,7 @@ use Rattle.machine_replay.proofs.{Engine.StandOf.running_of, Chain.Far.far_at, C
 use Rattle.queue_laws.specs.Chain.ChainAt.{At, push_tail, push_block, asking, installing, showing, claiming, spending, pop_head, pop_block, pop_tail, taking, count_tail, count_head, count_again, empty_head, empty_tail, closing, closed_tail}
 use prog.Atomic.{either}
 use Rattle.machine_replay.specs.Book.{Open}
-use Rattle.machine_memory.specs.SharedMemory.{Shared, word_at, put_word, put_at, touched, operated, granted_if, block_touched}
+use Rattle.machine_memory.specs.SharedMemory.{MemoryState, word_at, put_word, put_at, touched, operated, granted_if, block_touched}
 use Rattle.machine_steps.specs.Steps.{answer_to, step_of, running_after, next_after, carried_then, after_touch}
 
 -- a call that goes on has fewer steps before it
@@ -17,18 +17,18 @@ goes_on c (Next.Step l t o) v m x e falls = let same : record { local = l; touch
 goes_on c (Next.Reply y spare) v m x e falls = cc
 
 -- the words that a step leaves
-abbrev SameWords : {A : Type 0} → Shared A → Shared A → Type 0
+abbrev SameWords : {A : Type 0} → MemoryState A → MemoryState A → Type 0
 SameWords s t = (t.head ≡ s.head) × (t.tail ≡ s.tail)
 
-granted_words : {A : Type 0} (ok : Bool) (s : Shared A) → SameWords s (granted_if ok s)
+granted_words : {A : Type 0} (ok : Bool) (s : MemoryState A) → SameWords s (granted_if ok s)
 granted_words true s = (refl, refl)
 granted_words false s = (refl, refl)
 
-lost_tail : {A : Type 0} (b : Bool) (s : Shared A) (x : ℕ) (e : EffectKind) → (if b then Some e else None) ≡ None → SameWords s (put_word s Word.Tail (either b x s.tail))
+lost_tail : {A : Type 0} (b : Bool) (s : MemoryState A) (x : ℕ) (e : EffectKind) → (if b then Some e else None) ≡ None → SameWords s (put_word s Word.Tail (either b x s.tail))
 lost_tail true s x e none = cc
 lost_tail false s x e none = (refl, refl)
 
-lost_head : {A : Type 0} (b : Bool) (s : Shared A) (x : ℕ) (e : EffectKind) → (if b then Some e else None) ≡ None → SameWords s (put_word s Word.Head (either b x s.head))
+lost_head : {A : Type 0} (b : Bool) (s : MemoryState A) (x : ℕ) (e : EffectKind) → (if b then Some e else None) ≡ None → SameWords s (put_word s Word.Head (either b x s.head))
 lost_head true s x e none = cc
 lost_head false s x e none = (refl, refl)
 
@@ -40,7 +40,7 @@ pub not_empty : {X : Type 0} (x : X) (xs : List X) → x ∷ xs ≡ [] → ⊥
 not_empty x xs e = cc
 
 -- a step without effect of a call that has had none leaves the words
-pub words_stay : {A : Type 0} {c : Chain A} {who : ℕ} {ms : List (State A)} {k : Stand A} (ok : Bool) (s : Shared A) → At c who ms k → k.effects ≡ [] → s.tail ≡ tail_word c
+pub words_stay : {A : Type 0} {c : Chain A} {who : ℕ} {ms : List (State A)} {k : Stand A} (ok : Bool) (s : MemoryState A) → At c who ms k → k.effects ≡ [] → s.tail ≡ tail_word c
     → (step_of Kind.Unbounded ok s (running_of k)).effect ≡ None → SameWords s (step_of Kind.Unbounded ok s (running_of k)).shared
 words_stay ok s (push_tail d v spare none spare_is) e is quiet = (refl, refl)
 words_stay ok s (push_block d v spare q none spare_is saw) e is quiet = (refl, refl)
@@ -63,25 +63,25 @@ words_stay ok s (closed_tail none) e is quiet = (refl, refl)
 words_stay ok s _ e is quiet = absurd (not_empty _ _ e)
 
 -- the poppers go on seeing a block
-put_at_front : {A : Type 0} (s : Shared A) (b : Option ℕ) (i : ℕ) (v : Option A) → (put_at s b i v).head_block ≡ s.head_block
+put_at_front : {A : Type 0} (s : MemoryState A) (b : Option ℕ) (i : ℕ) (v : Option A) → (put_at s b i v).head_block ≡ s.head_block
 put_at_front s None i v = refl
 put_at_front s (Some b) i v = refl
 
-touched_front : {A : Type 0} (t : Touch) (b : Option ℕ) (s : Shared A) (v : Option A) → (touched t b s v).head_block ≡ s.head_block
+touched_front : {A : Type 0} (t : Touch) (b : Option ℕ) (s : MemoryState A) (v : Option A) → (touched t b s v).head_block ≡ s.head_block
 touched_front Touch.Nothing b s v = refl
 touched_front (Touch.Put i) b s v = put_at_front s b i v
 touched_front (Touch.Swap i) b s v = put_at_front s b i v
 touched_front (Touch.Take i) b s v = put_at_front s b i v
 
-put_word_front : {A : Type 0} (s : Shared A) (w : Word ℕ) (x : ℕ) → (put_word s w x).head_block ≡ s.head_block
+put_word_front : {A : Type 0} (s : MemoryState A) (w : Word ℕ) (x : ℕ) → (put_word s w x).head_block ≡ s.head_block
 put_word_front s Word.Lock x = refl
 put_word_front s w x = refl
 
-granted_front : {A : Type 0} (ok : Bool) (s : Shared A) → IsSome s.head_block → IsSome (granted_if ok s).head_block
+granted_front : {A : Type 0} (ok : Bool) (s : MemoryState A) → IsSome s.head_block → IsSome (granted_if ok s).head_block
 granted_front true s h = h
 granted_front false s h = h
 
-operated_front : {A : Type 0} (ok : Bool) (s : Shared A) (o : Op ℕ) → IsSome s.head_block → IsSome (operated ok s o).head_block
+operated_front : {A : Type 0} (ok : Bool) (s : MemoryState A) (o : Op ℕ) → IsSome s.head_block → IsSome (operated ok s o).head_block
 operated_front ok s (Op.Load w) h = h
 operated_front ok s (Op.LoadLink l) h = h
 operated_front ok s (Op.StoreLink Link.HeadBlock f) h = refl
@@ -91,11 +91,11 @@ operated_front ok s Op.Ask h = granted_front ok s h
 operated_front ok s o h = subst (λ b. IsSome b) (sym (put_word_front s (op_word o) (op_makes o (word_at s (op_word o))))) h
 
 module _ (A : Type 0) where
-  pub ready_on : (ok : Bool) (s : Shared A) (r : Running A) → IsSome s.head_block → IsSome (step_of Kind.Unbounded ok s r).shared.head_block
+  pub ready_on : (ok : Bool) (s : MemoryState A) (r : Running A) → IsSome s.head_block → IsSome (step_of Kind.Unbounded ok s r).shared.head_block
   ready_on ok s r h = operated_front ok (after_touch s r) r.op (subst (λ b. IsSome b) (sym (touched_front r.touch (block_touched r.op) s r.carried)) h)
 
   -- the step of a call, while no other party holds a part
-  pub own_falls : (busy : ℕ) (ok : Bool) (s : Shared A) (Q : State A) (g : Chain A) (p : ℕ) (x x' : Running A) (o : Open A) → IsSome s.head_block → ChainHolds s Q g → ChainFits busy s Q g p x o → IsQuiet g p
+  pub own_falls : (busy : ℕ) (ok : Bool) (s : MemoryState A) (Q : State A) (g : Chain A) (p : ℕ) (x x' : Running A) (o : Open A) → IsSome s.head_block → ChainHolds s Q g → ChainFits busy s Q g p x o → IsQuiet g p
       → (step_of Kind.Unbounded ok s x).call ≡ Some x'
       → far_at (step_of Kind.Unbounded ok s x).shared.tail (step_of Kind.Unbounded ok s x).shared.head x'.local - one_of_pop x'.local < far_at s.tail s.head x.local - one_of_pop x.local
   own_falls busy ok s Q g p x x' o ready holds f quiet goes =

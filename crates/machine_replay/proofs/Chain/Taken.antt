@@ -9,7 +9,7 @@ use Rattle.queue_laws.specs.Chain.ChainCells.{Reader, Unread, Reading, Done, Sho
 use Rattle.queue_laws.specs.Chain.ChainAt.{Only, Either, At, showing, laying, opening, chaining, writing, following, peeking, passing, entering, awaiting, reading, beginning, walking, destroying}
 use Rattle.queue_laws.proofs.Chain.{ChainEarly.early, ChainAnswers.head_offset, ChainRanks.rests_if, ChainRanksPop.wrote_then, ChainRanksPop.linked_then, ChainRanksWalk.last_claimed, ChainReads.own_item, ChainStep.is_chain}
 use Rattle.machine_replay.specs.{Book.Open, Progress.TakesReplyWithin}
-use Rattle.machine_memory.specs.SharedMemory.{Shared}
+use Rattle.machine_memory.specs.SharedMemory.{MemoryState}
 use Rattle.machine_steps.specs.Steps.{answer_to, step_of, running_after, next_after, carried_then}
 use Rattle.machine_replay.proofs.{Chain.Far.inner_low, Chain.Fits.ChainFits, Chain.Holding.ChainHolds, Chain.Laws.next_on, Chain.Stands.steps_stand, Chain.Stretch.chain_rules, Progress.Appended.HasAppend, Progress.Taken.HasTake, Progress.Taken.takes_reply}
 
@@ -171,7 +171,7 @@ goes_on : {A : Type 0} (n : Next ℕ) (v : Option A) (m : ℕ) (x : Running A) �
 goes_on (Next.Step l t o) v m x e near = let same : record { local = l; touch = t; op = o; carried = v } ≡ x = cc in subst (λ y. to_reply y.local < m) same near
 goes_on (Next.Reply y spare) v m x e near = cc
 
-own_falls : {A : Type 0} (busy : ℕ) (ok : Bool) (s : Shared A) (Q : State A) (g : Chain A) (p : ℕ) (x x' : Running A) (o : Open A) → ChainHolds s Q g → ChainFits busy s Q g p x o → HasTake o.effects → ((j : ℕ) → j ≢ p → Clear g j)
+own_falls : {A : Type 0} (busy : ℕ) (ok : Bool) (s : MemoryState A) (Q : State A) (g : Chain A) (p : ℕ) (x x' : Running A) (o : Open A) → ChainHolds s Q g → ChainFits busy s Q g p x o → HasTake o.effects → ((j : ℕ) → j ≢ p → Clear g j)
     → (step_of Kind.Unbounded ok s x).call ≡ Some x' → to_reply x'.local < to_reply x.local
 own_falls {A} busy ok s Q g p x x' o holds f had clear goes =
     let a = answer_to ok s x in

@@ -9,7 +9,7 @@ use Rattle.queue_laws.proofs.Chain.{ChainEarly.early, ChainAnswers.head_offset, 
 use Rattle.queue_laws.specs.Chain.ChainCells as cells
 use Rattle.queue_laws.specs.Chain.ChainCells.{Passing, Shown, Seen, Chain, ChainOk, Part, Write, Read, Tail, Head, First, Passed, owner}
 use Rattle.machine_steps.specs.{Left.opening_world, Steps.answer_to, Steps.running_after, Steps.next_after, Steps.carried_then, World.World, World.call_at}
-use Rattle.machine_memory.specs.SharedMemory.{Shared}
+use Rattle.machine_memory.specs.SharedMemory.{MemoryState}
 use Rattle.machine_replay.specs.{Book.Open, Played.told_of, Played.world_after, Progress.Standing, Progress.Between, Progress.stands_by, Progress.IsToShow, Waits.ChainCallsWait, Waits.IsBeside, Waits.GoesOn, Waits.IsToMoveTail, Waits.IsToMoveHead, Waits.IsToLink, Waits.IsToWrite}
 
 -- where a call stands that holds a part of the chain. Nobody waits for who reads an item or walks over a block
@@ -170,7 +170,7 @@ pub unseen_if : (x : Shown) (name : ℕ) → shown_of x name ≡ None → is_see
 unseen_if Seen name e = cc
 unseen_if x name e = refl
 
-module _ {A : Type 0} (parties : ℕ) (w : World (Shared A) (Running A)) (st : ℕ → Standing) (h : Here A Kind.Unbounded (chain_rules A) parties w st) where
+module _ {A : Type 0} (parties : ℕ) (w : World (MemoryState A) (Running A)) (st : ℕ → Standing) (h : Here A Kind.Unbounded (chain_rules A) parties w st) where
   -- the party that holds a part is in a call, and stands where it holds it
   pub holder : (x : Part) (who : ℕ) (r : Option (Running A)) (y : Option (Open A)) → Party A Kind.Unbounded (chain_rules A) parties h.b.busy w.shared h.b.queue h.sim.g who r y → owner h.sim.g x ≡ Some who
       → (s : Running A) × (r ≡ Some s) × HolderAt x s.local

@@ -5,7 +5,7 @@ use Rattle.queue_laws.proofs.Common.Tests.{and_true, is_none_true}
 use Rattle.queue_steps.specs.{State.State, Replies.IsRightAt}
 use Rattle.machine_replay.specs.Vocabulary.{Call, Reply, Effect, Event, Begin, Step, Skipped}
 use Rattle.machine_replay.specs.Book.{Book, Open, Moves, GoesOn, Stays, MayEnd, Steps, Happens, put, watched, joined, at_open, after_own, begun, has_steps}
-use Rattle.machine_steps.specs.World.{World, Made, Begun, call_at, can_begin, stepped, stepped_if, began, began_by, world_event}
+use Rattle.machine_steps.specs.World.{World, StepOutcome, Begun, call_at, can_begin, stepped, stepped_if, began, began_by, world_event}
 use Rattle.machine_memory.specs.Present.{present}
 use Rattle.machine_memory.proofs.Busy.{busy_set, one_if, one_busy}
 
@@ -16,7 +16,7 @@ and_false false = refl
 -- What a kind of queue, of capacity cap, proves of its steps. G is what its proof keeps, as who has the lock. `Holds` says
 -- how the shared part stands for the queue, `Idle` what is so of a party between calls, `Fits` what is so of a party in a
 -- call, by how many calls are in progress. `CanStep` is what the step's code owes.
-module _ (T S R G : Type 0) (cap : Option ℕ) (step : Bool → S → R → Made S R T) (start : Call T → Begun R T) (CanStep : Bool → S → R → Type 0)
+module _ (T S R G : Type 0) (cap : Option ℕ) (step : Bool → S → R → StepOutcome S R T) (start : Call T → Begun R T) (CanStep : Bool → S → R → Type 0)
     (Holds : S → State T → G → Type 0) (Idle : G → ℕ → Type 0) (Fits : ℕ → S → State T → G → ℕ → R → Open T → Type 0) where
   -- the call goes on and fits, or it replies and its party is idle
   abbrev pub NextFits : ℕ → S → State T → G → ℕ → Open T → Option R → Option (Reply T) → Type 0
@@ -25,7 +25,7 @@ module _ (T S R G : Type 0) (cap : Option ℕ) (step : Bool → S → R → Made
   NextFits busy s Q g p o _ _ = ⊥
 
   -- the step of party p leads to a state of the queue for which the shared part stands, is right, and leaves the others as they were
-  pub record StepsWell (busy : ℕ) (s : S) (Q : State T) (g : G) (p : ℕ) (o : Open T) (t : Made S R T) : Type 0 where
+  pub record StepsWell (busy : ℕ) (s : S) (Q : State T) (g : G) (p : ℕ) (o : Open T) (t : StepOutcome S R T) : Type 0 where
     pub after : State T
     pub kept : G
     pub effects : List (Effect T)
@@ -158,7 +158,7 @@ module _ (T S R G : Type 0) (cap : Option ℕ) (step : Bool → S → R → Made
         },
       )
     where
-      other_party : (parties : ℕ) (w : World S R) (b : Book T) (sim : Simulates parties w b) (p j : ℕ) (r : R) (o : Open T) (t : Made S R T) (well : StepsWell b.busy w.shared b.queue sim.g p o t) (busy' : ℕ)
+      other_party : (parties : ℕ) (w : World S R) (b : Book T) (sim : Simulates parties w b) (p j : ℕ) (r : R) (o : Open T) (t : StepOutcome S R T) (well : StepsWell b.busy w.shared b.queue sim.g p o t) (busy' : ℕ)
           → call_at w p ≡ Some r → j ≢ p → (x : Option R) → call_at w j ≡ x → (y : Option (Open T)) → Party b.busy w.shared b.queue sim.g j x y → Party busy' t.shared well.after well.kept j x (at_open (watched well.after) y)
       other_party parties w b sim p j r o t well busy' in_w ne None e None h = well.idle j ne h
       other_party parties w b sim p j r o t well busy' in_w ne (Some x) e (Some y) h =

@@ -2,7 +2,7 @@
 use Rattle.std.proofs.Common.{◌≡◌, ◌∙◌, ℕ, suc, ◌+◌, ◌-◌, ◌<◌, ◌≤◌, Option, None, List, [], ◌∷◌, ◌++◌, length, get_or, set, refl, sym, ap, arith, append_assoc, length-append}
 use Rattle.std.specs.Option.{option_to_list}
 use Rattle.queue_steps.specs.Words.{slot_at}
-use Rattle.machine_memory.specs.SharedMemory.{Shared}
+use Rattle.machine_memory.specs.SharedMemory.{MemoryState}
 use Rattle.machine_replay.specs.Vocabulary.{Kind, Running}
 use Rattle.machine_steps.specs.{Left.written_by, Left.all_written, Left.gathered, Left.left_of, Left.listed_in, World.World}
 
@@ -35,6 +35,6 @@ gathered-room n p end slots left all lt e =
     omega (arith, l, m, k)
 
 -- a machine with slots holds what they hold, once every call that is about to write has written
-pub left-slots : {T : Type 0} (k : Kind) (w : World (Shared T) (Running T)) → (k ≡ Kind.Unbounded → ⊥) → left_of k w ≡ listed_in k w.shared.lock w.shared.head w.shared.tail (all_written w.calls w.shared.slots)
+pub left-slots : {T : Type 0} (k : Kind) (w : World (MemoryState T) (Running T)) → (k ≡ Kind.Unbounded → ⊥) → left_of k w ≡ listed_in k w.shared.lock w.shared.head w.shared.tail (all_written w.calls w.shared.slots)
 left-slots Kind.Unbounded w never = absurd (never refl)
 left-slots k w never = refl

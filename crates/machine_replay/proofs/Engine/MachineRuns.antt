@@ -2,13 +2,13 @@
 use Rattle.std.proofs.Common.{◌≡◌, ◌∙◌, ℕ, ◌+◌, ◌≤◌, nat_lt, Bool, false, if◌then◌else◌, Option, Some, None, is_some, List, [], ◌∷◌, ◌++◌, length, refl, sym, ap, arith, append_assoc, append-nil}
 use Rattle.std.proofs.lemmas.Bool.{le-ltb}
 use Rattle.machine_replay.specs.{Vocabulary.Kind, Vocabulary.Event, Vocabulary.Told, Vocabulary.Peak, Vocabulary.Step, Vocabulary.Skipped, Vocabulary.Running, declared.machine_run.MachineRun.MachineRun, declared.machine_run.RunEnd.RunEnd, MachineRuns.Comes, MachineRuns.Continues, MachineRuns.EndsAs, MachineRuns.IsMachineRun, MachineRuns.KeepsRun, MachineRuns.IsSomeMachineRun, Peaks.opening_peak, Peaks.peaked, Replays.CanReplay, Replays.is_too_large}
-use Rattle.machine_memory.specs.{SharedMemory.Shared, Room.HasCount, Present.present}
+use Rattle.machine_memory.specs.{SharedMemory.MemoryState, Room.HasCount, Present.present}
 use Rattle.machine_steps.specs.{Left.HasSlot, Left.left_of, Left.opening_world, Machine.CanHandle, Machine.Handles, Machine.event_of, Machine.world_of, World.World, World.call_at}
 use Rattle.machine_replay.proofs.Engine.AllKinds.{KnownAfter, has_machine, has_slot, known-can, known-first, known-grows, known-more, known-peak, known-room}
 use Rattle.machine_replay.proofs.{Replays.Played.run-made, Engine.SoFar.so_far-left}
 
 -- a run goes on by one event
-Comes-more : {T : Type 0} (k : Kind) (w v last : World (Shared T) (Running T)) (p q top : Peak) (es : List (Event T)) (ts : List (Told T)) (e : Event T) (t : Told T)
+Comes-more : {T : Type 0} (k : Kind) (w v last : World (MemoryState T) (Running T)) (p q top : Peak) (es : List (Event T)) (ts : List (Told T)) (e : Event T) (t : Told T)
     → Comes k w p es ts v q → Handles k v e last t → top ≡ peaked last q → Comes k w p (es ++ e ∷ []) (ts ++ t ∷ []) last top
 Comes-more k w v last p q top [] [] e t comes handles is =
     let world = handles.world ∙ ap (λ z. (event_of k handles.ok z e).0) comes.0 in
@@ -19,7 +19,7 @@ Comes-more k w v last p q top (x ∷ es) (y ∷ ts) e t comes handles is =
 Comes-more k w v last p q top es ts e t comes handles is = absurd comes
 
 -- what is known of a run is known where it has come
-Comes-known : {T : Type 0} (k : Kind) (parties : ℕ) (w last : World (Shared T) (Running T)) (p top : Peak) (past es : List (Event T)) (told ts : List (Told T))
+Comes-known : {T : Type 0} (k : Kind) (parties : ℕ) (w last : World (MemoryState T) (Running T)) (p top : Peak) (past es : List (Event T)) (told ts : List (Told T))
     → KnownAfter k parties past told w p → Comes k w p es ts last top → KnownAfter k parties (past ++ es) (told ++ ts) last top
 Comes-known {T} k parties w last p top past [] told [] known comes =
     rw (append-nil past, append-nil told, comes.0, comes.1) known

@@ -2,7 +2,7 @@
 use Rattle.std.proofs.Common.{ℕ, ◌+◌, ◌/◌, ◌<◌, ◌≤◌, ◌≡◌, ◌∙◌, Bool, Option, Some, None, is_none, List, [], ◌∷◌, ◌++◌, length, refl, sym, ap, subst, arith, append_assoc, append-nil}
 use Rattle.std.proofs.lemmas.List.{length-replicate}
 use Rattle.machine_replay.specs.{Vocabulary.Kind, Vocabulary.BLOCK_SLOTS, Vocabulary.Event, Vocabulary.Told, Vocabulary.Peak, Vocabulary.Running, Book.Book, Book.Run, Book.Happens, Book.opening, Conforms.capacity_of, Conforms.party_of, Conforms.entries_from, Conforms.IsPeak, Conforms.HasNoBlocks, Conforms.share, Peaks.bound_of, Peaks.opening_peak, Peaks.peaked}
-use Rattle.machine_memory.specs.{SharedMemory.Shared, Present.present}
+use Rattle.machine_memory.specs.{SharedMemory.MemoryState, Present.present}
 use Rattle.machine_steps.specs.{Steps.CanStep, Steps.step_of, Steps.start_of, Left.left_of, Left.opening_world, Machine.event_of, World.World, World.call_at}
 use Rattle.machine_memory.proofs.Busy.{nobody_calls, none_are_busy}
 use Rattle.machine_replay.proofs.Engine.Events as engine
@@ -31,7 +31,7 @@ noted entry n p past told e t xs ys same number party before after =
     after ∙ ap (λ q. xs ++ entry n q t) party ∙ ap (λ l. l ++ entry n (party_of e) t) before ∙ sym (entries-more entry 0 n past told e t same (omega arith))
 
 -- what is known after these events
-pub record SoFar {T : Type 0} {k : Kind} (laws : KindLaws T k) (parties : ℕ) (past : List (Event T)) (told : List (Told T)) (w : World (Shared T) (Running T)) (peak : Peak) : Type 0 where
+pub record SoFar {T : Type 0} {k : Kind} (laws : KindLaws T k) (parties : ℕ) (past : List (Event T)) (told : List (Told T)) (w : World (MemoryState T) (Running T)) (peak : Peak) : Type 0 where
   pub book : Book T
   pub run : Run (capacity_of k) parties (opening (capacity_of k)) past told book
   pub simulates : SimulatesOf T k laws.G laws.Holds laws.Idle laws.Fits parties w book
@@ -61,24 +61,24 @@ so_far-first {T} {k} laws parties = record {
     none-first (Some n) = (refl, refl)
 
 -- the blocks of the machine, and the bound on them, are those of the book
-bound-share : {T : Type 0} {k : Kind} (laws : KindLaws T k) (parties : ℕ) (w : World (Shared T) (Running T)) (b : Book T) → SimulatesOf T k laws.G laws.Holds laws.Idle laws.Fits parties w b → 0 < present w.shared.blocks → bound_of w ≡ share b
+bound-share : {T : Type 0} {k : Kind} (laws : KindLaws T k) (parties : ℕ) (w : World (MemoryState T) (Running T)) (b : Book T) → SimulatesOf T k laws.G laws.Holds laws.Idle laws.Fits parties w b → 0 < present w.shared.blocks → bound_of w ≡ share b
 bound-share laws parties w b sim some =
     let items = (laws.counts parties w b sim).held_is some in
     ap (λ n. n / BLOCK_SLOTS + 2 + present w.calls) items ∙ ap (λ n. length b.queue.items / BLOCK_SLOTS + 2 + n) (sym sim.busy_is)
 
 -- with a capacity there is still no block
-none-more : {T : Type 0} (cap : Option ℕ) (w : World (Shared T) (Running T)) (p : Peak) → ((n : ℕ) → cap ≡ Some n → present w.shared.blocks ≡ 0) → HasNoBlocks cap p → HasNoBlocks cap (peaked w p)
+none-more : {T : Type 0} (cap : Option ℕ) (w : World (MemoryState T) (Running T)) (p : Peak) → ((n : ℕ) → cap ≡ Some n → present w.shared.blocks ≡ 0) → HasNoBlocks cap p → HasNoBlocks cap (peaked w p)
 none-more None w p none h = tt
 none-more (Some n) w p none h = rw (none n refl, h.0) (refl, h.1)
 
 -- after one event more
-pub so_far-more : {T : Type 0} {k : Kind} (laws : KindLaws T k) (parties : ℕ) (past : List (Event T)) (told : List (Told T)) (w : World (Shared T) (Running T)) (peak : Peak) (ok : Bool) (e : Event T)
+pub so_far-more : {T : Type 0} {k : Kind} (laws : KindLaws T k) (parties : ℕ) (past : List (Event T)) (told : List (Told T)) (w : World (MemoryState T) (Running T)) (peak : Peak) (ok : Bool) (e : Event T)
     → SoFar laws parties past told w peak
     → SoFar laws parties (past ++ e ∷ []) (told ++ (event_of k ok w e).1 ∷ []) (event_of k ok w e).0 (peaked (event_of k ok w e).0 peak)
 so_far-more {T} {k} laws parties past told w peak ok e s =
     let t = (event_of k ok w e).1 in
     let after = (event_of k ok w e).0 in
-    let next = engine.simulates_event T (Shared T) (Running T) laws.G (capacity_of k) (step_of k) (start_of k) (CanStep k) laws.Holds laws.Idle laws.Fits laws.laws parties w s.book s.simulates ok e in
+    let next = engine.simulates_event T (MemoryState T) (Running T) laws.G (capacity_of k) (step_of k) (start_of k) (CanStep k) laws.Holds laws.Idle laws.Fits laws.laws parties w s.book s.simulates ok e in
     let same = Run-length (capacity_of k) parties (opening (capacity_of k)) past told s.book s.run in
     let run = Run-more (capacity_of k) parties (opening (capacity_of k)) past told s.book e t next.0 s.run next.1 in
     let counts = laws.counts parties after next.0 next.2 in
@@ -92,34 +92,34 @@ so_far-more {T} {k} laws parties past told w peak ok e s =
     }
 
 -- the next step of a call in progress can be taken
-pub so_far-can : {T : Type 0} {k : Kind} (laws : KindLaws T k) (parties : ℕ) (past : List (Event T)) (told : List (Told T)) (w : World (Shared T) (Running T)) (peak : Peak)
+pub so_far-can : {T : Type 0} {k : Kind} (laws : KindLaws T k) (parties : ℕ) (past : List (Event T)) (told : List (Told T)) (w : World (MemoryState T) (Running T)) (peak : Peak)
     → SoFar laws parties past told w peak → (ok : Bool) (p : ℕ) (r : Running T) → call_at w p ≡ Some r → CanStep k ok w.shared r
 so_far-can {T} {k} laws parties past told w peak s ok p r in_call =
-    engine.can_take T (Shared T) (Running T) laws.G (capacity_of k) (step_of k) (start_of k) (CanStep k) laws.Holds laws.Idle laws.Fits laws.laws parties w s.book s.simulates ok p r in_call
+    engine.can_take T (MemoryState T) (Running T) laws.G (capacity_of k) (step_of k) (start_of k) (CanStep k) laws.Holds laws.Idle laws.Fits laws.laws parties w s.book s.simulates ok p r in_call
 
 -- what is left is no more than the events
-pub so_far-room : {T : Type 0} {k : Kind} (laws : KindLaws T k) (parties : ℕ) (past : List (Event T)) (told : List (Told T)) (w : World (Shared T) (Running T)) (peak : Peak)
+pub so_far-room : {T : Type 0} {k : Kind} (laws : KindLaws T k) (parties : ℕ) (past : List (Event T)) (told : List (Told T)) (w : World (MemoryState T) (Running T)) (peak : Peak)
     → SoFar laws parties past told w peak → length (left_of k w) ≤ length past
 so_far-room {T} {k} laws parties past told w peak s =
     let left = ap (λ l. length l) (laws.leaves parties w s.book s.simulates) in
     omega (arith, left, run-grows (capacity_of k) parties (opening (capacity_of k)) past told s.book s.run)
 
 -- and an event leaves one more at most
-pub so_far-grows : {T : Type 0} {k : Kind} (laws : KindLaws T k) (parties : ℕ) (past : List (Event T)) (told : List (Told T)) (w : World (Shared T) (Running T)) (peak : Peak) (ok : Bool) (e : Event T)
+pub so_far-grows : {T : Type 0} {k : Kind} (laws : KindLaws T k) (parties : ℕ) (past : List (Event T)) (told : List (Told T)) (w : World (MemoryState T) (Running T)) (peak : Peak) (ok : Bool) (e : Event T)
     → SoFar laws parties past told w peak → length (left_of k (event_of k ok w e).0) ≤ length (left_of k w) + 1
 so_far-grows {T} {k} laws parties past told w peak ok e s =
-    let next = engine.simulates_event T (Shared T) (Running T) laws.G (capacity_of k) (step_of k) (start_of k) (CanStep k) laws.Holds laws.Idle laws.Fits laws.laws parties w s.book s.simulates ok e in
+    let next = engine.simulates_event T (MemoryState T) (Running T) laws.G (capacity_of k) (step_of k) (start_of k) (CanStep k) laws.Holds laws.Idle laws.Fits laws.laws parties w s.book s.simulates ok e in
     let before = ap (λ l. length l) (laws.leaves parties w s.book s.simulates) in
     let after = ap (λ l. length l) (laws.leaves parties (event_of k ok w e).0 next.0 next.2) in
     omega (arith, before, after, happens-grows (capacity_of k) parties s.book e (event_of k ok w e).1 next.0 next.1)
 
 -- what is left is the list of the last book
-pub so_far-left : {T : Type 0} {k : Kind} (laws : KindLaws T k) (parties : ℕ) (past : List (Event T)) (told : List (Told T)) (w : World (Shared T) (Running T)) (peak : Peak)
+pub so_far-left : {T : Type 0} {k : Kind} (laws : KindLaws T k) (parties : ℕ) (past : List (Event T)) (told : List (Told T)) (w : World (MemoryState T) (Running T)) (peak : Peak)
     → (s : SoFar laws parties past told w peak) → left_of k w ≡ s.book.queue.items
 so_far-left laws parties past told w peak s = laws.leaves parties w s.book s.simulates
 
 -- a party is in a call of the book just where it is in one of the machine
-pub so_far-none : {T : Type 0} {k : Kind} (laws : KindLaws T k) (parties : ℕ) (past : List (Event T)) (told : List (Told T)) (w : World (Shared T) (Running T)) (peak : Peak)
+pub so_far-none : {T : Type 0} {k : Kind} (laws : KindLaws T k) (parties : ℕ) (past : List (Event T)) (told : List (Told T)) (w : World (MemoryState T) (Running T)) (peak : Peak)
     → (s : SoFar laws parties past told w peak) → (p : ℕ) → is_none (s.book.open_call p) ≡ is_none (call_at w p)
 so_far-none {T} {k} laws parties past told w peak s p =
-    engine.party_none T (Shared T) (Running T) laws.G (capacity_of k) (step_of k) (start_of k) (CanStep k) laws.Holds laws.Idle laws.Fits s.book.busy w.shared s.book.queue s.simulates.g p (call_at w p) (s.book.open_call p) (s.simulates.each p)
+    engine.party_none T (MemoryState T) (Running T) laws.G (capacity_of k) (step_of k) (start_of k) (CanStep k) laws.Holds laws.Idle laws.Fits s.book.busy w.shared s.book.queue s.simulates.g p (call_at w p) (s.book.open_call p) (s.simulates.each p)

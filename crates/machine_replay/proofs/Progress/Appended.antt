@@ -3,7 +3,7 @@ use Rattle.std.proofs.Common.{◌≡◌, ℕ, ◌<◌, ◌≤◌, Bool, true, fa
 use Rattle.queue_steps.specs.State.{State}
 use Rattle.machine_replay.specs.{Vocabulary.Effect, Vocabulary.Kind, Vocabulary.Local, Vocabulary.Event, Vocabulary.EffectKind, Vocabulary.Step, Vocabulary.Ran, Vocabulary.Running, Book.Open, Conforms.capacity_of, Played.told_of, Played.world_after, Within.is_step_of, Progress.Standing, Progress.Between, Progress.stands_by, Progress.stands_then, Progress.IsNotAnswered, Progress.AppendsReplyWithin}
 use Rattle.machine_steps.specs.{Left.opening_world, Machine.event_of, Steps.step_of, World.World, World.call_at}
-use Rattle.machine_memory.specs.SharedMemory.{Shared}
+use Rattle.machine_memory.specs.SharedMemory.{MemoryState}
 use Rattle.machine_replay.proofs.Progress.{Had.Had, Had.In, Had.in-next, Had.in-here, Had.nearer, Stretch.Rules, Stretch.Here, Stretch.next, Stretch.reach, Stretch.first, Stretch.call-there, Stretch.fits-at, Stretch.count-cons}
 
 abbrev pub is_append : EffectKind → Bool
@@ -18,11 +18,11 @@ HasAppend es = Had is_append es
 pub record Closes (T : Type 0) (k : Kind) (rules : Rules T k) : Type 1 where
   pub before : Local ℕ → ℕ
   pub most : ℕ
-  pub within : (busy : ℕ) (s : Shared T) (Q : State T) (g : rules.G) (p : ℕ) (r : Running T) (o : Open T) → rules.Fits busy s Q g p r o → HasAppend o.effects → (0 < before r.local) × (before r.local ≤ most)
-  pub falls : (busy : ℕ) (ok : Bool) (s : Shared T) (Q : State T) (g : rules.G) (p : ℕ) (r r' : Running T) (o : Open T) → rules.Fits busy s Q g p r o → HasAppend o.effects → (step_of k ok s r).call ≡ Some r' → before r'.local < before r.local
+  pub within : (busy : ℕ) (s : MemoryState T) (Q : State T) (g : rules.G) (p : ℕ) (r : Running T) (o : Open T) → rules.Fits busy s Q g p r o → HasAppend o.effects → (0 < before r.local) × (before r.local ≤ most)
+  pub falls : (busy : ℕ) (ok : Bool) (s : MemoryState T) (Q : State T) (g : rules.G) (p : ℕ) (r r' : Running T) (o : Open T) → rules.Fits busy s Q g p r o → HasAppend o.effects → (step_of k ok s r).call ≡ Some r' → before r'.local < before r.local
 
 module _ (T : Type 0) (k : Kind) (laws : Rules T k) (parties : ℕ) (closes : Closes T k laws) where
-  takes-few : (w : World (Shared T) (Running T)) (st : ℕ → Standing) (h : Here T k laws parties w st) (p : ℕ) (r : Running T) → call_at w p ≡ Some r → In is_append (h.b.open_call p)
+  takes-few : (w : World (MemoryState T) (Running T)) (st : ℕ → Standing) (h : Here T k laws parties w st) (p : ℕ) (r : Running T) → call_at w p ≡ Some r → In is_append (h.b.open_call p)
       → (es : List (Event T)) → IsNotAnswered p es (told_of k w es) → count_by (is_step_of p) es < closes.before r.local
   takes-few w st h p r is a [] open_ = (closes.within h.b.busy w.shared h.b.queue h.sim.g p r a.0 (fits-at T k laws parties w st h p r a.0 a.1 is) a.2).0
   takes-few w st h p r is a (e ∷ es) open_ =

@@ -2,11 +2,11 @@
 use Rattle.std.proofs.Common.{ℕ, ◌≡◌, ◌==◌, ◌∙◌, false, Some, sym, ap, subst}
 use Rattle.std.proofs.lemmas.Bool.{eqb-false}
 use Rattle.machine_replay.specs.{Vocabulary.Local, Vocabulary.Running, Waits.IsBeside}
-use Rattle.machine_memory.specs.SharedMemory.{Shared}
+use Rattle.machine_memory.specs.SharedMemory.{MemoryState}
 use Rattle.machine_steps.specs.World.{World, call_at}
 
 -- a party at such a step is another one where this party's call is at none
-pub beside : {T : Type 0} (w : World (Shared T) (Running T)) (p q : ℕ) (r s : Running T) (Such : Local ℕ → Type 0) → call_at w p ≡ Some r → call_at w q ≡ Some s → Such s.local → (Such r.local → ⊥) → IsBeside w p Such
+pub beside : {T : Type 0} (w : World (MemoryState T) (Running T)) (p q : ℕ) (r s : Running T) (Such : Local ℕ → Type 0) → call_at w p ≡ Some r → call_at w q ≡ Some s → Such s.local → (Such r.local → ⊥) → IsBeside w p Such
 beside {T} w p q r s Such is there such never =
     (q, λ at. let same : s ≡ r = (let e : Some s ≡ Some r = sym there ∙ (ap (λ i. call_at w i) at ∙ is) in cc) in never (subst (λ z. Such z.local) same such), (s, there, such))
 

@@ -7,7 +7,7 @@ use Rattle.machine_replay.specs.Vocabulary.{Reply, Effect, Kind, Local, Event, T
 use Rattle.machine_replay.specs.Book.{Book, Open, Happens, Steps, Moves, kind_of, at_open, put, joined, watched, begun, after_own}
 use Rattle.machine_replay.specs.{Conforms.capacity_of, Conforms.party_of, Progress.reply_told, Within.is_step_of}
 use Rattle.machine_steps.specs.{Machine.event_of, Steps.CanStep, Steps.step_of, Steps.start_of, World.World, World.call_at}
-use Rattle.machine_memory.specs.SharedMemory.{Shared}
+use Rattle.machine_memory.specs.SharedMemory.{MemoryState}
 use Rattle.machine_replay.proofs.Engine.Events as engine
 use Rattle.machine_replay.proofs.Progress.{Solo.and-right, Solo.put-same, Solo.put-other, Stretch.Rules, Stretch.other-stays, Stretch.begin-stays, Stretch.own-step}
 
@@ -81,7 +81,7 @@ in-here such cap parties b c p granted x is t told h = cc
 
 -- an event brings a call nearer to its reply where it is its own step, and else leaves it as far
 module _ (T : Type 0) (k : Kind) (laws : Rules T k) (parties : ℕ) (before : Local ℕ → ℕ) where
-  pub nearer : (w : World (Shared T) (Running T)) (p : ℕ) (r r' : Running T) (e : Event T) → call_at w p ≡ Some r → call_at (event_of k true w e).0 p ≡ Some r'
+  pub nearer : (w : World (MemoryState T) (Running T)) (p : ℕ) (r r' : Running T) (e : Event T) → call_at w p ≡ Some r → call_at (event_of k true w e).0 p ≡ Some r'
       → ((ok : Bool) → (step_of k ok w.shared r).call ≡ Some r' → before r'.local < before r.local) → cond (is_step_of p e) 1 0 + before r'.local ≤ before r.local
   nearer w p r r' (Begin q c) is is' falls =
       let stays : call_at (event_of k true w (Begin q c)).0 p ≡ call_at w p = elim (eqb_tells q p) [
@@ -94,7 +94,7 @@ module _ (T : Type 0) (k : Kind) (laws : Rules T k) (parties : ℕ) (before : Lo
   nearer w p r r' (Step q g) is is' falls = elim (eqb_tells q p) [
     | inl t ↦
         let there' : call_at (event_of k true w (Step p g)).0 p ≡ Some r' = subst (λ i. call_at (event_of k true w (Step i g)).0 p ≡ Some r') t.1 is' in
-        let lt : p < length w.calls = ltb-true p (length w.calls) (engine.within T (Shared T) (Running T) laws.G (capacity_of k) (step_of k) (start_of k) (CanStep k) laws.Holds laws.Idle laws.Fits w p r is) in
+        let lt : p < length w.calls = ltb-true p (length w.calls) (engine.within T (MemoryState T) (Running T) laws.G (capacity_of k) (step_of k) (start_of k) (CanStep k) laws.Holds laws.Idle laws.Fits w p r is) in
         let made = step_of k (g && true) w.shared r in
         let there : made.call ≡ Some r' = sym (get_or-set_same w.calls p made.call None lt) ∙ (sym (ap (λ z. call_at z p) (own-step T k laws parties w p g r is)) ∙ there') in
         let less = falls (g && true) there in

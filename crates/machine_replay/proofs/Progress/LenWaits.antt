@@ -9,7 +9,7 @@ use Rattle.machine_replay.proofs.{Engine.StandOf.running_of, Progress.Beside.sam
 use Rattle.queue_laws.specs.Ring.RingAt as ring
 use Rattle.queue_laws.specs.Chain.ChainAt as links
 use Rattle.machine_steps.specs.{Left.opening_world, Machine.event_of, Steps.step_of, Steps.running_after, World.World, World.call_at}
-use Rattle.machine_memory.specs.SharedMemory.{Shared}
+use Rattle.machine_memory.specs.SharedMemory.{MemoryState}
 use Rattle.machine_replay.proofs.Progress.Stretch.{Rules, Here, next, reach, first, call-there, open-there, party-open, count-cons}
 
 -- how many steps more are before a call that has read another tail
@@ -62,13 +62,13 @@ is_of_len t _ low = absurd (omega (arith, low))
 
 -- what a kind of queue owes: a step of `len` brings it nearer to its reply, where it leaves the tail
 abbrev Looks : (T : Type 0) (k : Kind) → Rules T k → Type 0
-Looks T k rules = (busy : ℕ) (ok : Bool) (s : Shared T) (Q : State T) (g : rules.G) (p : ℕ) (r x : Running T) (o : Open T) → rules.Fits busy s Q g p r o → IsOfLen r.local → (step_of k ok s r).call ≡ Some x → before s.tail x.local < before s.tail r.local
+Looks T k rules = (busy : ℕ) (ok : Bool) (s : MemoryState T) (Q : State T) (g : rules.G) (p : ℕ) (r x : Running T) (o : Open T) → rules.Fits busy s Q g p r o → IsOfLen r.local → (step_of k ok s r).call ≡ Some x → before s.tail x.local < before s.tail r.local
 
 module _ (T : Type 0) (k : Kind) (laws : Rules T k) (parties : ℕ) (looks : Looks T k laws) where
   in_a_call : (z : Standing) (y : Option (Open T)) (o : Open T) → Agrees z y → y ≡ Some o → z ≢ Between
   in_a_call z y o a e between = let none : y ≡ None = subst (λ z. Agrees z y) between a in cc
 
-  takes-few : (w : World (Shared T) (Running T)) (st : ℕ → Standing) (h : Here T k laws parties w st) (p : ℕ) (r : Running T) (tail : ℕ) → call_at w p ≡ Some r → IsOfLen r.local → w.shared.tail ≡ tail
+  takes-few : (w : World (MemoryState T) (Running T)) (st : ℕ → Standing) (h : Here T k laws parties w st) (p : ℕ) (r : Running T) (tail : ℕ) → call_at w p ≡ Some r → IsOfLen r.local → w.shared.tail ≡ tail
       → (es : List (Event T)) → IsTailKept k w es → IsNotAnswered p es (told_of k w es) → count_by (is_step_of p) es < before tail r.local
   takes-few w st h p r tail is len at_tail [] kept open_ = (within tail r.local len).0
   takes-few w st h p r tail is len at_tail (e ∷ es) kept open_ =
@@ -96,7 +96,7 @@ module _ (T : Type 0) (k : Kind) (laws : Rules T k) (parties : ℕ) (looks : Loo
       omega (arith, count, low)
 
 -- on one slot it is one look
-slot_looks : {T : Type 0} {c : Stand T} {own : SlotHolder T} (ok : Bool) (s : Shared T) (x : Running T) → slot.At c own → IsOfLen c.local
+slot_looks : {T : Type 0} {c : Stand T} {own : SlotHolder T} (ok : Bool) (s : MemoryState T) (x : Running T) → slot.At c own → IsOfLen c.local
     → (step_of Kind.Single ok s (running_of c)).call ≡ Some x → before s.tail x.local < before s.tail c.local
 slot_looks ok s x (slot.look_at l) is goes = cc
 slot_looks ok s x y is goes = absurd is
@@ -108,7 +108,7 @@ again now read m l v x ends begins goes = elim (eqb_tells now read) [
   | inr t ↦ let three = begins (rw t.0 at goes) in let more = late_other now read t.0 in omega (arith, three, more)
 ]
 
-ring_looks : {A : Type 0} {cap : ℕ} {r : Ring A} {who : ℕ} {ms : List (State A)} {was : Bool} {c : Stand A} (ok : Bool) (s : Shared A) (x : Running A) → ring.At cap r who ms was c → IsOfLen c.local
+ring_looks : {A : Type 0} {cap : ℕ} {r : Ring A} {who : ℕ} {ms : List (State A)} {was : Bool} {c : Stand A} (ok : Bool) (s : MemoryState A) (x : Running A) → ring.At cap r who ms was c → IsOfLen c.local
     → (step_of (Kind.Bounded cap) ok s (running_of c)).call ≡ Some x → before s.tail x.local < before s.tail c.local
 unfolding before
 ring_looks ok s x (ring.count_tail l count none) is goes = let same = same_call x goes in let z = late_same s.tail in subst (λ y. before s.tail y.local < 3) same (omega (arith, z))
@@ -116,7 +116,7 @@ ring_looks ok s x (ring.count_head l t count none low) is goes = let same = same
 ring_looks ok s x (ring.count_again l t h count none seen) is goes = again s.tail t _ _ _ x (λ e. cc) (λ e. ap (λ y. before s.tail y.local) (sym (same_call x e))) goes
 ring_looks ok s x _ is goes = absurd is
 
-chain_looks : {A : Type 0} {c : Chain A} {who : ℕ} {ms : List (State A)} {k : Stand A} (ok : Bool) (s : Shared A) (x : Running A) → links.At c who ms k → IsOfLen k.local
+chain_looks : {A : Type 0} {c : Chain A} {who : ℕ} {ms : List (State A)} {k : Stand A} (ok : Bool) (s : MemoryState A) (x : Running A) → links.At c who ms k → IsOfLen k.local
     → (step_of Kind.Unbounded ok s (running_of k)).call ≡ Some x → before s.tail x.local < before s.tail k.local
 unfolding before
 chain_looks ok s x (links.count_tail l count none) is goes = let same = same_call x goes in let z = late_same s.tail in subst (λ y. before s.tail y.local < 3) same (omega (arith, z))

@@ -7,7 +7,7 @@ use Rattle.machine_replay.specs.Vocabulary.{Reply, Effect, Kind, Local, Event, T
 use Rattle.machine_replay.specs.Book.{Book, Open, Happens, Steps, Moves, at_open, put, joined, watched, begun, after_own}
 use Rattle.machine_replay.specs.{Conforms.capacity_of, Conforms.party_of, Played.told_of, Played.world_after, Within.is_step_of}
 use Rattle.machine_steps.specs.{Left.opening_world, Machine.event_of, Steps.CanStep, Steps.step_of, Steps.start_of, World.World, World.call_at}
-use Rattle.machine_memory.specs.SharedMemory.{Shared}
+use Rattle.machine_memory.specs.SharedMemory.{MemoryState}
 use Rattle.machine_replay.proofs.Engine.Events as engine
 use Rattle.machine_replay.proofs.Progress.{Solo.and-right, Solo.put-same, Solo.put-other, Appended.is_append, Appended.HasAppend, Had.Had, Had.In, Had.less, Had.in-next, Had.in-here, Had.nearer, Stretch.Rules, Stretch.Here, Stretch.next, Stretch.first, Stretch.call-there, Stretch.fits-at, Stretch.count-cons}
 use Rattle.machine_replay.specs.Progress.{Standing, Between, effect_told, stands_by, stands_then, writes_after, writes_then, writes_by, IsNotHeldUp, TakesReplyWithin}
@@ -114,21 +114,21 @@ pub record Reads (T : Type 0) (k : Kind) (rules : Rules T k) : Type 1 where
   pub most : ℕ
   pub Clear : rules.G → ℕ → Type 0
   pub Ready : rules.G → Type 0
-  pub within : (busy : ℕ) (s : Shared T) (Q : State T) (g : rules.G) (p : ℕ) (r : Running T) (o : Open T) → rules.Holds s Q g → rules.Fits busy s Q g p r o → HasTake o.effects → (0 < before r.local) × (before r.local ≤ most)
-  pub ready : (busy : ℕ) (s : Shared T) (Q : State T) (g : rules.G) (p : ℕ) (r : Running T) (o : Open T) → rules.Holds s Q g → rules.Fits busy s Q g p r o → HasTake o.effects → Ready g
+  pub within : (busy : ℕ) (s : MemoryState T) (Q : State T) (g : rules.G) (p : ℕ) (r : Running T) (o : Open T) → rules.Holds s Q g → rules.Fits busy s Q g p r o → HasTake o.effects → (0 < before r.local) × (before r.local ≤ most)
+  pub ready : (busy : ℕ) (s : MemoryState T) (Q : State T) (g : rules.G) (p : ℕ) (r : Running T) (o : Open T) → rules.Holds s Q g → rules.Fits busy s Q g p r o → HasTake o.effects → Ready g
   pub rests : (g : rules.G) (q : ℕ) → rules.Idle g q → Clear g q
-  pub clears : (busy : ℕ) (s : Shared T) (Q : State T) (g : rules.G) (q : ℕ) (r : Running T) (o : Open T) → Ready g → rules.Fits busy s Q g q r o → (HasAppend o.effects → ⊥) → Clear g q
-  pub falls : (busy : ℕ) (ok : Bool) (s : Shared T) (Q : State T) (g : rules.G) (p : ℕ) (r r' : Running T) (o : Open T) → rules.Holds s Q g → rules.Fits busy s Q g p r o → HasTake o.effects → ((j : ℕ) → j ≢ p → Clear g j)
+  pub clears : (busy : ℕ) (s : MemoryState T) (Q : State T) (g : rules.G) (q : ℕ) (r : Running T) (o : Open T) → Ready g → rules.Fits busy s Q g q r o → (HasAppend o.effects → ⊥) → Clear g q
+  pub falls : (busy : ℕ) (ok : Bool) (s : MemoryState T) (Q : State T) (g : rules.G) (p : ℕ) (r r' : Running T) (o : Open T) → rules.Holds s Q g → rules.Fits busy s Q g p r o → HasTake o.effects → ((j : ℕ) → j ≢ p → Clear g j)
       → (step_of k ok s r).call ≡ Some r' → before r'.local < before r.local
 
 module _ (T : Type 0) (k : Kind) (laws : Rules T k) (parties : ℕ) (reads : Reads T k laws) where
-  clear-if : (busy : ℕ) (s : Shared T) (Q : State T) (g : laws.G) (j : ℕ) (x : Option (Running T)) (y : Option (Open T)) → reads.Ready g
-      → engine.Party T (Shared T) (Running T) laws.G (capacity_of k) (step_of k) (start_of k) (CanStep k) laws.Holds laws.Idle laws.Fits busy s Q g j x y → MayWrite false y → reads.Clear g j
+  clear-if : (busy : ℕ) (s : MemoryState T) (Q : State T) (g : laws.G) (j : ℕ) (x : Option (Running T)) (y : Option (Open T)) → reads.Ready g
+      → engine.Party T (MemoryState T) (Running T) laws.G (capacity_of k) (step_of k) (start_of k) (CanStep k) laws.Holds laws.Idle laws.Fits busy s Q g j x y → MayWrite false y → reads.Clear g j
   clear-if busy s Q g j None None ready h m = reads.rests g j h
   clear-if busy s Q g j (Some r) (Some o) ready h m = reads.clears busy s Q g j r o ready h (m o refl)
   clear-if busy s Q g j x y ready h m = absurd h
 
-  takes-few : (w : World (Shared T) (Running T)) (st : ℕ → Standing) (wr : ℕ → Bool) (h : Here T k laws parties w st) → ((q : ℕ) → MayWrite (wr q) (h.b.open_call q)) → (p : ℕ) (r : Running T) → call_at w p ≡ Some r → In is_take (h.b.open_call p)
+  takes-few : (w : World (MemoryState T) (Running T)) (st : ℕ → Standing) (wr : ℕ → Bool) (h : Here T k laws parties w st) → ((q : ℕ) → MayWrite (wr q) (h.b.open_call q)) → (p : ℕ) (r : Running T) → call_at w p ≡ Some r → In is_take (h.b.open_call p)
       → ((q : ℕ) → q ≢ p → wr q ≡ false) → (es : List (Event T)) → IsNotHeldUp p es (told_of k w es) → count_by (is_step_of p) es < reads.before r.local
   takes-few w st wr h may p r is a idle [] open_ = (reads.within h.b.busy w.shared h.b.queue h.sim.g p r a.0 h.sim.holds (fits-at T k laws parties w st h p r a.0 a.1 is) a.2).0
   takes-few w st wr h may p r is a idle (e ∷ es) open_ =
@@ -146,7 +146,7 @@ module _ (T : Type 0) (k : Kind) (laws : Rules T k) (parties : ℕ) (reads : Rea
       omega (arith, rest, step, count-cons p e es)
 
   -- and who writes, from the beginning on
-  reach-may : (w : World (Shared T) (Running T)) (st : ℕ → Standing) (wr : ℕ → Bool) (es : List (Event T)) (h : Here T k laws parties w st) → ((q : ℕ) → MayWrite (wr q) (h.b.open_call q))
+  reach-may : (w : World (MemoryState T) (Running T)) (st : ℕ → Standing) (wr : ℕ → Bool) (es : List (Event T)) (h : Here T k laws parties w st) → ((q : ℕ) → MayWrite (wr q) (h.b.open_call q))
       → (h' : Here T k laws parties (world_after k w es) (λ q. stands_by q (st q) es (told_of k w es))) × ((q : ℕ) → MayWrite (writes_by q (wr q) es (told_of k w es)) (h'.b.open_call q))
   reach-may w st wr [] h may = (h, may)
   reach-may w st wr (e ∷ es) h may =

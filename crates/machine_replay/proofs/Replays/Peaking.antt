@@ -3,7 +3,7 @@ use Rattle.std.proofs.Common.{◌≡◌, ◌∙◌, ◌⊎◌, inl, inr, ℕ, �
 use Rattle.std.proofs.lemmas.{List.length_push, Bool.ltb-true, Bool.ltb-false, Bool.le-ltb}
 use Rattle.queue_steps.specs.Sequential.{blocks_of}
 use Rattle.machine_replay.specs.{Vocabulary.Event, Vocabulary.Told, Vocabulary.Peak, Vocabulary.Running, Book.Book, Book.Run, Book.opening, Conforms.ComesBy, Conforms.IsPeak, Conforms.share, Peaks.bound_of, Peaks.opening_peak, Peaks.peaked}
-use Rattle.machine_memory.specs.{Present.present, SharedMemory.Shared}
+use Rattle.machine_memory.specs.{Present.present, SharedMemory.MemoryState}
 use Rattle.machine_steps.specs.World.{World}
 use Rattle.machine_replay.proofs.Replays.Counting.{same-accepted, same-blocks}
 use Rattle.machine_memory.proofs.Presence.{Sparing}
@@ -101,7 +101,7 @@ peak-first {T} cap parties = record {
         go (x ∷ xs) ts e run = cc
 
 -- after one event more, which leads to the machine w and the book c
-pub peak-more : {T : Type 0} (cap : Option ℕ) (parties : ℕ) (es : List (Event T)) (ts : List (Told T)) (e : Event T) (t : Told T) (w : World (Shared T) (Running T)) (c : Book T) (p : Peak)
+pub peak-more : {T : Type 0} (cap : Option ℕ) (parties : ℕ) (es : List (Event T)) (ts : List (Told T)) (e : Event T) (t : Told T) (w : World (MemoryState T) (Running T)) (c : Book T) (p : Peak)
     → length es ≡ length ts → Run cap parties (opening cap) (es ++ e ∷ []) (ts ++ t ∷ []) c → IsPeak cap parties es ts p
     → present w.shared.blocks ≤ share c → (0 < present w.shared.blocks → bound_of w ≡ share c) → (0 < c.queue.accepted → blocks_of c.queue ≤ present w.shared.blocks)
     → IsPeak cap parties (es ++ e ∷ []) (ts ++ t ∷ []) (peaked w p)
@@ -129,7 +129,7 @@ peak-more cap parties es ts e t w c p as_long run peak within bound spans =
     ] refl
 
 -- there are no more blocks than the peak has
-pub peaked-covers : {T : Type 0} (w : World (Shared T) (Running T)) (p : Peak) → present w.shared.blocks ≤ (peaked w p).blocks
+pub peaked-covers : {T : Type 0} (w : World (MemoryState T) (Running T)) (p : Peak) → present w.shared.blocks ≤ (peaked w p).blocks
 peaked-covers w p =
     elim (nat_lt p.blocks (present w.shared.blocks)) as (λ b. nat_lt p.blocks (present w.shared.blocks) ≡ b → present w.shared.blocks ≤ (if b then record { blocks = present w.shared.blocks; bound = bound_of w } else p).blocks) [
       | true ↦ λ is. omega arith
@@ -137,7 +137,7 @@ peaked-covers w p =
     ] refl
 
 -- where no number was given out, the peak stays
-pub peaked-if : {T : Type 0} (w w' : World (Shared T) (Running T)) (p : Peak) (n n' : ℕ) → n ≡ length w.shared.blocks → n' ≡ length w'.shared.blocks → Sparing w.shared.blocks w'.shared.blocks → present w.shared.blocks ≤ p.blocks
+pub peaked-if : {T : Type 0} (w w' : World (MemoryState T) (Running T)) (p : Peak) (n n' : ℕ) → n ≡ length w.shared.blocks → n' ≡ length w'.shared.blocks → Sparing w.shared.blocks w'.shared.blocks → present w.shared.blocks ≤ p.blocks
     → (if nat_lt n n' then peaked w' p else p) ≡ peaked w' p
 peaked-if w w' p n n' en en' spares covers =
     elim (nat_lt n n') as (λ b. nat_lt n n' ≡ b → (if b then peaked w' p else p) ≡ peaked w' p) [

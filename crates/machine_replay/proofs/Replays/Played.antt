@@ -4,26 +4,26 @@ use Rattle.queue_steps.specs.{RingNext.FitsRing, Next.CanNext, Next.next_of, dec
 use Rattle.machine_replay.specs.Vocabulary.{Kind, Op, Answer, Local, PushKind, RingLocal, Event, Told, EffectKind, Peak, Begin, Step, Ran, Running}
 use Rattle.machine_replay.specs.{declared.machine_run.MachineRun.MachineRun, MachineRuns.Comes, MachineRuns.IsMachineRun, Peaks.opening_peak, Peaks.peak_after, Peaks.peaked, Played.as_told, Played.asks, Played.event_told, Played.is_request, Played.lacks_memory, Played.told_of, Played.world_after}
 use Rattle.machine_steps.specs.{Left.opening_world, Machine.CanHandle, Machine.event_of, Machine.world_of, Steps.CanReply, Steps.CanStep, Steps.after_touch, Steps.answer_to, Steps.carried_then, Steps.reply_after, Steps.step_of, World.World, World.call_at, World.stepped, World.stepped_if}
-use Rattle.machine_memory.specs.SharedMemory.{Shared, answered, asked, operated}
+use Rattle.machine_memory.specs.SharedMemory.{MemoryState, answered, asked, operated}
 use Rattle.machine_replay.proofs.Engine.AllKinds.{KnownAfter, has_machine, known-can, known-first, known-more}
 
 -- only a request looks at what the allocator grants
-answered-plain : {T : Type 0} (o : Op ℕ) (a b : Bool) (s : Shared T) → is_request o ≡ false → answered a s o ≡ answered b s o
+answered-plain : {T : Type 0} (o : Op ℕ) (a b : Bool) (s : MemoryState T) → is_request o ≡ false → answered a s o ≡ answered b s o
 answered-plain Op.Ask a b s e = cc
 answered-plain o a b s e = refl
 
-operated-plain : {T : Type 0} (o : Op ℕ) (a b : Bool) (s : Shared T) → is_request o ≡ false → operated a s o ≡ operated b s o
+operated-plain : {T : Type 0} (o : Op ℕ) (a b : Bool) (s : MemoryState T) → is_request o ≡ false → operated a s o ≡ operated b s o
 operated-plain Op.Ask a b s e = cc
 operated-plain o a b s e = refl
 
-step-plain : {T : Type 0} (k : Kind) (a b : Bool) (s : Shared T) (r : Running T) → is_request r.op ≡ false → step_of k a s r ≡ step_of k b s r
+step-plain : {T : Type 0} (k : Kind) (a b : Bool) (s : MemoryState T) (r : Running T) → is_request r.op ≡ false → step_of k a s r ≡ step_of k b s r
 step-plain k a b s r e = rw (answered-plain r.op a b (after_touch s r) e, operated-plain r.op a b (after_touch s r) e) refl
 
-stepped-plain : {T : Type 0} (k : Kind) (w : World (Shared T) (Running T)) (a b : Bool) (p : ℕ) (o : Option (Running T)) → asks o ≡ false → stepped_if (step_of k) w a p o ≡ stepped_if (step_of k) w b p o
+stepped-plain : {T : Type 0} (k : Kind) (w : World (MemoryState T) (Running T)) (a b : Bool) (p : ℕ) (o : Option (Running T)) → asks o ≡ false → stepped_if (step_of k) w a p o ≡ stepped_if (step_of k) w b p o
 stepped-plain k w a b p None e = refl
 stepped-plain k w a b p (Some r) e = ap (λ made. stepped w p made) (step-plain k a b w.shared r e)
 
-pub event-plain : {T : Type 0} (k : Kind) (w : World (Shared T) (Running T)) (p : ℕ) (granted : Bool) → asks (call_at w p) ≡ false → event_of k true w (Step p granted) ≡ event_of k true w (Step p true)
+pub event-plain : {T : Type 0} (k : Kind) (w : World (MemoryState T) (Running T)) (p : ℕ) (granted : Bool) → asks (call_at w p) ≡ false → event_of k true w (Step p granted) ≡ event_of k true w (Step p true)
 event-plain k w p granted e = stepped-plain k w (granted && true) true p (call_at w p) e
 
 -- a request is the operation of one place alone
@@ -58,7 +58,7 @@ refused_told Kind.Single (Local.Begin c) v e can replies = absurd can
 refused_told _ _ v e can replies = absurd can
 
 -- so the step of a request tells whether it was granted
-request_told : {T : Type 0} (k : Kind) (ok : Bool) (s : Shared T) (r : Running T) → is_request r.op ≡ true → CanStep k ok s r → lacks_memory (Ran (step_of k ok s r).effect (step_of k ok s r).reply) ≡ not ok
+request_told : {T : Type 0} (k : Kind) (ok : Bool) (s : MemoryState T) (r : Running T) → is_request r.op ≡ true → CanStep k ok s r → lacks_memory (Ran (step_of k ok s r).effect (step_of k ok s r).reply) ≡ not ok
 request_told {T} k ok s r is can = by_answer ok (ap (λ o. answered ok (after_touch s r) o) (is_ask r.op is)) can.goes_on can.replies
   where
     Goal : Bool → Answer ℕ → Type 0
@@ -76,7 +76,7 @@ as_granted false ok lacks e = refl
 as_granted true true lacks e = rw e refl
 as_granted true false lacks e = rw e refl
 
-stepped-told : {T : Type 0} (k : Kind) (w : World (Shared T) (Running T)) (ok granted : Bool) (p : ℕ) (o : Option (Running T)) → ((r : Running T) → o ≡ Some r → CanStep k (granted && ok) w.shared r)
+stepped-told : {T : Type 0} (k : Kind) (w : World (MemoryState T) (Running T)) (ok granted : Bool) (p : ℕ) (o : Option (Running T)) → ((r : Running T) → o ≡ Some r → CanStep k (granted && ok) w.shared r)
     → stepped_if (step_of k) w ((granted && not (lacks_memory (stepped_if (step_of k) w (granted && ok) p o).1)) && true) p o ≡ stepped_if (step_of k) w (granted && ok) p o
 stepped-told k w ok granted p None can = refl
 stepped-told {T} k w ok granted p (Some r) can = by_op (is_request r.op) refl
@@ -89,17 +89,17 @@ stepped-told {T} k w ok granted p (Some r) can = by_op (is_request r.op) refl
     by_op true is = ap (λ b. stepped w p (step_of k b w.shared r)) (as_granted granted ok lacks (request_told k (granted && ok) w.shared r is (can r refl)))
 
 -- what an event makes is what it makes as it took place, with all else granted
-event-told : {T : Type 0} (k : Kind) (w : World (Shared T) (Running T)) (ok : Bool) (e : Event T) → CanHandle k w e → event_of k true w (event_told e (event_of k ok w e).1) ≡ event_of k ok w e
+event-told : {T : Type 0} (k : Kind) (w : World (MemoryState T) (Running T)) (ok : Bool) (e : Event T) → CanHandle k w e → event_of k true w (event_told e (event_of k ok w e).1) ≡ event_of k ok w e
 event-told k w ok (Begin p c) can = refl
 event-told k w ok (Step p granted) can = stepped-told k w ok granted p (call_at w p) (λ r is. can (granted && ok) r is)
 
 -- what is told of events, where they lead, and the peak that they come to
-pub record IsMadeFrom {T : Type 0} (k : Kind) (w : World (Shared T) (Running T)) (es : List (Event T)) (ts : List (Told T)) (p : Peak) (last : World (Shared T) (Running T)) (top : Peak) : Type 0 where
+pub record IsMadeFrom {T : Type 0} (k : Kind) (w : World (MemoryState T) (Running T)) (es : List (Event T)) (ts : List (Told T)) (p : Peak) (last : World (MemoryState T) (Running T)) (top : Peak) : Type 0 where
   pub told : ts ≡ told_of k w (as_told es ts)
   pub world : last ≡ world_after k w (as_told es ts)
   pub peak : top ≡ peak_after k w p (as_told es ts)
 
-made_from : {T : Type 0} (k : Kind) (parties : ℕ) (past es : List (Event T)) (told ts : List (Told T)) (w last : World (Shared T) (Running T)) (p top : Peak)
+made_from : {T : Type 0} (k : Kind) (parties : ℕ) (past es : List (Event T)) (told ts : List (Told T)) (w last : World (MemoryState T) (Running T)) (p top : Peak)
     → KnownAfter k parties past told w p → Comes k w p es ts last top → IsMadeFrom k w es ts p last top
 made_from k parties past [] told [] w last p top known comes = record { told = refl; world = comes.0; peak = comes.1 }
 made_from {T} k parties past (e ∷ es) told (t ∷ ts) w last p top known comes =

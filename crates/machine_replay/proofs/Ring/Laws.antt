@@ -6,13 +6,13 @@ use Rattle.queue_laws.specs.{Common.Effects.Leads, Common.Effects.with_effect, R
 use Rattle.machine_replay.proofs.{Engine.StandOf.stand_of, Engine.Moments.any_in, Engine.Moments.same_moments, Progress.FewSteps.FewSteps, Progress.FewSteps.few_begun, Progress.FewSteps.few_joined, Progress.FewSteps.few_watched, Progress.FewSteps.few_own, Progress.FewSteps.few_stays, Engine.KindLaws.LawsOf, Engine.Plain.IsPlain, Engine.Plain.plain-can, Engine.Plain.plain-step, Engine.Plain.plain-blocks, Ring.Coded.part, Ring.Coded.same_step, Ring.Moments.ring_begun, Ring.Moments.ring_moves}
 use Rattle.queue_laws.specs.Ring.RingShared as ring
 use Rattle.queue_laws.proofs.Ring.{RingPasses.none_stays, RingAt.at_stays, RingRanks.rank, RingRanks.rank_small, RingRanks.rank_some, RingRanks.longest, RingRanks.wait_free_rank, RingStepOk.IsQuiet, RingStepOk.NextOk, RingStepOk.IsEffect, RingStep.step_good, RingStart.at_first}
-use Rattle.machine_steps.specs.World.{Made}
-use Rattle.machine_memory.specs.SharedMemory.{Shared, CanTouch, CanOperate, slots_there, block_touched}
+use Rattle.machine_steps.specs.World.{StepOutcome}
+use Rattle.machine_memory.specs.SharedMemory.{MemoryState, CanTouch, CanOperate, slots_there, block_touched}
 use Rattle.machine_steps.specs.Steps.{CanStep, CanReply, after_touch, answer_to, step_of, start_of, next_after, carried_then, running_after, reply_after, after_operation}
 use Rattle.machine_replay.proofs.Engine.Events as engine
 
 -- the ring stands for the state, and the words and slots for the ring
-pub record RingHolds {A : Type 0} (cap : ℕ) (s : Shared A) (Q : State A) (g : Ring A) : Type 0 where
+pub record RingHolds {A : Type 0} (cap : ℕ) (s : MemoryState A) (Q : State A) (g : Ring A) : Type 0 where
   pub ok : RingOk cap g
   pub codes : Codes cap g (part s)
   pub queue_is : Q ≡ queue_of cap g
@@ -22,12 +22,12 @@ abbrev pub RingIdle : {A : Type 0} → Ring A → ℕ → Type 0
 RingIdle g p = HoldsNone g.cells p
 
 -- where the party's call stands, and that it has few steps before it
-pub record RingFits {A : Type 0} (cap busy : ℕ) (s : Shared A) (Q : State A) (g : Ring A) (p : ℕ) (x : Running A) (o : Open A) : Type 0 where
+pub record RingFits {A : Type 0} (cap busy : ℕ) (s : MemoryState A) (Q : State A) (g : Ring A) (p : ℕ) (x : Running A) (o : Open A) : Type 0 where
   pub here : At cap g p o.moments o.was_open (stand_of x o.call o.effects)
   pub few : FewSteps busy o (rank cap g x.local) longest
 
 -- what the step of a call on a ring does, in the machine's words
-record RingStepped {A : Type 0} (cap : ℕ) (s : Shared A) (g : Ring A) (p : ℕ) (ms : List (State A)) (was : Bool) (x : Running A) (k : Call A) (es : List (Effect A)) : Type 0 where
+record RingStepped {A : Type 0} (cap : ℕ) (s : MemoryState A) (g : Ring A) (p : ℕ) (ms : List (State A)) (was : Bool) (x : Running A) (k : Call A) (es : List (Effect A)) : Type 0 where
   after : Ring A
   e : Option (Effect A)
   touches : CanTouch x.touch (slots_there s (block_touched x.op))
@@ -41,7 +41,7 @@ record RingStepped {A : Type 0} (cap : ℕ) (s : Shared A) (g : Ring A) (p : ℕ
   passes : Passes p g after
   goes : NextOk cap g after p (queue_of cap after ∷ ms) (was || not after.closed) (next_after (Kind.Bounded cap) true s x) (carried_then s x) k (with_effect es e) (rank cap g x.local)
 
-stands : {A : Type 0} (cap : ℕ) (s : Shared A) (g : Ring A) (p : ℕ) (ms : List (State A)) (was : Bool) (x : Running A) (k : Call A) (es : List (Effect A))
+stands : {A : Type 0} (cap : ℕ) (s : MemoryState A) (g : Ring A) (p : ℕ) (ms : List (State A)) (was : Bool) (x : Running A) (k : Call A) (es : List (Effect A))
     → RingOk cap g → Codes cap g (part s) → At cap g p ms was (stand_of x k es) → RingStepped cap s g p ms was x k es
 stands cap s g p ms was x k es ok codes at =
     let good = step_good ok codes at in
@@ -71,7 +71,7 @@ module _ {A : Type 0} (cap : ℕ) (r s : Ring A) (who : ℕ) (ms : List (State A
   can_reply (Next.Step l t o) v k es m goes = tt
   can_reply (Next.Reply x spare) v k es m goes = rw goes.2.1 refl
 
-pub ring_can_step : {A : Type 0} (cap busy : ℕ) (granted : Bool) (s : Shared A) (Q : State A) (g : Ring A) (p : ℕ) (x : Running A) (o : Open A)
+pub ring_can_step : {A : Type 0} (cap busy : ℕ) (granted : Bool) (s : MemoryState A) (Q : State A) (g : Ring A) (p : ℕ) (x : Running A) (o : Open A)
     → RingHolds cap s Q g → RingFits cap busy s Q g p x o → CanStep (Kind.Bounded cap) granted s x
 ring_can_step cap busy granted s Q g p x o holds f =
     let step = stands cap s g p o.moments o.was_open x o.call o.effects holds.ok holds.codes f.here in
@@ -83,16 +83,16 @@ ring_can_step cap busy granted s Q g p x o holds f =
     })
 
 -- the engine's words at a ring
-abbrev RingGoes : (A : Type 0) → ℕ → ℕ → Shared A → State A → Ring A → ℕ → Open A → Option (Running A) → Option (Reply A) → Type 0
-RingGoes A cap = engine.NextFits A (Shared A) (Running A) (Ring A) (Some cap) (step_of (Kind.Bounded cap)) (start_of (Kind.Bounded cap)) (CanStep (Kind.Bounded cap)) (RingHolds cap) RingIdle (RingFits cap)
+abbrev RingGoes : (A : Type 0) → ℕ → ℕ → MemoryState A → State A → Ring A → ℕ → Open A → Option (Running A) → Option (Reply A) → Type 0
+RingGoes A cap = engine.NextFits A (MemoryState A) (Running A) (Ring A) (Some cap) (step_of (Kind.Bounded cap)) (start_of (Kind.Bounded cap)) (CanStep (Kind.Bounded cap)) (RingHolds cap) RingIdle (RingFits cap)
 
-abbrev RingMadeWell : (A : Type 0) → ℕ → ℕ → Shared A → State A → Ring A → ℕ → Open A → Made (Shared A) (Running A) A → Type 0
-RingMadeWell A cap busy s Q g p o t = engine.StepsWell A (Shared A) (Running A) (Ring A) (Some cap) (step_of (Kind.Bounded cap)) (start_of (Kind.Bounded cap)) (CanStep (Kind.Bounded cap)) (RingHolds cap) RingIdle (RingFits cap) busy s Q g p o t
+abbrev RingMadeWell : (A : Type 0) → ℕ → ℕ → MemoryState A → State A → Ring A → ℕ → Open A → StepOutcome (MemoryState A) (Running A) A → Type 0
+RingMadeWell A cap busy s Q g p o t = engine.StepsWell A (MemoryState A) (Running A) (Ring A) (Some cap) (step_of (Kind.Bounded cap)) (start_of (Kind.Bounded cap)) (CanStep (Kind.Bounded cap)) (RingHolds cap) RingIdle (RingFits cap) busy s Q g p o t
 
-abbrev RingStepsWell : (A : Type 0) → ℕ → ℕ → Shared A → State A → Ring A → ℕ → Open A → Running A → Bool → Type 0
+abbrev RingStepsWell : (A : Type 0) → ℕ → ℕ → MemoryState A → State A → Ring A → ℕ → Open A → Running A → Bool → Type 0
 RingStepsWell A cap busy s Q g p o x granted = RingMadeWell A cap busy s Q g p o (step_of (Kind.Bounded cap) granted s x)
 
-module _ {A : Type 0} (cap busy : ℕ) (s : Shared A) (g g' : Ring A) (p : ℕ) (o : Open A) where
+module _ {A : Type 0} (cap busy : ℕ) (s : MemoryState A) (g g' : Ring A) (p : ℕ) (o : Open A) where
   -- where the call stands after its step
   goes_well : (n : Next ℕ) (v : Option A) (es : List (Effect A)) (m : ℕ)
       → (busy ≡ 1 → IsQuiet g p) → FewSteps busy o m longest
@@ -105,7 +105,7 @@ module _ {A : Type 0} (cap busy : ℕ) (s : Shared A) (g g' : Ring A) (p : ℕ) 
       let y = goes.2 in
       rw y.1 (goes.0, (y.2, λ e. any_in (queue_of cap g' ∷ o.moments) (λ m. IsRightAt m o.call y.0) (Allows o.call y.0) (λ m right. inl right) (y.3 e)))
 
-steps_granted : {A : Type 0} (cap busy : ℕ) (s : Shared A) (Q : State A) (g : Ring A) (p : ℕ) (x : Running A) (o : Open A)
+steps_granted : {A : Type 0} (cap busy : ℕ) (s : MemoryState A) (Q : State A) (g : Ring A) (p : ℕ) (x : Running A) (o : Open A)
     → RingHolds cap s Q g → RingFits cap busy s Q g p x o → (busy ≡ 1 → (j : ℕ) → j ≢ p → RingIdle g j)
     → RingStepsWell A cap busy s Q g p o x true
 steps_granted {A} cap busy s Q g p x o holds f quiet =
@@ -131,7 +131,7 @@ steps_granted {A} cap busy s Q g p x o holds f quiet =
       };
     }
 
-pub ring_steps_well : {A : Type 0} (cap busy : ℕ) (granted : Bool) (s : Shared A) (Q : State A) (g : Ring A) (p : ℕ) (x : Running A) (o : Open A)
+pub ring_steps_well : {A : Type 0} (cap busy : ℕ) (granted : Bool) (s : MemoryState A) (Q : State A) (g : Ring A) (p : ℕ) (x : Running A) (o : Open A)
     → RingHolds cap s Q g → RingFits cap busy s Q g p x o → (busy ≡ 1 → (j : ℕ) → j ≢ p → RingIdle g j)
     → RingStepsWell A cap busy s Q g p o x granted
 ring_steps_well {A} cap busy granted s Q g p x o holds f quiet =
@@ -139,17 +139,17 @@ ring_steps_well {A} cap busy granted s Q g p x o holds f quiet =
     subst (λ t. RingMadeWell A cap busy s Q g p o t) (sym (plain-step (Kind.Bounded cap) granted s x.local x.touch x.op x.carried step.is_plain)) (steps_granted cap busy s Q g p x o holds f quiet)
 
 -- a call just begun
-fresh : {A : Type 0} (cap : ℕ) (s : Shared A) (Q : State A) (g : Ring A) (p : ℕ) (k : Call A) (x : Running A)
+fresh : {A : Type 0} (cap : ℕ) (s : MemoryState A) (Q : State A) (g : Ring A) (p : ℕ) (k : Call A) (x : Running A)
     → At cap g p [] false (stand_of x k []) → (is_wait_free k ≡ true → rank cap g x.local ≤ 2) → (busy : ℕ) → RingFits cap busy s Q g p x (begun k)
 fresh cap s Q g p k x at wait_free busy = record { here = at; few = few_begun busy k (rank cap g x.local) longest (rank_small cap g x.local) wait_free }
 
-pub ring_begins_well : {A : Type 0} (cap : ℕ) (s : Shared A) (Q : State A) (g : Ring A) (p : ℕ) (k : Call A) → RingHolds cap s Q g → RingIdle g p
-    → engine.BeginsWell A (Shared A) (Running A) (Ring A) (Some cap) (step_of (Kind.Bounded cap)) (start_of (Kind.Bounded cap)) (CanStep (Kind.Bounded cap)) (RingHolds cap) RingIdle (RingFits cap)
+pub ring_begins_well : {A : Type 0} (cap : ℕ) (s : MemoryState A) (Q : State A) (g : Ring A) (p : ℕ) (k : Call A) → RingHolds cap s Q g → RingIdle g p
+    → engine.BeginsWell A (MemoryState A) (Running A) (Ring A) (Some cap) (step_of (Kind.Bounded cap)) (start_of (Kind.Bounded cap)) (CanStep (Kind.Bounded cap)) (RingHolds cap) RingIdle (RingFits cap)
     s Q g p k (start_of (Kind.Bounded cap) k).call (start_of (Kind.Bounded cap) k).reply
 ring_begins_well cap s Q g p Call.Capacity holds idle = (refl, sym (ap (λ q. q.cap) holds.queue_is))
 ring_begins_well cap s Q g p k holds idle = (refl, fresh cap s Q g p k _ (at_first cap g p k idle) (λ e. first_of (cc, omega arith)))
 
-pub ring_joins_well : {A : Type 0} (cap busy busy' : ℕ) (s : Shared A) (Q : State A) (g : Ring A) (p : ℕ) (x : Running A) (o : Open A) → RingFits cap busy s Q g p x o → RingFits cap busy' s Q g p x (joined o)
+pub ring_joins_well : {A : Type 0} (cap busy busy' : ℕ) (s : MemoryState A) (Q : State A) (g : Ring A) (p : ℕ) (x : Running A) (o : Open A) → RingFits cap busy s Q g p x o → RingFits cap busy' s Q g p x (joined o)
 ring_joins_well cap busy busy' s Q g p x o f = record { here = f.here; few = few_joined busy busy' o (rank cap g x.local) longest f.few }
 
 -- each step of a call on a ring is right

@@ -5,7 +5,7 @@ use Rattle.queue_steps.specs.{State.State, Words.position_of, Words.slot_at}
 use Rattle.machine_replay.specs.{Vocabulary.Kind, Vocabulary.Touch, Vocabulary.Running, Book.Book, Book.Open}
 use Rattle.queue_laws.proofs.{Common.Tails.position_tail, Ring.RingCells.wraps, Ring.RingCells.apart, Ring.RingIdle.same_position, Ring.RingTransitions.in_ring, Ring.RingStart.holds_none}
 use Rattle.machine_steps.specs.{World.World, Steps.CanStep, Steps.step_of, Steps.start_of, Left.left_of, Left.all_written, Left.gathered}
-use Rattle.machine_memory.specs.SharedMemory.{Shared}
+use Rattle.machine_memory.specs.SharedMemory.{MemoryState}
 use Rattle.machine_replay.proofs.Engine.Events as engine
 use Rattle.machine_replay.proofs.{Engine.KindLaws.SimulatesOf, Engine.AllWritten.writes, Engine.AllWritten.writes_slot, Engine.AllWritten.all_written-none, Engine.AllWritten.all_written-one, Engine.AllWritten.nth, Engine.AllWritten.gathered-items, Ring.Laws.RingHolds, Ring.Laws.RingIdle, Ring.Laws.RingFits}
 use Rattle.queue_laws.specs.{Common.Stand.Stand, Ring.RingWords.item_in, Ring.RingAt.At, Ring.RingAt.filling, Ring.RingAt.arriving, Ring.RingAt.swapping, Ring.RingAt.emptying}
@@ -81,11 +81,11 @@ at_holder {cap = cap} {r = r} {who = who} i (emptying x h one) own awaited =
 at_holder i x own awaited = absurd (holds_none x refl i own)
 
 -- what is so of a party, in a call or not
-abbrev RingParty : (A : Type 0) → ℕ → ℕ → Shared A → State A → Ring A → ℕ → Option (Running A) → Option (Open A) → Type 0
-RingParty A cap = engine.Party A (Shared A) (Running A) (Ring A) (Some cap) (step_of (Kind.Bounded cap)) (start_of (Kind.Bounded cap)) (CanStep (Kind.Bounded cap)) (RingHolds cap) RingIdle (RingFits cap)
+abbrev RingParty : (A : Type 0) → ℕ → ℕ → MemoryState A → State A → Ring A → ℕ → Option (Running A) → Option (Open A) → Type 0
+RingParty A cap = engine.Party A (MemoryState A) (Running A) (Ring A) (Some cap) (step_of (Kind.Bounded cap)) (start_of (Kind.Bounded cap)) (CanStep (Kind.Bounded cap)) (RingHolds cap) RingIdle (RingFits cap)
 
 -- no party writes a slot that is not awaited
-party_apart : {A : Type 0} (cap busy : ℕ) (s : Shared A) (Q : State A) (g : Ring A) (p : ℕ) (x : Option (Running A)) (y : Option (Open A)) (i : ℕ)
+party_apart : {A : Type 0} (cap busy : ℕ) (s : MemoryState A) (Q : State A) (g : Ring A) (p : ℕ) (x : Option (Running A)) (y : Option (Open A)) (i : ℕ)
     → RingParty A cap busy s Q g p x y → ((v : Option A) → IsWriter (g.cells i) p v → ⊥) → writes x i ≡ false
 party_apart cap busy s Q g p None None i h never = refl
 party_apart cap busy s Q g p (Some r) (Some o) i h never =
@@ -96,7 +96,7 @@ party_apart cap busy s Q g p (Some r) (Some o) i h never =
 party_apart cap busy s Q g p x y i h never = absurd h
 
 -- the holder of an awaited slot writes it
-party_holder : {A : Type 0} (cap busy : ℕ) (s : Shared A) (Q : State A) (g : Ring A) (p : ℕ) (x : Option (Running A)) (y : Option (Open A)) (i : ℕ)
+party_holder : {A : Type 0} (cap busy : ℕ) (s : MemoryState A) (Q : State A) (g : Ring A) (p : ℕ) (x : Option (Running A)) (y : Option (Open A)) (i : ℕ)
     → RingParty A cap busy s Q g p x y → owner (g.cells i) ≡ Some p → IsAwaited (g.cells i)
     → (r : Running A) × (x ≡ Some r) × (writes_slot r.touch i ≡ true) × IsWriter (g.cells i) p r.carried
 party_holder cap busy s Q g p None None i h own awaited = absurd (h i own)
@@ -105,7 +105,7 @@ party_holder cap busy s Q g p (Some r) (Some o) i h own awaited =
 party_holder cap busy s Q g p x y i h own awaited = absurd h
 
 -- an awaited slot has one writer, who writes its item; any other has none
-slot_settled : {A : Type 0} (cap parties : ℕ) (w : World (Shared A) (Running A)) (b : Book A) → (sim : SimulatesOf A (Kind.Bounded cap) (Ring A) (RingHolds cap) RingIdle (RingFits cap) parties w b)
+slot_settled : {A : Type 0} (cap parties : ℕ) (w : World (MemoryState A) (Running A)) (b : Book A) → (sim : SimulatesOf A (Kind.Bounded cap) (Ring A) (RingHolds cap) RingIdle (RingFits cap) parties w b)
     → (i : ℕ) → i < cap → get_or (all_written w.calls w.shared.slots) i None ≡ content (sim.g.cells i)
 slot_settled {A} cap parties w b sim i lt = go (sim.g.cells i) refl (sim.holds.codes.slot i lt)
   where
@@ -135,7 +135,7 @@ nth_is : {A : Type 0} (xs : List A) (j : ℕ) → slice_get xs j ≡ nth xs j
 nth_is (x ∷ xs) (suc j) = nth_is xs j
 nth_is xs j = refl
 
-pub ring_leaves : {A : Type 0} (cap parties : ℕ) (w : World (Shared A) (Running A)) (b : Book A) → SimulatesOf A (Kind.Bounded cap) (Ring A) (RingHolds cap) RingIdle (RingFits cap) parties w b
+pub ring_leaves : {A : Type 0} (cap parties : ℕ) (w : World (MemoryState A) (Running A)) (b : Book A) → SimulatesOf A (Kind.Bounded cap) (Ring A) (RingHolds cap) RingIdle (RingFits cap) parties w b
     → left_of (Kind.Bounded cap) w ≡ b.queue.items
 ring_leaves {A} cap parties w b sim =
     let g = sim.g in

@@ -10,7 +10,7 @@ use Rattle.queue_laws.specs.Ring.RingShared as ring
 use Rattle.queue_laws.specs.Ring.RingCells.{Cell, Free, Written, Read, Coming, Swapped, Ring, RingOk, CellOk, owner, queue_of}
 use Rattle.queue_laws.specs.Ring.RingAt.{At, push_stamp, claiming, filling, push_head, displacing, arriving, swapping, pop_stamp, taking, emptying, pop_tail, count_head, count_again}
 use Rattle.machine_replay.specs.{Book.Open, Progress.AppendsReplyWithin, Progress.TakesReplyWithin, Progress.HalfDoneTakesNone, Progress.UnhinderedWithin, Progress.NeverWaits}
-use Rattle.machine_memory.specs.SharedMemory.{Shared, word_at}
+use Rattle.machine_memory.specs.SharedMemory.{MemoryState, word_at}
 use Rattle.machine_steps.specs.Steps.{step_of, running_after, carried_then, after_operation}
 
 -- a ring with these words
@@ -24,14 +24,14 @@ by_words cap r (Local.Ring (RingLocal.PushTail d)) = refl
 by_words cap r l = refl
 
 -- by the machine's words
-far : {A : Type 0} → ℕ → Shared A → Local ℕ → ℕ
+far : {A : Type 0} → ℕ → MemoryState A → Local ℕ → ℕ
 far {A} cap s l = rank cap (ring_by A s.head (position_of s.tail) (is_shut s.tail)) l
 
-far_same : {A : Type 0} (cap : ℕ) (s s' : Shared A) (l : Local ℕ) → s'.head ≡ s.head → s'.tail ≡ s.tail → far cap s' l ≡ far cap s l
+far_same : {A : Type 0} (cap : ℕ) (s s' : MemoryState A) (l : Local ℕ) → s'.head ≡ s.head → s'.tail ≡ s.tail → far cap s' l ≡ far cap s l
 unfolding far
 far_same {A} cap s s' l head tail = ap (λ h. rank cap (ring_by A h (position_of s'.tail) (is_shut s'.tail)) l) head ∙ ap (λ t. rank cap (ring_by A s.head (position_of t) (is_shut t)) l) tail
 
-far_is : {A : Type 0} (cap : ℕ) (g : Ring A) (s : Shared A) (l : Local ℕ) → Codes cap g (part s) → far cap s l ≡ rank cap g l
+far_is : {A : Type 0} (cap : ℕ) (g : Ring A) (s : MemoryState A) (l : Local ℕ) → Codes cap g (part s) → far cap s l ≡ rank cap g l
 unfolding far
 far_is {A} cap g s l codes =
     ap (λ h. rank cap (ring_by A h (position_of s.tail) (is_shut s.tail)) l) codes.head
@@ -47,7 +47,7 @@ not_lapped cap head tail p i items coming (Coming q who old v) some room past ok
 not_lapped cap head tail p i items coming (Swapped q who old v) some room past ok free e = absurd (free who refl)
 not_lapped cap head tail p i items coming c some room past ok free e = let low = ok.1 in omega arith
 
-far_some : {A : Type 0} (cap : ℕ) (s : Shared A) (l : Local ℕ) → 0 < far cap s l
+far_some : {A : Type 0} (cap : ℕ) (s : MemoryState A) (l : Local ℕ) → 0 < far cap s l
 unfolding far
 far_some {A} cap s l = rank_some cap (ring_by A s.head (position_of s.tail) (is_shut s.tail)) l
 
@@ -55,7 +55,7 @@ before_tail : (p tail : ℕ) → p ≤ tail → p ≢ tail → p < tail
 before_tail p tail le ne = grind (arith, ne, le)
 
 -- So a push that has read such a stamp claims the position, or begins again: it has five steps before it at most.
-after_stamp : {A : Type 0} (cap : ℕ) (s : Shared A) (d : PushKind) (t stamp : ℕ) (v : Option A) (x : Running A) → (stamp + cap == stamp_filled (position_of t)) ≡ false
+after_stamp : {A : Type 0} (cap : ℕ) (s : MemoryState A) (d : PushKind) (t stamp : ℕ) (v : Option A) (x : Running A) → (stamp + cap == stamp_filled (position_of t)) ≡ false
     → running_after (push_stamp_found cap d t stamp) v ≡ Some x → far cap s x.local ≤ 5
 unfolding far ring_by
 after_stamp {A} cap s d t stamp v x lapped goes =
@@ -98,7 +98,7 @@ near_within n some = go (sides n)
     go (inl low) = let e : min n 6 ≡ n = min-eq_left low in (omega (arith, e, some), omega (arith, e, low))
     go (inr high) = let e : min n 6 ≡ 6 = min-eq_right high in (omega (arith, e), omega (arith, e))
 
-falls_at : {A : Type 0} {cap : ℕ} {r : Ring A} {who : ℕ} {ms : List (State A)} {was : Bool} {c : Stand A} (ok : Bool) (s : Shared A) (x : Running A) → At cap r who ms was c
+falls_at : {A : Type 0} {cap : ℕ} {r : Ring A} {who : ℕ} {ms : List (State A)} {was : Bool} {c : Stand A} (ok : Bool) (s : MemoryState A) (x : Running A) → At cap r who ms was c
     → RingOk cap r → Codes cap r (part s) → IsQuiet r who → (step_of (Kind.Bounded cap) ok s (running_of c)).call ≡ Some x
     → far cap (step_of (Kind.Bounded cap) ok s (running_of c)).shared x.local < far cap s c.local
     → near (far cap (step_of (Kind.Bounded cap) ok s (running_of c)).shared x.local) < near (far cap s c.local)
@@ -127,7 +127,7 @@ falls_at ok s x (count_again l t h count none seen) fine codes quiet goes less =
 falls_at ok s x _ fine codes quiet goes less = near_falls _ _ less (omega arith)
 
 module _ {A : Type 0} (cap : ℕ) where
-  own_granted : (busy : ℕ) (s : Shared A) (Q : State A) (g : Ring A) (p : ℕ) (x x' : Running A) (o : Open A) → RingHolds cap s Q g → RingFits cap busy s Q g p x o → ((j : ℕ) → j ≢ p → RingIdle g j)
+  own_granted : (busy : ℕ) (s : MemoryState A) (Q : State A) (g : Ring A) (p : ℕ) (x x' : Running A) (o : Open A) → RingHolds cap s Q g → RingFits cap busy s Q g p x o → ((j : ℕ) → j ≢ p → RingIdle g j)
       → (step_of (Kind.Bounded cap) true s x).call ≡ Some x' → far cap (step_of (Kind.Bounded cap) true s x).shared x'.local < far cap s x.local
   own_granted busy s Q g p x x' o holds f quiet goes =
       let good = step_good holds.ok holds.codes f.here in
@@ -144,7 +144,7 @@ module _ {A : Type 0} (cap : ℕ) where
       far_codes : {after : Ring A} → Codes cap after (part (after_operation true s x)) → Codes cap after (part (step_of (Kind.Bounded cap) true s x).shared)
       far_codes codes = codes
 
-  own_falls : (busy : ℕ) (ok : Bool) (s : Shared A) (Q : State A) (g : Ring A) (p : ℕ) (x x' : Running A) (o : Open A) → RingHolds cap s Q g → RingFits cap busy s Q g p x o → ((j : ℕ) → j ≢ p → RingIdle g j)
+  own_falls : (busy : ℕ) (ok : Bool) (s : MemoryState A) (Q : State A) (g : Ring A) (p : ℕ) (x x' : Running A) (o : Open A) → RingHolds cap s Q g → RingFits cap busy s Q g p x o → ((j : ℕ) → j ≢ p → RingIdle g j)
       → (step_of (Kind.Bounded cap) ok s x).call ≡ Some x' → far cap (step_of (Kind.Bounded cap) ok s x).shared x'.local < far cap s x.local
   own_falls busy ok s Q g p x x' o holds f quiet goes =
       let good = step_good holds.ok holds.codes f.here in
@@ -153,7 +153,7 @@ module _ {A : Type 0} (cap : ℕ) where
       subst (λ t. t.call ≡ Some x' → far cap t.shared x'.local < far cap s x.local) (sym plain) (own_granted busy s Q g p x x' o holds f quiet) goes
 
   -- the words tell the queue, and the queue the words
-  head_is : (s : Shared A) (Q : State A) (g : Ring A) → RingHolds cap s Q g → s.head + length Q.items ≡ Q.accepted
+  head_is : (s : MemoryState A) (Q : State A) (g : Ring A) → RingHolds cap s Q g → s.head + length Q.items ≡ Q.accepted
   head_is s Q g holds =
       let head = holds.codes.head in
       let count = holds.ok.count in
@@ -161,7 +161,7 @@ module _ {A : Type 0} (cap : ℕ) where
       let accepted : Q.accepted ≡ g.tail = ap (λ q. q.accepted) holds.queue_is in
       omega (arith, head, count, items, accepted)
 
-  tail_is : (s : Shared A) (Q : State A) (g : Ring A) → RingHolds cap s Q g → s.tail ≡ tail_of Q.accepted Q.closed
+  tail_is : (s : MemoryState A) (Q : State A) (g : Ring A) → RingHolds cap s Q g → s.tail ≡ tail_of Q.accepted Q.closed
   tail_is s Q g holds = holds.codes.tail ∙ ap (λ q. tail_of q.accepted q.closed) (sym holds.queue_is)
 
   abbrev pub ring_rules : IsRing cap → Rules A (Kind.Bounded cap)
@@ -189,7 +189,7 @@ module _ {A : Type 0} (cap : ℕ) where
   ring_unhindered ring = unhindered A (Kind.Bounded cap) (ring_rules ring) (ring_paces ring) (λ parties w st h p r is nobody. tt)
 
 -- a call that holds a slot ends at its next step, but for the arrival of its item
-half_ends : {A : Type 0} {cap : ℕ} {r : Ring A} {who : ℕ} {ms : List (State A)} {was : Bool} {c : Stand A} (ok : Bool) (s : Shared A) (r' : Running A) → At cap r who ms was c → c.effects ≢ []
+half_ends : {A : Type 0} {cap : ℕ} {r : Ring A} {who : ℕ} {ms : List (State A)} {was : Bool} {c : Stand A} (ok : Bool) (s : MemoryState A) (r' : Running A) → At cap r who ms was c → c.effects ≢ []
     → (step_of (Kind.Bounded cap) ok s (running_of c)).call ≡ Some r' → (step_of (Kind.Bounded cap) ok s (running_of c)).effect ≡ None → ⊥
 half_ends ok s r' (filling d v q one) some goes quiet = none-some r' goes
 half_ends ok s r' (arriving old v t h below back one) some goes quiet = none-some _ (sym quiet)
@@ -204,7 +204,7 @@ pub ring_takes_none : (A : Type 0) (cap : ℕ) → IsRing cap → HalfDoneTakesN
 ring_takes_none A cap ring = waits_take_none A (Kind.Bounded cap) (ring_rules cap ring) (λ busy ok s Q g p r r' o f some goes quiet. half_ends ok s r' f.here some goes quiet)
 
 -- a call that has appended ends at its next step
-append_ends : {A : Type 0} {cap : ℕ} {r : Ring A} {who : ℕ} {ms : List (State A)} {was : Bool} {c : Stand A} (ok : Bool) (s : Shared A) (r' : Running A) → At cap r who ms was c → HasAppend c.effects
+append_ends : {A : Type 0} {cap : ℕ} {r : Ring A} {who : ℕ} {ms : List (State A)} {was : Bool} {c : Stand A} (ok : Bool) (s : MemoryState A) (r' : Running A) → At cap r who ms was c → HasAppend c.effects
     → (step_of (Kind.Bounded cap) ok s (running_of c)).call ≡ Some r' → ⊥
 append_ends ok s r' (filling d v q one) had goes = none-some r' goes
 append_ends ok s r' x had goes = absurd had
@@ -218,7 +218,7 @@ ring_appends A cap ring = appends_reply A (Kind.Bounded cap) (ring_rules cap rin
 })
 
 -- a call that has taken ends at its next step
-take_ends : {A : Type 0} {cap : ℕ} {r : Ring A} {who : ℕ} {ms : List (State A)} {was : Bool} {c : Stand A} (ok : Bool) (s : Shared A) (r' : Running A) → At cap r who ms was c → HasTake c.effects
+take_ends : {A : Type 0} {cap : ℕ} {r : Ring A} {who : ℕ} {ms : List (State A)} {was : Bool} {c : Stand A} (ok : Bool) (s : MemoryState A) (r' : Running A) → At cap r who ms was c → HasTake c.effects
     → (step_of (Kind.Bounded cap) ok s (running_of c)).call ≡ Some r' → ⊥
 take_ends ok s r' (emptying x h one) had goes = none-some r' goes
 take_ends ok s r' x had goes = absurd had

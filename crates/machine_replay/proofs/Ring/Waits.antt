@@ -7,7 +7,7 @@ use Rattle.queue_laws.proofs.{Common.Tails.position_tail, Ring.RingStart.holds_n
 use Rattle.queue_laws.specs.{Common.Stand.Stand, Ring.RingAt.At, Ring.RingAt.push_stamp, Ring.RingAt.filling, Ring.RingAt.arriving, Ring.RingAt.swapping, Ring.RingAt.pop_stamp, Ring.RingAt.emptying, Ring.RingWords.stamp_in}
 use Rattle.queue_laws.specs.Ring.RingCells.{Cell, Free, Written, Full, Read, Coming, Swapped, Ring, CellOk, owner}
 use Rattle.machine_steps.specs.{Left.opening_world, Steps.step_of, Steps.running_after, World.World, World.call_at}
-use Rattle.machine_memory.specs.SharedMemory.{Shared, word_at}
+use Rattle.machine_memory.specs.SharedMemory.{MemoryState, word_at}
 use Rattle.machine_replay.specs.{Book.Open, Played.told_of, Played.world_after, Progress.Standing, Progress.Between, Progress.stands_by, Waits.RingCallsWait, Waits.IsBeside, Waits.GoesOn, Waits.GoesOnTwice, Waits.IsPushToStamp, Waits.HasFront, Waits.HasLastLap, Waits.IsToFill}
 use Rattle.machine_replay.proofs.{Progress.Beside.apart, Progress.Beside.beside, Progress.Beside.not_back, Progress.Beside.same_call, Ring.Stretch.ring_rules, Progress.Stretch.Here, Progress.Stretch.Party, Progress.Stretch.reach, Progress.Stretch.first, Progress.Stretch.party-open}
 
@@ -120,7 +120,7 @@ other_way : {A : Type 0} (a b : ℕ) (m l : Next ℕ) (v : Option A) (y : Runnin
 other_way a b m l v y never goes = elim (eqb_tells a b) [ inl t ↦ absurd (never (rw t.0 at goes)) | inr t ↦ t.1 ]
 
 -- and two
-full_found : {A : Type 0} (n : ℕ) (d : PushKind) (t stamp : ℕ) (v : Option A) (s : Shared A) (x y : Running A) → s.tail ≡ t → running_after (push_stamp_found n d t stamp) v ≡ Some x → (x.local ≡ Local.Ring (RingLocal.PushTail d) → ⊥)
+full_found : {A : Type 0} (n : ℕ) (d : PushKind) (t stamp : ℕ) (v : Option A) (s : MemoryState A) (x y : Running A) → s.tail ≡ t → running_after (push_stamp_found n d t stamp) v ≡ Some x → (x.local ≡ Local.Ring (RingLocal.PushTail d) → ⊥)
     → (step_of (Kind.Bounded n) true s x).call ≡ Some y → y.local ≡ Local.Ring (RingLocal.PushTail d) → (stamp + n ≡ position_of t + 1) × (s.head + n ≢ position_of t)
 full_found {A} n d t stamp v s x y tail goes never on back = go (eqb_tells stamp (position_of t)) (eqb_tells (stamp + n) (position_of t + 1)) d goes never back
   where
@@ -151,7 +151,7 @@ pop_found {A} h stamp v x goes back = go (eqb_tells stamp (h + 1)) (eqb_tells st
     go (inr a) (inl b) = let f = not_back x (rw (a.0, b.0) at goes) back in absurd (apart stage _ _ refl f)
 
 -- and two
-empty_found : {A : Type 0} (n h stamp : ℕ) (v : Option A) (s : Shared A) (x y : Running A) → s.head ≡ h → running_after (pop_stamp_found h stamp) v ≡ Some x → (x.local ≡ Local.Ring RingLocal.PopHead → ⊥)
+empty_found : {A : Type 0} (n h stamp : ℕ) (v : Option A) (s : MemoryState A) (x y : Running A) → s.head ≡ h → running_after (pop_stamp_found h stamp) v ≡ Some x → (x.local ≡ Local.Ring RingLocal.PopHead → ⊥)
     → (step_of (Kind.Bounded n) true s x).call ≡ Some y → y.local ≡ Local.Ring RingLocal.PopHead → (stamp ≡ h) × (position_of s.tail ≢ h)
 empty_found {A} n h stamp v s x y head goes never on back = go (eqb_tells stamp (h + 1)) (eqb_tells stamp h)
   where
@@ -190,7 +190,7 @@ as_reading {A} r l i a b c = ap (λ z. made z r.touch r.op) a ∙ (ap (λ z. mad
     made : Local ℕ → Touch → Op ℕ → Running A
     made l t o = record { local = l; touch = t; op = o; carried = r.carried }
 
-module _ {A : Type 0} (cap : ℕ) (ring : IsRing cap) (parties : ℕ) (w : World (Shared A) (Running A)) (st : ℕ → Standing) (h : Here A (Kind.Bounded cap) (ring_rules cap ring) parties w st) where
+module _ {A : Type 0} (cap : ℕ) (ring : IsRing cap) (parties : ℕ) (w : World (MemoryState A) (Running A)) (st : ℕ → Standing) (h : Here A (Kind.Bounded cap) (ring_rules cap ring) parties w st) where
   -- the party that has a slot is in a call, and stands where it stamps it
   holder : (i who : ℕ) (x : Option (Running A)) (y : Option (Open A)) → Party A (Kind.Bounded cap) (ring_rules cap ring) parties h.b.busy w.shared h.b.queue h.sim.g who x y → owner (h.sim.g.cells i) ≡ Some who
       → (r : Running A) × (x ≡ Some r) × HolderAt (h.sim.g.cells i) r.local

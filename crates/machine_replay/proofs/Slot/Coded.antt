@@ -4,15 +4,15 @@ use Rattle.machine_replay.specs.Vocabulary.{Kind, Touch, Running}
 use Rattle.queue_laws.specs.{Common.Stand.Stand, Slot.SlotHolder.SlotHolder, Slot.SlotRows.At, Slot.SlotRows.push_try, Slot.SlotRows.force_try_empty, Slot.SlotRows.force_try_full, Slot.SlotRows.pop_try, Slot.SlotRows.close_try, Slot.SlotRows.look_at}
 use Rattle.machine_replay.proofs.Engine.{StandOf.running_of, Plain.without-none}
 use Rattle.queue_laws.specs.Slot.SlotShared as slot
-use Rattle.machine_memory.specs.{Blocks.without, SharedMemory.Shared, SharedMemory.CanTouch, SharedMemory.CanOperate, SharedMemory.slots_there, SharedMemory.block_touched}
+use Rattle.machine_memory.specs.{Blocks.without, SharedMemory.MemoryState, SharedMemory.CanTouch, SharedMemory.CanOperate, SharedMemory.slots_there, SharedMemory.block_touched}
 use Rattle.machine_steps.specs.Steps.{after_touch, after_operation, answer_to, carried_then, shared_then, spare_in, next_after}
 
 module _ {T : Type 0} where
   -- the shared memory of a queue of one slot
-  abbrev pub one_slot : ℕ → Option T → Shared T
+  abbrev pub one_slot : ℕ → Option T → MemoryState T
   one_slot word x = record { lock = word; head = 0; tail = 0; stamps = []; slots = x ∷ []; head_block = None; tail_block = None; blocks = [] }
 
-  abbrev memory_of : slot.Shared T → Shared T
+  abbrev memory_of : slot.Shared T → MemoryState T
   memory_of s = one_slot s.lock s.slot
 
   -- what is shared after the touch of a call's next step
@@ -37,7 +37,7 @@ module _ {T : Type 0} where
   same_step granted word x y = record { touches = λ can. can; operates = tt; answers = refl; carries = refl; leaves = refl }
 
   -- no block is given up where there is none
-  pub shared_same : (granted : Bool) (s : Shared T) (r : Running T) (word : ℕ) (x : Option T) → after_operation granted s r ≡ one_slot word x → shared_then Kind.Single granted s r ≡ one_slot word x
+  pub shared_same : (granted : Bool) (s : MemoryState T) (r : Running T) (word : ℕ) (x : Option T) → after_operation granted s r ≡ one_slot word x → shared_then Kind.Single granted s r ≡ one_slot word x
   shared_same granted s r word x e =
       let bare : without (spare_in (next_after Kind.Single granted s r)) (after_operation granted s r).blocks ≡ [] = ap (λ c. without (spare_in (next_after Kind.Single granted s r)) c.blocks) e ∙ without-none _ in
-      ap (λ b. record (after_operation granted s r) { blocks = b }) bare ∙ ap {A = Shared T} (λ c. record c { blocks = [] }) e
+      ap (λ b. record (after_operation granted s r) { blocks = b }) bare ∙ ap {A = MemoryState T} (λ c. record c { blocks = [] }) e

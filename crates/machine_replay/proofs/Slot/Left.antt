@@ -4,9 +4,9 @@ use Rattle.std.specs.Option.{option_to_list}
 use Rattle.std.proofs.lemmas.Bool.{eq-eqb, Decides.eqb_tells}
 use Rattle.queue_steps.specs.{SlotNext.is_pushed, State.State}
 use Rattle.machine_replay.specs.{Vocabulary.Kind, Vocabulary.Running, Book.Book, Book.Open}
-use Rattle.queue_laws.specs.{Common.Stand.Stand, Slot.SlotHolder.SlotHolder, Slot.SlotHolder.Nobody, Slot.SlotHolder.Filling, Slot.SlotHolder.Swapping, Slot.SlotHolder.Keeps, Slot.SlotHolder.Idle, Slot.SlotHolder.own_of}
+use Rattle.queue_laws.specs.{Common.Stand.Stand, Slot.SlotHolder.SlotHolder, Slot.SlotHolder.Nobody, Slot.SlotHolder.Filling, Slot.SlotHolder.Swapping, Slot.SlotHolder.LockHolder, Slot.SlotHolder.Idle, Slot.SlotHolder.own_of}
 use Rattle.queue_laws.specs.Slot.SlotRows.{Codes, free_empty, free_full, filling, swapping, taking, At, push_put, force_put_empty, force_put_full}
-use Rattle.machine_memory.specs.SharedMemory.{Shared}
+use Rattle.machine_memory.specs.SharedMemory.{MemoryState}
 use Rattle.machine_steps.specs.{Steps.CanStep, Steps.step_of, Steps.start_of, Left.left_of, Left.all_written, World.World, World.call_at}
 use Rattle.machine_replay.proofs.Engine.Events as engine
 use Rattle.machine_replay.proofs.{Engine.KindLaws.SimulatesOf, Engine.KindLaws.KindLaws, Engine.Counted.counted-none, Engine.AllWritten.writes, Engine.AllWritten.writes_slot, Engine.AllWritten.all_written-none, Engine.AllWritten.all_written-one, Slot.Laws.SlotHolds, Slot.Laws.FitsIn, Slot.Laws.slot_engine}
@@ -26,19 +26,19 @@ at_writing (force_put_full old v) = inr (v, refl, refl, refl)
 at_writing x = inl (refl, refl)
 
 -- what a party, in a call or not, is about to write
-abbrev Writing : {T : Type 0} → Keeps T → ℕ → Option (Running T) → Type 0
+abbrev Writing : {T : Type 0} → LockHolder T → ℕ → Option (Running T) → Type 0
 Writing {T} g p x =
     ((wait_of (own_of g.who g.hold p) ≡ None) × (writes x 0 ≡ false))
     ⊎ ((r : Running T) × (y : T) × (x ≡ Some r) × (wait_of (own_of g.who g.hold p) ≡ Some y) × (r.carried ≡ Some y) × (writes_slot r.touch 0 ≡ true))
 
-party_writing : {T : Type 0} (busy : ℕ) (s : Shared T) (Q : State T) (g : Keeps T) (p : ℕ) (x : Option (Running T)) (y : Option (Open T))
-    → engine.Party T (Shared T) (Running T) (Keeps T) (Some 1) (step_of Kind.Single) (start_of Kind.Single) (CanStep Kind.Single) SlotHolds Idle FitsIn busy s Q g p x y → Writing g p x
+party_writing : {T : Type 0} (busy : ℕ) (s : MemoryState T) (Q : State T) (g : LockHolder T) (p : ℕ) (x : Option (Running T)) (y : Option (Open T))
+    → engine.Party T (MemoryState T) (Running T) (LockHolder T) (Some 1) (step_of Kind.Single) (start_of Kind.Single) (CanStep Kind.Single) SlotHolds Idle FitsIn busy s Q g p x y → Writing g p x
 party_writing busy s Q g p None None h = inl (ap wait_of h, refl)
 party_writing busy s Q g p (Some r) (Some o) h = elim (at_writing h.here) [ inl e ↦ inl e | inr e ↦ inr (r, e.0, refl, e.1, e.2, e.3) ]
 party_writing busy s Q g p x y h = absurd h
 
 -- nobody writes
-slot_kept : {T : Type 0} (calls : List (Option (Running T))) (slots : List (Option T)) (g : Keeps T) → ((p : ℕ) → Writing g p (get_or calls p None)) → wait_of g.hold ≡ None → get_or (all_written calls slots) 0 None ≡ get_or slots 0 None
+slot_kept : {T : Type 0} (calls : List (Option (Running T))) (slots : List (Option T)) (g : LockHolder T) → ((p : ℕ) → Writing g p (get_or calls p None)) → wait_of g.hold ≡ None → get_or (all_written calls slots) 0 None ≡ get_or slots 0 None
 slot_kept calls slots g all none = all_written-none calls slots 0 (λ p. idle_at p (all p))
   where
     nothing : (p : ℕ) → wait_of (own_of g.who g.hold p) ≡ None
@@ -49,7 +49,7 @@ slot_kept calls slots g all none = all_written-none calls slots 0 (λ p. idle_at
     idle_at p (inr e) = let n = nothing p in let m = e.3 in cc
 
 -- the lock's holder writes
-slot_filled : {T : Type 0} (calls : List (Option (Running T))) (slots : List (Option T)) (g : Keeps T) (v : T) → 0 < length slots → ((p : ℕ) → Writing g p (get_or calls p None)) → wait_of g.hold ≡ Some v → get_or (all_written calls slots) 0 None ≡ Some v
+slot_filled : {T : Type 0} (calls : List (Option (Running T))) (slots : List (Option T)) (g : LockHolder T) (v : T) → 0 < length slots → ((p : ℕ) → Writing g p (get_or calls p None)) → wait_of g.hold ≡ Some v → get_or (all_written calls slots) 0 None ≡ Some v
 slot_filled calls slots g v long all some = holder (all g.who)
   where
     mine : wait_of (own_of g.who g.hold g.who) ≡ Some v
@@ -78,7 +78,7 @@ left_stands found (swapping false old v) kept f = rw (f v refl) refl
 left_stands found (taking true x) kept f = refl
 left_stands found x kept f = refl
 
-slot_left : {T : Type 0} (parties : ℕ) (w : World (Shared T) (Running T)) (b : Book T) → SimulatesOf T Kind.Single (Keeps T) SlotHolds Idle FitsIn parties w b → left_of Kind.Single w ≡ b.queue.items
+slot_left : {T : Type 0} (parties : ℕ) (w : World (MemoryState T) (Running T)) (b : Book T) → SimulatesOf T Kind.Single (LockHolder T) SlotHolds Idle FitsIn parties w b → left_of Kind.Single w ≡ b.queue.items
 slot_left {T} parties w b sim =
     let holds = sim.holds in
     let writing : (p : ℕ) → Writing sim.g p (call_at w p) = λ p. party_writing b.busy w.shared b.queue sim.g p (call_at w p) (b.open_call p) (sim.each p) in
@@ -90,7 +90,7 @@ slot_left {T} parties w b sim =
 -- a queue of one slot owes no more
 pub slot_laws : (T : Type 0) → KindLaws T Kind.Single
 slot_laws T = record {
-  G = Keeps T;
+  G = LockHolder T;
   Holds = SlotHolds;
   Idle = Idle;
   Fits = FitsIn;

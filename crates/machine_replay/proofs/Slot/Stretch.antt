@@ -3,12 +3,12 @@ use Rattle.std.proofs.Common.{ℕ, ◌==◌, if◌then◌else◌, ◌<◌, ◌�
 use Rattle.std.proofs.lemmas.Option.{none-some}
 use Rattle.queue_steps.specs.{State.State, Next.next_of, declared.steps.slot.SlotLocal.TheVariants.Pushed, declared.steps.slot.SlotLocal.TheVariants.Forced, declared.steps.slot.SlotLocal.TheVariants.Popped}
 use Rattle.machine_replay.specs.{Vocabulary.Kind, Vocabulary.Local, Vocabulary.Next, Vocabulary.Running, Book.Open, Progress.AppendsReplyWithin, Progress.TakesReplyWithin, Progress.HalfDoneTakesNone, Progress.UnhinderedWithin, Progress.NeverWaits}
-use Rattle.queue_laws.specs.{Common.Stand.Stand, Slot.SlotHolder.SlotHolder, Slot.SlotHolder.Nobody, Slot.SlotHolder.Taking, Slot.SlotHolder.Keeps, Slot.SlotHolder.Idle}
+use Rattle.queue_laws.specs.{Common.Stand.Stand, Slot.SlotHolder.SlotHolder, Slot.SlotHolder.Nobody, Slot.SlotHolder.Taking, Slot.SlotHolder.LockHolder, Slot.SlotHolder.Idle}
 use Rattle.machine_replay.proofs.{Engine.StandOf.running_of, Slot.Coded.one_slot, Slot.Coded.same_step, Slot.Coded.shared_same, Slot.Laws.SlotHolds, Slot.Laws.FitsIn, Slot.Laws.slot_engine, Progress.Appended.HasAppend, Progress.Appended.appends_reply, Progress.Taken.HasTake, Progress.Taken.takes_reply, Progress.Stretch.Rules, Progress.Stretch.Paces, Progress.Stretch.unhindered, Progress.Stretch.never_waits, Progress.Stretch.waits_take_none}
 use Rattle.queue_laws.specs.Slot.SlotShared as slot
 use Rattle.queue_laws.specs.Slot.SlotRows.{Codes, free_empty, At, push_try, push_put, force_put_empty, force_put_full, pop_take, code}
 use Rattle.queue_laws.proofs.Slot.{SlotHolder.own_alone, SlotRanks.rank, SlotRanks.rank_small, SlotRanks.rank_some, SlotRanks.Falls, SlotRanks.step_falls}
-use Rattle.machine_memory.specs.SharedMemory.{Shared}
+use Rattle.machine_memory.specs.SharedMemory.{MemoryState}
 use Rattle.machine_steps.specs.Steps.{step_of, running_after, next_after, carried_then, shared_then}
 
 -- a call that has had no effect has nothing of the lock
@@ -51,11 +51,11 @@ goes_on (Next.Step l t o) v r m word e falls = let same : record { local = l; to
 goes_on (Next.Reply x spare) v r m word e falls = cc
 
 module _ {T : Type 0} where
-  lock_is : (busy : ℕ) (s : Shared T) (Q : State T) (g : Keeps T) (p : ℕ) (r : Running T) (o : Open T) → SlotHolds s Q g → FitsIn busy s Q g p r o → ((j : ℕ) → j ≢ p → Idle g j) → s.lock ≡ word_at r.local Q.items Q.closed
+  lock_is : (busy : ℕ) (s : MemoryState T) (Q : State T) (g : LockHolder T) (p : ℕ) (r : Running T) (o : Open T) → SlotHolds s Q g → FitsIn busy s Q g p r o → ((j : ℕ) → j ≢ p → Idle g j) → s.lock ≡ word_at r.local Q.items Q.closed
   lock_is busy s Q g p r o holds f others =
       ap (λ c. c.lock) holds.shared_is ∙ (word_is holds.stands ∙ (ap (λ h. held_word h holds.items holds.c) (sym (own_alone g p others)) ∙ (at_word holds.items holds.c f.here ∙ ap (λ q. word_at r.local q.items q.closed) (sym holds.queue_is))))
 
-  own_falls : (busy : ℕ) (ok : Bool) (s : Shared T) (Q : State T) (g : Keeps T) (p : ℕ) (r r' : Running T) (o : Open T) → SlotHolds s Q g → FitsIn busy s Q g p r o → ((j : ℕ) → j ≢ p → Idle g j)
+  own_falls : (busy : ℕ) (ok : Bool) (s : MemoryState T) (Q : State T) (g : LockHolder T) (p : ℕ) (r r' : Running T) (o : Open T) → SlotHolds s Q g → FitsIn busy s Q g p r o → ((j : ℕ) → j ≢ p → Idle g j)
       → (step_of Kind.Single ok s r).call ≡ Some r' → rank r'.local (step_of Kind.Single ok s r).shared.lock < rank r.local s.lock
   own_falls busy ok s Q g p r r' o holds f others goes =
       subst (λ c. (step_of Kind.Single ok c r).call ≡ Some r' → rank r'.local (step_of Kind.Single ok c r).shared.lock < rank r.local c.lock) (sym holds.shared_is) from_here goes
@@ -73,7 +73,7 @@ module _ {T : Type 0} where
 
 abbrev pub slot_rules : (T : Type 0) → Rules T Kind.Single
 slot_rules T = record {
-  G = Keeps T;
+  G = LockHolder T;
   Holds = SlotHolds;
   Idle = Idle;
   Fits = FitsIn;
@@ -101,7 +101,7 @@ unfolding slot_paces
 slot_unhindered T = unhindered T Kind.Single (slot_rules T) (slot_paces T) (λ parties w st h p r is nobody. tt)
 
 -- a call that has the lock ends at its next step
-half_ends : {T : Type 0} {c : Stand T} {own : SlotHolder T} (ok : Bool) (s : Shared T) (r' : Running T) → At c own → c.effects ≢ []
+half_ends : {T : Type 0} {c : Stand T} {own : SlotHolder T} (ok : Bool) (s : MemoryState T) (r' : Running T) → At c own → c.effects ≢ []
     → (step_of Kind.Single ok s (running_of c)).call ≡ Some r' → ⊥
 half_ends ok s r' (push_put v) some goes = none-some r' goes
 half_ends ok s r' (force_put_empty v) some goes = none-some r' goes
@@ -116,7 +116,7 @@ pub slot_takes_none : (T : Type 0) → HalfDoneTakesNone T Kind.Single
 slot_takes_none T = waits_take_none T Kind.Single (slot_rules T) (λ busy ok s Q g p r r' o f some goes quiet. half_ends ok s r' f.here some goes)
 
 -- a call that has appended ends at its next step
-append_ends : {T : Type 0} {c : Stand T} {own : SlotHolder T} (ok : Bool) (s : Shared T) (r' : Running T) → At c own → HasAppend c.effects
+append_ends : {T : Type 0} {c : Stand T} {own : SlotHolder T} (ok : Bool) (s : MemoryState T) (r' : Running T) → At c own → HasAppend c.effects
     → (step_of Kind.Single ok s (running_of c)).call ≡ Some r' → ⊥
 append_ends ok s r' (push_put v) had goes = none-some r' goes
 append_ends ok s r' (force_put_empty v) had goes = none-some r' goes

@@ -3,12 +3,12 @@ use Rattle.std.proofs.Common.{ℕ, ◌≡◌, ◌≢◌, ◌∙◌, Bool, true, 
 use Rattle.std.proofs.lemmas.Bool.{eq-eqb}
 use Rattle.queue_steps.specs.{Next.next_of, SlotNext.unlocked, declared.steps.slot.SlotLocal.TheVariants.Pushing, declared.steps.slot.SlotLocal.TheVariants.Pushed, declared.steps.slot.SlotLocal.TheVariants.Forcing, declared.steps.slot.SlotLocal.TheVariants.Forced, declared.steps.slot.SlotLocal.TheVariants.Popping, declared.steps.slot.SlotLocal.TheVariants.Popped}
 use Rattle.machine_replay.specs.{Vocabulary.Kind, Vocabulary.Answer, Vocabulary.Local, Vocabulary.Running, Book.Open, Played.told_of, Played.world_after, Progress.Standing, Progress.Between, Progress.stands_by, Waits.SlotWaits, Waits.SlotCallsWait, Waits.IsBeside, Waits.GoesOn, Waits.IsToUnlock, Waits.IsPushToUnlock, Waits.IsPopToUnlock}
-use Rattle.queue_laws.specs.{Common.Stand.Stand, Slot.SlotHolder.SlotHolder, Slot.SlotHolder.Nobody, Slot.SlotHolder.Taking, Slot.SlotHolder.Keeps}
+use Rattle.queue_laws.specs.{Common.Stand.Stand, Slot.SlotHolder.SlotHolder, Slot.SlotHolder.Nobody, Slot.SlotHolder.Taking, Slot.SlotHolder.LockHolder}
 use Rattle.machine_replay.proofs.{Engine.StandOf.stand_of, Progress.Beside.beside, Progress.Beside.not_back, Slot.Coded.one_slot, Slot.Coded.same_step, Slot.Stretch.slot_rules, Progress.Stretch.Here, Progress.Stretch.Party, Progress.Stretch.reach, Progress.Stretch.first, Progress.Stretch.party-open}
 use Rattle.queue_laws.specs.Slot.SlotShared as slot
 use Rattle.queue_laws.specs.Slot.SlotRows.{Codes, free_empty, free_full, filling, swapping, taking, At, push_try, push_put, force_put_empty, force_put_full, pop_take}
 use Rattle.machine_steps.specs.{Left.opening_world, Steps.step_of, Steps.running_after, Steps.carried_then, World.World, World.call_at}
-use Rattle.machine_memory.specs.SharedMemory.{Shared}
+use Rattle.machine_memory.specs.SharedMemory.{MemoryState}
 
 -- where a call stands that has the lock
 abbrev HolderAt : {T : Type 0} → SlotHolder T → Local ℕ → Type 0
@@ -69,9 +69,9 @@ pop_back v y seen (taking true z) goes back = cc
 pop_back v y seen (taking false z) goes back = cc
 pop_back v y seen x goes back = let e = not_back y goes back in cc
 
-module _ {T : Type 0} (parties : ℕ) (w : World (Shared T) (Running T)) (st : ℕ → Standing) (h : Here T Kind.Single (slot_rules T) parties w st) where
+module _ {T : Type 0} (parties : ℕ) (w : World (MemoryState T) (Running T)) (st : ℕ → Standing) (h : Here T Kind.Single (slot_rules T) parties w st) where
   -- the party that has the lock is in a call, and stands where it gives it back
-  holder : (busy : ℕ) (s : Shared T) (g : Keeps T) (x : Option (Running T)) (y : Option (Open T)) → Party T Kind.Single (slot_rules T) parties busy s h.b.queue g g.who x y → g.hold ≢ Nobody → (r : Running T) × (x ≡ Some r) × HolderAt g.hold r.local
+  holder : (busy : ℕ) (s : MemoryState T) (g : LockHolder T) (x : Option (Running T)) (y : Option (Open T)) → Party T Kind.Single (slot_rules T) parties busy s h.b.queue g g.who x y → g.hold ≢ Nobody → (r : Running T) × (x ≡ Some r) × HolderAt g.hold r.local
   holder busy s g None None idle some = absurd (some (rw (eq-eqb g.who g.who refl) at idle))
   holder busy s g (Some r) (Some o) f some = (r, refl, holds_at (subst (At (stand_of r o.call o.effects)) (rw (eq-eqb g.who g.who refl) refl) f.here) some)
   holder busy s g x y f some = absurd f

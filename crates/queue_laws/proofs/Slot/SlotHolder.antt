@@ -1,7 +1,7 @@
 -- A step of one party leaves what the others have of the lock.
 use Rattle.std.proofs.Common.{ℕ, ◌≡◌, ◌≢◌, ◌==◌, ◌∙◌, inl, inr, Bool, true, false, if◌then◌else◌, refl, sym}
 use Rattle.std.proofs.lemmas.Bool.{eq-eqb, Decides.eqb_tells}
-use Rattle.queue_laws.specs.Slot.{SlotHolder.SlotHolder, SlotHolder.Nobody, SlotHolder.Filling, SlotHolder.Swapping, SlotHolder.Taking, SlotHolder.Keeps, SlotHolder.own_of, SlotHolder.Idle, SlotRows.Share, SlotRows.idle, SlotRows.fills, SlotRows.swaps, SlotRows.takes, SlotRows.Passes, SlotRows.stays, SlotRows.changes}
+use Rattle.queue_laws.specs.Slot.{SlotHolder.SlotHolder, SlotHolder.Nobody, SlotHolder.Filling, SlotHolder.Swapping, SlotHolder.Taking, SlotHolder.LockHolder, SlotHolder.own_of, SlotHolder.Idle, SlotRows.Share, SlotRows.idle, SlotRows.fills, SlotRows.swaps, SlotRows.takes, SlotRows.Passes, SlotRows.stays, SlotRows.changes}
 
 share_whole : {T : Type 0} (h : SlotHolder T) → Share h h
 share_whole Nobody = idle Nobody
@@ -34,7 +34,7 @@ own_other (changes h g) who p j e ne =
       ])
     ]
 
-pub own_alone : {T : Type 0} (g : Keeps T) (p : ℕ) → ((j : ℕ) → j ≢ p → Idle g j) → own_of g.who g.hold p ≡ g.hold
+pub own_alone : {T : Type 0} (g : LockHolder T) (p : ℕ) → ((j : ℕ) → j ≢ p → Idle g j) → own_of g.who g.hold p ≡ g.hold
 own_alone g p others =
     elim (eqb_tells p g.who) [
       | inl t ↦ rw t.0 refl

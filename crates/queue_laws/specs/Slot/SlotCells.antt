@@ -1,11 +1,11 @@
 -- One slot as a value, with who has the lock: the queue that it stands for, what a step of one party leaves for the others, and who has the slot.
 use Rattle.std.proofs.Common.{ℕ, ◌≡◌, ◌≢◌, Bool, Option, Some, None, List, [], ◌∷◌}
 use Rattle.queue_steps.specs.State.{State}
-use Rattle.queue_laws.specs.Slot.{SlotHolder.SlotHolder, SlotHolder.Nobody, SlotHolder.Filling, SlotHolder.Swapping, SlotHolder.Taking, SlotHolder.Keeps, SlotHolder.own_of, SlotRows.single}
+use Rattle.queue_laws.specs.Slot.{SlotHolder.SlotHolder, SlotHolder.Nobody, SlotHolder.Filling, SlotHolder.Swapping, SlotHolder.Taking, SlotHolder.LockHolder, SlotHolder.own_of, SlotRows.single}
 
 -- who has the lock, and the queue
 pub record Slot (T : Type 0) : Type 0 where
-  pub keeps : Keeps T
+  pub keeps : LockHolder T
   pub items : List T
   pub closed : Bool
   pub accepted : ℕ

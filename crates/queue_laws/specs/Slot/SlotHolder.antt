@@ -9,7 +9,7 @@ pub data SlotHolder (T : Type 0) : Type 0 where
   Taking : T → SlotHolder T
 
 -- which party has the lock, and what it is about to do
-pub record Keeps (T : Type 0) : Type 0 where
+pub record LockHolder (T : Type 0) : Type 0 where
   pub who : ℕ
   pub hold : SlotHolder T
 
@@ -17,5 +17,5 @@ pub record Keeps (T : Type 0) : Type 0 where
 abbrev pub own_of : {T : Type 0} → ℕ → SlotHolder T → ℕ → SlotHolder T
 own_of who h p = if p == who then h else Nobody
 
-abbrev pub Idle : {T : Type 0} → Keeps T → ℕ → Type 0
+abbrev pub Idle : {T : Type 0} → LockHolder T → ℕ → Type 0
 Idle g p = own_of g.who g.hold p ≡ Nobody

@@ -2,7 +2,7 @@
 ghost use Rattle.std.specs.Prelude.{◌≡◌, true};
 ghost use denote.RawPtr.{InBlock};
 ghost use Rattle.mem_blocks.specs.Seats.{Sits, Same};
-ghost use Rattle.test_support.specs.ClosingRule.{Keeps};
+ghost use Rattle.test_support.specs.ClosingRule.{KeepsHand};
 
 use crate::asserts::is;
 use mem_blocks::block::BlockPtr;
@@ -28,7 +28,7 @@ type Party = Seat<u8, View, Global>;
 fn sees_it_closed(queue: &Queue, party: &mut Party, tail: BlockPtr<u8>) -> bool
     requires { Sits party.old queue.now × InBlock tail.ptr × (tail.ptr ≡ queue.now.key.tail.ptr) }
     ensures seat { Same party.new party.old }
-    ensures kept { Keeps party.old.sitter party.new.sitter }
+    ensures kept { KeepsHand party.old.sitter party.new.sitter }
 {
     for _ in 0..LOOKS {
         if closing::is_closed(queue, party, tail) {
@@ -43,7 +43,7 @@ fn sees_it_closed(queue: &Queue, party: &mut Party, tail: BlockPtr<u8>) -> bool
 fn calls(queue: &Queue, party: &mut Party, tail: BlockPtr<u8>, answer: &AtomicBool) -> bool
     requires { Sits party.old queue.now × InBlock tail.ptr × (tail.ptr ≡ queue.now.key.tail.ptr) }
     ensures seat { Same party.new party.old }
-    ensures kept { Keeps party.old.sitter party.new.sitter }
+    ensures kept { KeepsHand party.old.sitter party.new.sitter }
 {
     if !closing::close(queue, party, tail) {
         return false;
@@ -55,7 +55,7 @@ fn calls(queue: &Queue, party: &mut Party, tail: BlockPtr<u8>, answer: &AtomicBo
 fn answers(queue: &Queue, party: &mut Party, tail: BlockPtr<u8>, answer: &AtomicBool) -> bool
     requires { Sits party.old queue.now × InBlock tail.ptr × (tail.ptr ≡ queue.now.key.tail.ptr) }
     ensures seat { Same party.new party.old }
-    ensures kept { Keeps party.old.sitter party.new.sitter }
+    ensures kept { KeepsHand party.old.sitter party.new.sitter }
 {
     let right = sees_it_closed(queue, party, tail) && !closing::close(queue, party, tail);
     answer.store(right, Ordering::SeqCst);

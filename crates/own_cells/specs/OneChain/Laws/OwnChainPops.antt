@@ -3,7 +3,7 @@ use Rattle.std.specs.Prelude.{◌==◌, slice_set, get_or, bit_or, is_some, IsSo
 use Rattle.std.proofs.Common.{◌≡◌, ◌≢◌, ◌⊎◌, ℕ, suc, ◌+◌, ◌-◌, ◌*◌, ◌/◌, ◌%◌, ◌<◌, Bool, true, false, List, length, Option, Some, None, Ok, Err, refl, arith, sym, ap, ◌∙◌, subst, inl, inr}
 use Rattle.std.proofs.lemmas.List.{get_or-set_same, get_or-set_other, length-set}
 use Rattle.queue_steps.specs.{declared.sizes.TheConstants.BLOCK_SLOTS, declared.sizes.TheConstants.SOLO_STEPS, declared.model.Call.Call as call, declared.model.Reply.Reply as reply, declared.errors.PopError.PopError as pop, declared.steps.types.Word.Word as word, declared.steps.ring.TheConstants.TAIL_STEP, declared.steps.chain.TheConstants.WRITE, declared.steps.chain.TheConstants.READ, declared.steps.chain.ChainLocal.ChainLocal as chain, Effect.rest, Words.position_of, Words.is_shut, ChainWords.block_at, ChainWords.offset_of, ChainNext.loads, ChainNext.takes}
-use Rattle.own_cells.specs.{declared.chain.own_chain.Name.Name, OneRing.Laws.Numbers.equal_nat, OneRing.Laws.Numbers.apart_nat, OneRing.Laws.Numbers.is_equal, OneRing.Laws.Numbers.is_apart, OneRing.Laws.Numbers.same_or_not, OneRing.Laws.Numbers.equal_or_above, OneRing.Laws.Numbers.last_or_not, OneChain.OwnChainOwned.taken, OneChain.OwnChainOwned.accepted, OneChain.OwnChainOwned.cell_of, OneChain.OwnChainOwned.own_chain_owned, OneChain.OwnChainOwned.IsBare, OneChain.OwnChainOwned.IsIdle, OneChain.Laws.OwnChainRuns.OwnChainEnds, OneChain.Laws.OwnChainRuns.Named-with, OneChain.Laws.OwnChainRuns.place_below, OneChain.Laws.OwnChainRuns.set_cell, OneChain.Laws.OwnChainKeeps.cell_in, OneChain.Laws.OwnChainChains.rest-set, OneChain.Laws.OwnChainChains.IsEmptied-all, OneChain.Laws.OwnChainPop.run-empty, OneChain.Laws.OwnChainPop.run-known, OneChain.Laws.OwnChainPop.run-tail, OneChain.Laws.OwnChainPop.run-taken, OneChain.Laws.OwnChainPop.run-passed, OneChain.Laws.OwnChainPushes.place-is, OneChain.Laws.OwnChainPushes.named-at, OneChain.Laws.OwnChainPushes.last_name, OneChain.Laws.OwnChainPushes.last-is, OneChain.Laws.OwnChainSequential.Right, OneChain.Laws.OwnChainSequential.sequential}
+use Rattle.own_cells.specs.{declared.chain.own_chain.Name.Name, OneRing.Laws.Numbers.equal_nat, OneRing.Laws.Numbers.apart_nat, OneRing.Laws.Numbers.is_equal, OneRing.Laws.Numbers.is_apart, OneRing.Laws.Numbers.same_or_not, OneRing.Laws.Numbers.equal_or_above, OneRing.Laws.Numbers.last_or_not, OneChain.OwnChainOwned.taken, OneChain.OwnChainOwned.accepted, OneChain.OwnChainOwned.cell_of, OneChain.OwnChainOwned.own_chain_owned, OneChain.OwnChainOwned.IsBare, OneChain.OwnChainOwned.IsIdle, OneChain.Laws.OwnChainRuns.OwnChainEnds, OneChain.Laws.OwnChainRuns.Named-with, OneChain.Laws.OwnChainRuns.place_below, OneChain.Laws.OwnChainRuns.set_cell, OneChain.Laws.OwnChainKeeps.cell_in, OneChain.Laws.OwnChainChains.rest-set, OneChain.Laws.OwnChainChains.IsEmptied-all, OneChain.Laws.OwnChainPop.run-empty, OneChain.Laws.OwnChainPop.run-known, OneChain.Laws.OwnChainPop.run-tail, OneChain.Laws.OwnChainPop.run-taken, OneChain.Laws.OwnChainPop.run-passed, OneChain.Laws.OwnChainPushes.place-is, OneChain.Laws.OwnChainPushes.named-at, OneChain.Laws.OwnChainPushes.last_name, OneChain.Laws.OwnChainPushes.last-is, OneChain.Laws.OwnChainSequential.EndsAnswered, OneChain.Laws.OwnChainSequential.sequential}
 use Rattle.call_driver.specs.EndsIn.{Replied}
 use Rattle.own_cells.specs.OneChain.OwnChainCells.{Piece, OwnChain, piece_at, place_of, piece_of, with_piece, Named, CanFollow, IsEmptied}
 use Rattle.own_cells.specs.OneChain.Laws.OwnChainLeaves.{Laid, head-offset, head-word, Moved, popped, passed, idle-popped, idle-passed, items-front, queue-popped, queue-passed}
@@ -63,18 +63,18 @@ module _ {T : Type 0} (r : OwnChain T) (i : IsIdle r) (l : Laid r) where
         first-cell n j (omega arith) (omega arith) ∙ l.holds.read n (omega arith) (omega arith)
 
     -- a pop of an item that is not the last of its block
-    pub take-here : (steps new : ℕ) → taken r % BLOCK_SLOTS + 1 < BLOCK_SLOTS → Moved r new → OwnChainEnds (suc (suc (suc (suc steps)))) (takes r.head first_name new) r None (Right call.Pop r)
+    pub take-here : (steps new : ℕ) → taken r % BLOCK_SLOTS + 1 < BLOCK_SLOTS → Moved r new → OwnChainEnds (suc (suc (suc (suc steps)))) (takes r.head first_name new) r None (EndsAnswered call.Pop r)
     take-here steps new inner m =
         let offset = head-offset r i in
         let cell = front-cell in
         let x : T = front.0 in
         let place : place_of r first_name ≡ taken r / BLOCK_SLOTS - taken r / BLOCK_SLOTS = first-place ∙ omega arith in
-        let Done : ℕ → ℕ → Type 0 = λ j s. Right call.Pop r (reply.Pop (Ok tt)) None (Some x) (record r { head = new; pieces = set_cell r.pieces j s (bit_or WRITE READ) None }) in
+        let Done : ℕ → ℕ → Type 0 = λ j s. EndsAnswered call.Pop r (reply.Pop (Ok tt)) None (Some x) (record r { head = new; pieces = set_cell r.pieces j s (bit_or WRITE READ) None }) in
         let idle = idle-popped r new i l some m (λ e. omega arith) in
         let items = items-front r new i l some m x front.1 in
         let end : Done (taken r / BLOCK_SLOTS - taken r / BLOCK_SLOTS) (taken r % BLOCK_SLOTS) =
         (idle, (reply.Pop (Ok x), refl, sequential r (popped r new) call.Pop (reply.Pop (Ok x)) idle (rw items refl) (queue-popped r new i l some m x (λ e. omega arith) front.1) (λ none. absurd (omega arith)))) in
-        run-taken steps r first_name new x (Right call.Pop r) (omega arith) first-named (ap (λ (c : ℕ × Option T). c.0) cell) (ap (λ (c : ℕ × Option T). c.1) cell)
+        run-taken steps r first_name new x (EndsAnswered call.Pop r) (omega arith) first-named (ap (λ (c : ℕ × Option T). c.0) cell) (ap (λ (c : ℕ × Option T). c.1) cell)
         (subst (λ j. Done j (offset_of r.head)) (sym place) (subst (λ s. Done (taken r / BLOCK_SLOTS - taken r / BLOCK_SLOTS) s) (sym offset) end))
 
     -- the head moves into the next block
@@ -130,7 +130,7 @@ module _ {T : Type 0} (r : OwnChain T) (i : IsIdle r) (l : Laid r) where
 
     -- the block is given up, and the call has its reply
     pass-ends : taken r % BLOCK_SLOTS + 1 ≡ BLOCK_SLOTS
-        → Right call.Pop r (reply.Pop (Ok tt)) (Some first_name) (Some front.0) (record r { head = final_head; head_block = Some (piece_at r.pieces 1).name; pieces = slice_set r.pieces (place_of r first_name) emptied })
+        → EndsAnswered call.Pop r (reply.Pop (Ok tt)) (Some first_name) (Some front.0) (record r { head = final_head; head_block = Some (piece_at r.pieces 1).name; pieces = slice_set r.pieces (place_of r first_name) emptied })
     pass-ends outer =
         let left : OwnChain T = record r { head = final_head; head_block = Some (piece_at r.pieces 1).name } in
         let done : OwnChain T = with_piece left first_name emptied in
@@ -151,28 +151,28 @@ module _ {T : Type 0} (r : OwnChain T) (i : IsIdle r) (l : Laid r) where
         ((Named-with left first_name emptied first-named first-named.2, number ∙ omega arith, subst Empty (sym got) (all-empty outer)), λ y is. subst After (sym (is ∙ same)) replied)
 
     -- a pop of the last item of its block
-    take-last : (steps new : ℕ) → BLOCK_SLOTS - 2 < steps → taken r % BLOCK_SLOTS + 1 ≡ BLOCK_SLOTS → OwnChainEnds (suc (suc (suc (suc (suc (suc (suc steps))))))) (takes r.head first_name new) r None (Right call.Pop r)
+    take-last : (steps new : ℕ) → BLOCK_SLOTS - 2 < steps → taken r % BLOCK_SLOTS + 1 ≡ BLOCK_SLOTS → OwnChainEnds (suc (suc (suc (suc (suc (suc (suc steps))))))) (takes r.head first_name new) r None (EndsAnswered call.Pop r)
     take-last steps new enough outer =
         let offset = head-offset r i in
         let cell = front-cell in
         let below = second-below outer in
         let next : (piece_of r first_name).next ≡ Some (piece_at r.pieces 1).name = ap (λ j. (piece_at r.pieces j).next) first-place ∙ l.linked.next 0 below in
-        run-passed steps r first_name (piece_at r.pieces 1).name new front.0 (piece_of r (piece_at r.pieces 1).name).next (Right call.Pop r) enough (head-word r i) (omega arith)
+        run-passed steps r first_name (piece_at r.pieces 1).name new front.0 (piece_of r (piece_at r.pieces 1).name).next (EndsAnswered call.Pop r) enough (head-word r i) (omega arith)
         first-named (can-follow r i l 0 filled) next (can-follow r i l 1 below) refl
         (ap (λ (c : ℕ × Option T). c.0) cell) (ap (λ (c : ℕ × Option T). c.1) cell) (λ j low. ap (λ (c : ℕ × Option T). c.0) (read-cell outer j low)) (pass-ends outer)
 
     -- a pop that claims the front, whatever bit the head gets
     take-ends : (steps new : ℕ) → BLOCK_SLOTS - 2 < steps → position_of new ≡ position_of r.head + 1 → (new % 2 ≡ 1 → taken r / BLOCK_SLOTS < accepted r / BLOCK_SLOTS)
-        → OwnChainEnds (suc (suc (suc (suc (suc (suc (suc steps))))))) (takes r.head first_name new) r None (Right call.Pop r)
+        → OwnChainEnds (suc (suc (suc (suc (suc (suc (suc steps))))))) (takes r.head first_name new) r None (EndsAnswered call.Pop r)
     take-ends steps new enough up known = go (last_or_not (taken r % BLOCK_SLOTS) BLOCK_SLOTS (omega arith))
       where
-        go : (taken r % BLOCK_SLOTS + 1 ≡ BLOCK_SLOTS) ⊎ (taken r % BLOCK_SLOTS + 1 < BLOCK_SLOTS) → OwnChainEnds (suc (suc (suc (suc (suc (suc (suc steps))))))) (takes r.head first_name new) r None (Right call.Pop r)
+        go : (taken r % BLOCK_SLOTS + 1 ≡ BLOCK_SLOTS) ⊎ (taken r % BLOCK_SLOTS + 1 < BLOCK_SLOTS) → OwnChainEnds (suc (suc (suc (suc (suc (suc (suc steps))))))) (takes r.head first_name new) r None (EndsAnswered call.Pop r)
         go (inl outer) = take-last steps new enough outer
         go (inr inner) =
             let rests = i.head_rests in
             take-here (suc (suc (suc steps))) new inner (record { rests = omega arith; counted = omega arith; known = λ bit. let more = known bit in omega arith })
 
-    take-answers : OwnChainEnds SOLO_STEPS (loads chain.PopHead word.Head) r None (Right call.Pop r)
+    take-answers : OwnChainEnds SOLO_STEPS (loads chain.PopHead word.Head) r None (EndsAnswered call.Pop r)
     take-answers = go (r.head % 2 == 1) (block_at (position_of r.tail) == block_at (position_of r.head)) refl refl
       where
         rests : (offset_of r.head == BLOCK_SLOTS) ≡ false
@@ -181,36 +181,36 @@ module _ {T : Type 0} (r : OwnChain T) (i : IsIdle r) (l : Laid r) where
         differ : (position_of r.tail == position_of r.head) ≡ false
         differ = apart_nat (position_of r.tail) (position_of r.head) (let h = i.head_rests in let t = i.tail_rests in omega arith)
 
-        go : (odd same : Bool) → (r.head % 2 == 1) ≡ odd → (block_at (position_of r.tail) == block_at (position_of r.head)) ≡ same → OwnChainEnds SOLO_STEPS (loads chain.PopHead word.Head) r None (Right call.Pop r)
+        go : (odd same : Bool) → (r.head % 2 == 1) ≡ odd → (block_at (position_of r.tail) == block_at (position_of r.head)) ≡ same → OwnChainEnds SOLO_STEPS (loads chain.PopHead word.Head) r None (EndsAnswered call.Pop r)
         go true same e1 e2 =
             let bit = is_equal (r.head % 2) 1 e1 in
-            run-known r first_name (Right call.Pop r) (head-word r i) rests e1 l.front (take-ends (SOLO_STEPS - 9) (r.head + TAIL_STEP) (omega arith) (omega arith) (λ e. i.known bit))
+            run-known r first_name (EndsAnswered call.Pop r) (head-word r i) rests e1 l.front (take-ends (SOLO_STEPS - 9) (r.head + TAIL_STEP) (omega arith) (omega arith) (λ e. i.known bit))
         go false true e1 e2 =
             let even = is_apart (r.head % 2) 1 e1 in
-            run-tail r first_name (r.head + TAIL_STEP) (Right call.Pop r) (head-word r i) rests e1 l.front differ (rw e2 refl)
+            run-tail r first_name (r.head + TAIL_STEP) (EndsAnswered call.Pop r) (head-word r i) rests e1 l.front differ (rw e2 refl)
             (take-ends (SOLO_STEPS - 10) (r.head + TAIL_STEP) (omega arith) (omega arith) (λ e. absurd (even (omega arith))))
         go false false e1 e2 =
             let even = is_apart (r.head % 2) 1 e1 in
             let other = is_apart (block_at (position_of r.tail)) (block_at (position_of r.head)) e2 in
             let h = i.head_rests in
             let t = i.tail_rests in
-            run-tail r first_name (r.head + TAIL_STEP + 1) (Right call.Pop r) (head-word r i) rests e1 l.front differ (rw e2 refl)
+            run-tail r first_name (r.head + TAIL_STEP + 1) (EndsAnswered call.Pop r) (head-word r i) rests e1 l.front differ (rw e2 refl)
             (take-ends (SOLO_STEPS - 10) (r.head + TAIL_STEP + 1) (omega arith) (omega arith) (λ e. omega arith))
 
-pub pop-answers : {T : Type 0} (r : OwnChain T) → IsIdle r → OwnChainEnds SOLO_STEPS (loads chain.PopHead word.Head) r None (Right call.Pop r)
+pub pop-answers : {T : Type 0} (r : OwnChain T) → IsIdle r → OwnChainEnds SOLO_STEPS (loads chain.PopHead word.Head) r None (EndsAnswered call.Pop r)
 pop-answers {T} r i = go (equal_or_above (taken r) (accepted r) i.order) i.blocks
   where
-    none-found : accepted r ≡ taken r → OwnChainEnds SOLO_STEPS (loads chain.PopHead word.Head) r None (Right call.Pop r)
+    none-found : accepted r ≡ taken r → OwnChainEnds SOLO_STEPS (loads chain.PopHead word.Head) r None (EndsAnswered call.Pop r)
     none-found empty =
         let h = i.head_rests in
         let t = i.tail_rests in
         let known = i.known in
         let none : accepted r - taken r ≡ 0 = omega arith in
         let odd : r.head % 2 ≢ 1 = λ e. let more = known e in omega arith in
-        run-empty r (Right call.Pop r) (head-word r i) (apart_nat (offset_of r.head) BLOCK_SLOTS (omega arith)) (apart_nat (r.head % 2) 1 odd) odd (equal_nat (position_of r.tail) (position_of r.head) (omega arith))
+        run-empty r (EndsAnswered call.Pop r) (head-word r i) (apart_nat (offset_of r.head) BLOCK_SLOTS (omega arith)) (apart_nat (r.head % 2) 1 odd) odd (equal_nat (position_of r.tail) (position_of r.head) (omega arith))
         (i, (reply.Pop (Err (if is_shut r.tail then pop.Closed else pop.Empty)), refl, sequential r r call.Pop (reply.Pop (Err (if is_shut r.tail then pop.Closed else pop.Empty))) i (rw none refl) (rw none refl) (λ x. refl)))
 
-    go : (accepted r ≡ taken r) ⊎ (taken r < accepted r) → IsBare r.first r.pieces r.head_block r.tail_block (accepted r) ⊎ Laid r → OwnChainEnds SOLO_STEPS (loads chain.PopHead word.Head) r None (Right call.Pop r)
+    go : (accepted r ≡ taken r) ⊎ (taken r < accepted r) → IsBare r.first r.pieces r.head_block r.tail_block (accepted r) ⊎ Laid r → OwnChainEnds SOLO_STEPS (loads chain.PopHead word.Head) r None (EndsAnswered call.Pop r)
     go (inl empty) blocks = none-found empty
     go (inr some) (inl bare) = let unused = bare.unused in absurd (omega arith)
     go (inr some) (inr l) = take-answers r i l some

@@ -2,7 +2,7 @@
 use Rattle.std.specs.Prelude.{◌==◌}
 use Rattle.std.proofs.Common.{◌≡◌, ◌⊎◌, ℕ, suc, ◌+◌, ◌-◌, ◌/◌, ◌%◌, ◌<◌, Bool, true, false, List, [], ◌∷◌, ◌++◌, length, Option, Some, None, refl, arith, sym, ap, ◌∙◌, subst, inl, inr}
 use Rattle.queue_steps.specs.{declared.sizes.TheConstants.LIMIT, declared.sizes.TheConstants.BLOCK_SLOTS, declared.sizes.TheConstants.SOLO_STEPS, declared.steps.types.Word.Word as word, declared.steps.ring.TheConstants.TAIL_STEP, declared.steps.ring.PushKind.PushKind, declared.steps.chain.TheConstants.WRITE, declared.steps.chain.ChainLocal.ChainLocal as chain, State.State, Words.is_shut, ChainWords.offset_of, RingNext.pushed_reply, ChainNext.loads, ChainNext.is_last_slot, ChainNext.claims, ChainNext.asks}
-use Rattle.own_cells.specs.{declared.chain.own_chain.Name.Name, OneRing.Laws.Numbers.equal_nat, OneRing.Laws.Numbers.apart_nat, OneRing.Laws.Numbers.is_below, OneRing.Laws.Numbers.last_or_not, OneChain.OwnChainCells.Piece, OneChain.OwnChainCells.OwnChain, OneChain.OwnChainCells.piece_at, OneChain.OwnChainCells.place_of, OneChain.OwnChainCells.piece_of, OneChain.OwnChainCells.Named, OneChain.OwnChainCells.laid, OneChain.OwnChainOwned.taken, OneChain.OwnChainOwned.accepted, OneChain.OwnChainOwned.cell_of, OneChain.OwnChainOwned.Linked, OneChain.OwnChainOwned.IsBare, OneChain.OwnChainOwned.IsIdle, OneChain.Laws.OwnChainRuns.Ending, OneChain.Laws.OwnChainRuns.OwnChainEnds, OneChain.Laws.OwnChainRuns.ask_step, OneChain.Laws.OwnChainRuns.set_cell, OneChain.Laws.OwnChainKeeps.cell_in, OneChain.Laws.OwnChainChains.laid_behind, OneChain.Laws.OwnChainChains.chained, OneChain.Laws.OwnChainChains.length-laid, OneChain.Laws.OwnChainChains.laid-old, OneChain.Laws.OwnChainChains.laid-new, OneChain.Laws.OwnChainChains.lay-same, OneChain.Laws.OwnChainPush.run-closed, OneChain.Laws.OwnChainPush.run-spent, OneChain.Laws.OwnChainPush.run-block, OneChain.Laws.OwnChainPush.run-here, OneChain.Laws.OwnChainPush.run-behind, OneChain.Laws.OwnChainPush.run-first, OneChain.Laws.OwnChainSequential.Right, OneChain.Laws.OwnChainSequential.push_call, OneChain.Laws.OwnChainSequential.right-closed, OneChain.Laws.OwnChainSequential.right-spent, OneChain.Laws.OwnChainSequential.right-pushed, OneChain.Laws.OwnChainSequential.right-refused}
+use Rattle.own_cells.specs.{declared.chain.own_chain.Name.Name, OneRing.Laws.Numbers.equal_nat, OneRing.Laws.Numbers.apart_nat, OneRing.Laws.Numbers.is_below, OneRing.Laws.Numbers.last_or_not, OneChain.OwnChainCells.Piece, OneChain.OwnChainCells.OwnChain, OneChain.OwnChainCells.piece_at, OneChain.OwnChainCells.place_of, OneChain.OwnChainCells.piece_of, OneChain.OwnChainCells.Named, OneChain.OwnChainCells.laid, OneChain.OwnChainOwned.taken, OneChain.OwnChainOwned.accepted, OneChain.OwnChainOwned.cell_of, OneChain.OwnChainOwned.Linked, OneChain.OwnChainOwned.IsBare, OneChain.OwnChainOwned.IsIdle, OneChain.Laws.OwnChainRuns.Ending, OneChain.Laws.OwnChainRuns.OwnChainEnds, OneChain.Laws.OwnChainRuns.ask_step, OneChain.Laws.OwnChainRuns.set_cell, OneChain.Laws.OwnChainKeeps.cell_in, OneChain.Laws.OwnChainChains.laid_behind, OneChain.Laws.OwnChainChains.chained, OneChain.Laws.OwnChainChains.length-laid, OneChain.Laws.OwnChainChains.laid-old, OneChain.Laws.OwnChainChains.laid-new, OneChain.Laws.OwnChainChains.lay-same, OneChain.Laws.OwnChainPush.run-closed, OneChain.Laws.OwnChainPush.run-spent, OneChain.Laws.OwnChainPush.run-block, OneChain.Laws.OwnChainPush.run-here, OneChain.Laws.OwnChainPush.run-behind, OneChain.Laws.OwnChainPush.run-first, OneChain.Laws.OwnChainSequential.EndsAnswered, OneChain.Laws.OwnChainSequential.push_call, OneChain.Laws.OwnChainSequential.right-closed, OneChain.Laws.OwnChainSequential.right-spent, OneChain.Laws.OwnChainSequential.right-pushed, OneChain.Laws.OwnChainSequential.right-refused}
 use Rattle.own_cells.specs.OneChain.Laws.OwnChainLeaves.{Laid, tail-offset, tail-word, room, pushed, opened, idle-pushed, queue-pushed, ready-here, ready-behind, laid-opened, idle-opened, queue-opened}
 
 -- the block at a place is named by its number
@@ -90,19 +90,19 @@ module _ {T : Type 0} (r : OwnChain T) (v : T) (p : PushKind) (i : IsIdle r) (un
   rests = apart_nat (offset_of r.tail) BLOCK_SLOTS (let t = i.tail_rests in omega arith)
 
   -- into a chain with blocks
-  into-laid : Laid r → (accepted r % BLOCK_SLOTS + 1 ≡ BLOCK_SLOTS) ⊎ (accepted r % BLOCK_SLOTS + 1 < BLOCK_SLOTS) → OwnChainEnds SOLO_STEPS (loads (chain.PushTail p None) word.Tail) r (Some v) (Right (push_call p v) r)
+  into-laid : Laid r → (accepted r % BLOCK_SLOTS + 1 ≡ BLOCK_SLOTS) ⊎ (accepted r % BLOCK_SLOTS + 1 < BLOCK_SLOTS) → OwnChainEnds SOLO_STEPS (loads (chain.PushTail p None) word.Tail) r (Some v) (EndsAnswered (push_call p v) r)
   into-laid l (inl outer) =
       let offset = tail-offset r i in
       let last : is_last_slot r.tail ≡ true = equal_nat (offset_of r.tail + 1) BLOCK_SLOTS (omega arith) in
       let b : Name T = last_name r i l in
-      run-block r v p (asks p r.tail (Some b)) (Right (push_call p v) r) (tail-word r i) unshut unspent rests (rw (last-is r i l, last) refl)
-      (ask_step (SOLO_STEPS - 3) (chain.Asking p r.tail (Some b)) r (Some v) (Right (push_call p v) r) i.no_spare tt (right-refused r v i p (refl, unshut, inr (omega arith)) (λ unused. absurd (omega arith)))
+      run-block r v p (asks p r.tail (Some b)) (EndsAnswered (push_call p v) r) (tail-word r i) unshut unspent rests (rw (last-is r i l, last) refl)
+      (ask_step (SOLO_STEPS - 3) (chain.Asking p r.tail (Some b)) r (Some v) (EndsAnswered (push_call p v) r) i.no_spare tt (right-refused r v i p (refl, unshut, inr (omega arith)) (λ unused. absurd (omega arith)))
       (λ f is.
       let ending : place_of r b + 1 ≡ length r.pieces = let place = last-place r i l in let count = l.count in let order = i.order in omega arith in
       let ps : List (Piece T) = chained (laid_behind r.pieces f) (place_of r b) f in
       let ready = ready-behind r (place_of r b) f i l outer ending is in (
         tail-word r i,
-        push-behind (SOLO_STEPS - 9) r f v p (Right (push_call p v) r) i l outer is
+        push-behind (SOLO_STEPS - 9) r f v p (EndsAnswered (push_call p v) r) i l outer is
             (right-pushed r v i p (pushed r ps (Some f) (r.tail + TAIL_STEP + TAIL_STEP) None v) unshut unspent (idle-pushed r ps (Some f) (r.tail + TAIL_STEP + TAIL_STEP) None v i ready limit refl) ready.counted
             (queue-pushed r ps (Some f) (r.tail + TAIL_STEP + TAIL_STEP) None v i ready)),
       )))
@@ -111,18 +111,18 @@ module _ {T : Type 0} (r : OwnChain T) (v : T) (p : PushKind) (i : IsIdle r) (un
       let other : is_last_slot r.tail ≡ false = apart_nat (offset_of r.tail + 1) BLOCK_SLOTS (omega arith) in
       let ready = ready-here r i l (λ e. omega arith) in
       let done : OwnChain T = pushed r r.pieces r.tail_block (r.tail + TAIL_STEP) r.spare v in
-      run-block r v p (claims p r.tail (last_name r i l) None) (Right (push_call p v) r) (tail-word r i) unshut unspent rests (rw (last-is r i l, other) refl)
-      (push-here (SOLO_STEPS - 5) r v p (Right (push_call p v) r) i l inner
+      run-block r v p (claims p r.tail (last_name r i l) None) (EndsAnswered (push_call p v) r) (tail-word r i) unshut unspent rests (rw (last-is r i l, other) refl)
+      (push-here (SOLO_STEPS - 5) r v p (EndsAnswered (push_call p v) r) i l inner
       (right-pushed r v i p done unshut unspent (idle-pushed r r.pieces r.tail_block (r.tail + TAIL_STEP) r.spare v i ready limit i.no_spare) ready.counted (queue-pushed r r.pieces r.tail_block (r.tail + TAIL_STEP) r.spare v i ready)))
 
   -- into a chain without blocks
-  into-bare : IsBare r.first r.pieces r.head_block r.tail_block (accepted r) → OwnChainEnds SOLO_STEPS (loads (chain.PushTail p None) word.Tail) r (Some v) (Right (push_call p v) r)
+  into-bare : IsBare r.first r.pieces r.head_block r.tail_block (accepted r) → OwnChainEnds SOLO_STEPS (loads (chain.PushTail p None) word.Tail) r (Some v) (EndsAnswered (push_call p v) r)
   into-bare bare =
       let few = i.few in
       let unused = bare.unused in
       let none : length r.pieces ≡ 0 = ap length bare.none in
-      run-block r v p (asks p r.tail None) (Right (push_call p v) r) (tail-word r i) unshut unspent rests (rw bare.back refl)
-      (run-first (SOLO_STEPS - 8) r v p (Right (push_call p v) r) i.no_spare bare.back (tail-word r i) (omega arith) (right-refused r v i p (refl, unshut, inl unused) (λ unused. none))
+      run-block r v p (asks p r.tail None) (EndsAnswered (push_call p v) r) (tail-word r i) unshut unspent rests (rw bare.back refl)
+      (run-first (SOLO_STEPS - 8) r v p (EndsAnswered (push_call p v) r) i.no_spare bare.back (tail-word r i) (omega arith) (right-refused r v i p (refl, unshut, inl unused) (λ unused. none))
       (λ f is.
       let s : OwnChain T = opened r f in
       let j = idle-opened r f i bare is in
@@ -130,21 +130,21 @@ module _ {T : Type 0} (r : OwnChain T) (v : T) (p : PushKind) (i : IsIdle r) (un
       let ready = ready-here s j l (λ e. omega arith) in
       let done : OwnChain T = pushed s s.pieces s.tail_block (s.tail + TAIL_STEP) s.spare v in
       let Appended : State T → State T = λ q. record q { items = q.items ++ v ∷ []; accepted = q.accepted + 1 } in
-      let Claims : Name T → Type 0 = λ b. OwnChainEnds (SOLO_STEPS - 5) (claims p r.tail b None) s (Some v) (Right (push_call p v) r) in
+      let Claims : Name T → Type 0 = λ b. OwnChainEnds (SOLO_STEPS - 5) (claims p r.tail b None) s (Some v) (EndsAnswered (push_call p v) r) in
       subst Claims (sym (named f (last_name s j l) (last-is s j l)))
-      (push-here (SOLO_STEPS - 8) s v p (Right (push_call p v) r) j l (omega arith)
+      (push-here (SOLO_STEPS - 8) s v p (EndsAnswered (push_call p v) r) j l (omega arith)
       (right-pushed r v i p done unshut unspent (idle-pushed s s.pieces s.tail_block (s.tail + TAIL_STEP) s.spare v j ready limit refl) ready.counted
       (queue-pushed s s.pieces s.tail_block (s.tail + TAIL_STEP) s.spare v j ready ∙ ap Appended (queue-opened r f i bare is))))))
     where
       named : (x y : Name T) → ◌≡◌ {A = Option (Name T)} (Some x) (Some y) → x ≡ y
       named x y e = cc
 
-pub push-answers : {T : Type 0} (r : OwnChain T) (v : T) (p : PushKind) → IsIdle r → OwnChainEnds SOLO_STEPS (loads (chain.PushTail p None) word.Tail) r (Some v) (Right (push_call p v) r)
+pub push-answers : {T : Type 0} (r : OwnChain T) (v : T) (p : PushKind) → IsIdle r → OwnChainEnds SOLO_STEPS (loads (chain.PushTail p None) word.Tail) r (Some v) (EndsAnswered (push_call p v) r)
 push-answers {T} r v p i = go (is_shut r.tail) (accepted r == LIMIT) refl refl i.blocks
   where
     go : (b1 b2 : Bool) → is_shut r.tail ≡ b1 → (accepted r == LIMIT) ≡ b2 → IsBare r.first r.pieces r.head_block r.tail_block (accepted r) ⊎ Laid r
-        → OwnChainEnds SOLO_STEPS (loads (chain.PushTail p None) word.Tail) r (Some v) (Right (push_call p v) r)
-    go true b2 e1 e2 blocks = run-closed r v p (Right (push_call p v) r) (tail-word r i) e1 (right-closed r v i p e1)
-    go false true e1 e2 blocks = run-spent r v p (Right (push_call p v) r) (tail-word r i) e1 e2 (right-spent r v i p e1 e2)
+        → OwnChainEnds SOLO_STEPS (loads (chain.PushTail p None) word.Tail) r (Some v) (EndsAnswered (push_call p v) r)
+    go true b2 e1 e2 blocks = run-closed r v p (EndsAnswered (push_call p v) r) (tail-word r i) e1 (right-closed r v i p e1)
+    go false true e1 e2 blocks = run-spent r v p (EndsAnswered (push_call p v) r) (tail-word r i) e1 e2 (right-spent r v i p e1 e2)
     go false false e1 e2 (inl bare) = into-bare r v p i e1 e2 bare
     go false false e1 e2 (inr l) = into-laid r v p i e1 e2 l (last_or_not (accepted r % BLOCK_SLOTS) BLOCK_SLOTS (omega arith))

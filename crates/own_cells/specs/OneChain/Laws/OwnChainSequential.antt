@@ -6,8 +6,8 @@ use Rattle.call_driver.specs.EndsIn.{EndsRight, Answered}
 use Rattle.own_cells.specs.{OneRing.Laws.Numbers.is_equal, OneRing.Laws.Numbers.is_apart, OneRing.Laws.Numbers.equal_or_above, OneChain.OwnChainCells.OwnChain, OneChain.OwnChainCells.kind_of_own_chain, OneChain.OwnChainCells.own_chain_can_touch, OneChain.OwnChainCells.own_chain_touches, OneChain.OwnChainCells.own_chain_can_perform, OneChain.OwnChainCells.own_chain_performs, OneChain.OwnChainCells.own_chain_can_release, OneChain.OwnChainCells.own_chain_releases, OneChain.OwnChainOwned.taken, OneChain.OwnChainOwned.accepted, OneChain.OwnChainOwned.own_chain_queue, OneChain.OwnChainOwned.own_chain_owned, OneChain.OwnChainOwned.IsBare, OneChain.OwnChainOwned.IsLaid, OneChain.OwnChainOwned.IsIdle, OneChain.Laws.OwnChainRuns.Ending, OneChain.Laws.OwnChainKeeps.length-items_from, OneChain.Laws.OwnChainLeaves.marked, OneChain.Laws.OwnChainLeaves.idle-marked, OneChain.Laws.OwnChainLeaves.queue-marked}
 
 -- what a call has to end with
-abbrev pub Right : {T : Type 0} → Call T → OwnChain T → Ending T
-Right c r = Answered own_chain_can_release own_chain_releases IsIdle own_chain_owned c r
+abbrev pub EndsAnswered : {T : Type 0} → Call T → OwnChain T → Ending T
+EndsAnswered c r = Answered own_chain_can_release own_chain_releases IsIdle own_chain_owned c r
 
 abbrev pub OwnChainAnswers : {T : Type 0} → OwnChain T → Call T → Type 0
 OwnChainAnswers r c = EndsRight own_chain_can_touch own_chain_touches own_chain_can_perform own_chain_performs own_chain_can_release own_chain_releases IsIdle own_chain_owned (kind_of_own_chain r) c r
@@ -67,21 +67,21 @@ push_call push_kind.Push v = call.Push v
 push_call push_kind.Force v = call.ForcePush v
 
 module _ {T : Type 0} (r : OwnChain T) (v : T) (i : IsIdle r) where
-  pub right-closed : (p : PushKind) → is_shut r.tail ≡ true → Right (push_call p v) r (closed_reply p) None (Some v) r
+  pub right-closed : (p : PushKind) → is_shut r.tail ≡ true → EndsAnswered (push_call p v) r (closed_reply p) None (Some v) r
   right-closed push_kind.Push e = (i, (reply.Push (Err (push.Closed v)), refl, sequential r r (call.Push v) (reply.Push (Err (push.Closed v))) i (rw e refl) (rw e refl) (λ x. refl)))
   right-closed push_kind.Force e = (i, (reply.ForcePush (Err (force.Closed v)), refl, sequential r r (call.ForcePush v) (reply.ForcePush (Err (force.Closed v))) i (rw e refl) (rw e refl) (λ x. refl)))
 
-  pub right-spent : (p : PushKind) → is_shut r.tail ≡ false → (accepted r == LIMIT) ≡ true → Right (push_call p v) r (closed_reply p) None (Some v) (marked r)
+  pub right-spent : (p : PushKind) → is_shut r.tail ≡ false → (accepted r == LIMIT) ≡ true → EndsAnswered (push_call p v) r (closed_reply p) None (Some v) (marked r)
   right-spent push_kind.Push e1 e2 =
       (idle-marked r i, (reply.Push (Err (push.Closed v)), refl, sequential r (marked r) (call.Push v) (reply.Push (Err (push.Closed v))) (idle-marked r i) (rw (sequential_reply, e1, sequential_reply, e2) refl) (queue-marked r ∙ rw (sequential_state, e1, sequential_state, e2) refl) (λ x. refl)))
   right-spent push_kind.Force e1 e2 =
       (idle-marked r i, (reply.ForcePush (Err (force.Closed v)), refl, sequential r (marked r) (call.ForcePush v) (reply.ForcePush (Err (force.Closed v))) (idle-marked r i) (rw (sequential_reply, e1, sequential_reply, e2) refl) (queue-marked r ∙ rw (sequential_state, e1, sequential_state, e2) refl) (λ x. refl)))
 
   pub right-pushed : (p : PushKind) (done : OwnChain T) → is_shut r.tail ≡ false → (accepted r == LIMIT) ≡ false → IsIdle done → accepted done ≡ accepted r + 1
-      → own_chain_queue done ≡ record (own_chain_queue r) { items = (own_chain_queue r).items ++ v ∷ []; accepted = (own_chain_queue r).accepted + 1 } → Right (push_call p v) r (pushed_reply p) None None done
+      → own_chain_queue done ≡ record (own_chain_queue r) { items = (own_chain_queue r).items ++ v ∷ []; accepted = (own_chain_queue r).accepted + 1 } → EndsAnswered (push_call p v) r (pushed_reply p) None None done
   right-pushed push_kind.Push done e1 e2 idle more leaves = (idle, (reply.Push (Ok tt), refl, sequential r done (call.Push v) (reply.Push (Ok tt)) idle (rw (sequential_reply, e1, sequential_reply, e2) refl) (leaves ∙ rw (sequential_state, e1, sequential_state, e2) refl) (λ none. absurd (omega arith))))
   right-pushed push_kind.Force done e1 e2 idle more leaves = (idle, (reply.ForcePush (Ok None), refl, sequential r done (call.ForcePush v) (reply.ForcePush (Ok None)) idle (rw (sequential_reply, e1, sequential_reply, e2) refl) (leaves ∙ rw (sequential_state, e1, sequential_state, e2) refl) (λ none. absurd (omega arith))))
 
-  pub right-refused : (p : PushKind) → MayAsk (own_chain_queue r) → (accepted r ≡ 0 → length r.pieces ≡ 0) → Right (push_call p v) r (gives_up p) None (Some v) r
+  pub right-refused : (p : PushKind) → MayAsk (own_chain_queue r) → (accepted r ≡ 0 → length r.pieces ≡ 0) → EndsAnswered (push_call p v) r (gives_up p) None (Some v) r
   right-refused push_kind.Push may none = (i, (reply.Push (Err (push.NoMemory v)), refl, inr ((refl, may), none, refl)))
   right-refused push_kind.Force may none = (i, (reply.ForcePush (Err (force.NoMemory v)), refl, inr ((refl, may), none, refl)))

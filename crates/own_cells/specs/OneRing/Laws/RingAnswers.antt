@@ -80,11 +80,11 @@ module _ {T : Type 0} where
         )
 
     -- what a call has to end with
-    abbrev Right : Reply Unit → Option ℕ → Option T → RingState T → Type 0
-    Right = Answered ring_can_release ring_releases IsIdle ring_owned c first
+    abbrev EndsAnswered : Reply Unit → Option ℕ → Option T → RingState T → Type 0
+    EndsAnswered = Answered ring_can_release ring_releases IsIdle ring_owned c first
 
     abbrev Ends : ℕ → Next ℕ → RingState T → Option T → Type 0
-    Ends n todo r v = EndsIn ring_can_touch ring_touches ring_can_perform ring_performs n (Kind.Bounded cap) todo r v Right
+    Ends n todo r v = EndsIn ring_can_touch ring_touches ring_can_perform ring_performs n (Kind.Bounded cap) todo r v EndsAnswered
 
     -- a call that stands here, with fewer than m steps before it, ends before n steps
     runs : (n m : ℕ) (r : RingState T) (before g : Ring T) (todo : Next ℕ) (v : Option T) (ms : List (State T)) (was : Bool) (es : List (Effect T))
@@ -106,7 +106,7 @@ module _ {T : Type 0} where
         } in
         let more = runs n (rank cap g l) done g after (next_of (Kind.Bounded cap) l (answered (touched (part r) t v) o)) (handed (part r) t v) (queue_of cap after ∷ ms) (was || not after.closed) (with_effect es good.e)
         holds h.quiet (alone_more (ring_queue first) (queue_of cap g) (queue_of cap after) ms was es good.e alone good.makes (may_front cap was l (answered (touched (part r) t v) o) good.e good.told)) good.goes (rank_some cap g l) (omega arith) in
-        EndsIn-step ring_touchable ring_touched ring_operable ring_performed n (Kind.Bounded cap) l t o r v Right same.touches same.operates
+        EndsIn-step ring_touchable ring_touched ring_operable ring_performed n (Kind.Bounded cap) l t o r v EndsAnswered same.touches same.operates
         (subst (λ a. CanNext (Kind.Bounded cap) l a) (sym same.answers) good.goes_on)
         (subst (λ (z : Answer ℕ × Option T). Ends n (next_of (Kind.Bounded cap) l z.0) done z.1) (λ i. (sym same.answers i, sym same.hands i)) more)
 
