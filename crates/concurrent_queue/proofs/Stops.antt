@@ -29,11 +29,6 @@ module _ {T : Type 0} (K : ℕ → TableOf T) (t : TableId) where
   abbrev pub StopsThere : Seat (Option T) (CallState T) → Left T ℕ → Begun T → Type 0
   StopsThere s l v = IsStoppedAt (K s.table_id.slots) s l × (begun_by (at_table s.table_id) (cap_of (K s.table_id.slots).calls) s.me.0 ≡ v)
 
-  pub come_here : (s : Seat (Option T) (CallState T)) (l : Left T ℕ) (v : Begun T) → s.table_id ≡ t → StopsThere s l v → StopsHere K t s l v
-  come_here s l v here h =
-      let h' = subst (λ (z : TableId). IsStoppedAt (K z.slots) s l × (begun_by (at_table z) (cap_of (K z.slots).calls) s.me.0 ≡ v)) here h in
-      (here, h'.0, h'.1)
-
   pub go_there : (s : Seat (Option T) (CallState T)) (l : Left T ℕ) (v : Begun T) → StopsHere K t s l v → StopsThere s l v
   go_there s l v h = subst (λ (z : TableId). IsStoppedAt (K z.slots) s l × (begun_by (at_table z) (cap_of (K z.slots).calls) s.me.0 ≡ v)) (sym h.0) (h.1, h.2)
 

@@ -50,8 +50,3 @@ tells_where Tells a s b q v given y z sits is_v sat same h = (
   subst IsHeld (sym sat) h.0,
   subst (λ p. Tells v given z (party_view_of p)) (sym sat) (subst (λ u. Tells v given u (party_view_of q)) (sym same) (subst (λ p. Tells p given y (party_view_of q)) (ap party_view_of (sym sits) ∙ is_v) h.1)),
 )
-
--- what follows of each way that a call was told
-pub told_map : {R V : Type 0} {P Q : V → Type 0} {E F : R → Type 0} → ((v : V) → P v → Q v) → ((r : R) → E r → F r) → (x : ControlFlow R V) → MatchControlFlow x P E → MatchControlFlow x Q F
-told_map f g (Continue v) h = f v h
-told_map f g (Break r) h = g r h

@@ -40,10 +40,6 @@ module _ (P : ℕ → Type 0) (E : Type 0) where
   map_marked : (ps : List Party) → Marked P E ps → Marked P E (map risen ps)
   map_marked ps h = λ i r is. let y = map_get risen ps i r is in subst (Waits P E) (sym y.2) (risen_waits y.0 (h i y.0 y.1))
 
-  if_marked : (b : Bool) (u v : World) → Marked P E u.parties → Marked P E v.parties → Marked P E (if b then u else v).parties
-  if_marked true u v a b = a
-  if_marked false u v a b = b
-
   module _ (w : World) (k m : ℕ) (h : Marked P E w.parties) where
     parks : (t : ℕ) (b : Bool) → P m → Marked P E (if b then put (counts_late w t) k (Asleep t w.events m) else goes_on w k (Missed t) m 0).parties
     parks t true f = set_marked w.parties k (Asleep t w.events m) f h

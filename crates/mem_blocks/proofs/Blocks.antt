@@ -166,6 +166,3 @@ module _ {M : Type 1} {𝓤 : Ura M} (𝓛 : Logic 𝓤) (R : RattleType) (token
 
   pub same_word : (bs : List (Block S)) (k i : ℕ) → with_word bs k i (word_of bs k i) ≡ bs
   same_word bs k i = ap (λ (ns : List ℕ). let x = block bs k in set bs k record { at = x.at; alive = x.alive; next = x.next; words = ns; homes = x.homes }) (set-get_or (block bs k).words i 0) ∙ set-get_or bs k _
-
-  pub same_link : (bs : List (Block S)) (k : ℕ) → with_next bs k (block bs k).next ≡ bs
-  same_link bs k = set-get_or bs k _

@@ -143,9 +143,6 @@ module _ {M : Type 1} {𝓤 : Ura M} (𝓛 : Logic 𝓤) (R : RattleType) (token
           qed 𝓛 (‵ (roster cv.code γ 0 s.views) ∷ ‵ ftrue ∷ []) ∵ show ! (Unchanged ftrue s) r.0 $ check ! r.1 $ suffices ! _ (upd_i 𝓤 Z) $ show ! (Viewed s.blocks ftrue) s.views $ check ! so $ done !)
 
       module _ (id : ℕ) (m : Sitter S V) where
-        abbrev Found-view : State S V → Type 0
-        Found-view s = get_elem? s.views id ≡ maybe.some m.view
-
         pub steps : (i : ℕ) (f : ℕ → ℕ) (then : ℕ → Sitter S V → Type 0) → i < SLOTS → Allows holds id m p i f then
             → A.inv (fbor κ I) ∗ A.lft κ q ∗ ⟦ sat id m ⟧ ⊢ asks 𝓛 (block_ptr b (word_place i)) f always (λ n. fsep (flft κ q) (after id (then n)))
         steps i f then near law = words_by i f (λ n. after id (then n)) ⟦ sat id m ⟧ near (λ s so.

@@ -2,4 +2,4 @@
 
 pub mod own_slot;
 
-pub use single::Single;
+pub use own_slot::OwnSlot;

@@ -42,13 +42,6 @@ HoldsFor xs (Next.Step l t o) m = HoldsBy l o xs m
 HoldsFor xs (Next.Reply x None) m = (m.hand ≡ None) × (m.spare ≡ None)
 HoldsFor {T} xs (Next.Reply x (Some f)) m = (m.hand ≡ None) × ((y : Block T) × (m.spare ≡ Some y) × (y.at ≡ spot f) × (y.alive ≡ true) × (length y.homes ≡ BLOCK_SLOTS) × AllVacant y.homes)
 
--- whether an operation is on a link
-abbrev pub is_link : Op ℕ → Bool
-is_link (Op.LoadLink l) = true
-is_link (Op.StoreLink l x) = true
-is_link (Op.Install x) = true
-is_link _ = false
-
 module _ (tail_end head_end : Ptr) where
   abbrev pub word_place : Word ℕ → Ptr
   word_place Word.Tail = tail_end

@@ -12,7 +12,7 @@ use Rattle.queue_laws.specs.Common.Vocabulary.{MAX_PARTIES}
 use Rattle.shared_parties.specs.{declared.known.Known.Known, declared.known.CallState.CallState, CallStates.is_busy, CallStates.known_by, CallStates.idle, CallStates.empty_seat, CallStates.IsResting, CallStates.SameCalls, CallStates.Sharing}
 use Rattle.shared_parties.specs.Known.{nobody, looked, granted, refused, withdrawn, united, one_of, other_of, pair_of, Kept}
 use Rattle.shared_parties.specs.Parting.{Regroups, Recounts, Entered, Withdrew, BecameOne, SawAll, Counted, first_part, second_part, both_parts}
-use Rattle.shared_parties.proofs.Keeping.{few, grants, refuses, withdraws, unites, one_entire, entire_one, looks, parts_apart, spawns, pairs_up}
+use Rattle.shared_parties.proofs.Keeping.{few, grants, refuses, withdraws, unites, one_entire, entire_one, looks, parts_apart, pairs_up}
 
 down : (n : ℕ) → 0 < n → n ≤ 2 * MAX_PARTIES → (n + (2 ^ 64 - 1)) % 2 ^ 64 ≡ n - 1
 down n pos low = ap (λ (z : ℕ). z % 2 ^ 64) (let e : n + (2 ^ 64 - 1) ≡ n - 1 + 2 ^ 64 = omega arith in e) ∙ (add-mod_right (n - 1) (2 ^ 64) ∙ mod-eq_of_lt (let g : n - 1 < 2 ^ 64 = omega arith in g))
@@ -121,12 +121,6 @@ module _ {T : Type 0} {n : ℕ} {vs : List (CallState T)} (k : Sharing n vs) (id
 
   pub splits_apart : (d : CallState T) → get_elem? vs id ≡ some d → is_busy d.work ≡ false → d.known.parties ≡ 2 → d.known.surplus ≡ 0 → Regroups k n (set vs id (first_part d) ++ second_part d ∷ [])
   splits_apart d at rests two none = divides d (one_of d.known) (other_of d.known) at rests (parts_apart T k.cap k.history n ks id d.known k.kept (known_at d at) two none)
-
-  pub splits_off : (d : CallState T) → get_elem? vs id ≡ some d → IsResting d → Regroups k n (set vs id d ++ empty_seat ∷ [])
-  splits_off d at is =
-      let is_idle : d ≡ idle d.known = is ∙ sym (ap (λ (z : CallState T). idle z.known) is) in
-      subst (λ (z : CallState T). Regroups k n (set vs id z ++ empty_seat ∷ [])) (sym is_idle)
-      (divides d d.known (nobody None) at (quiet d _ is) (spawns T k.cap None k.history n ks id d.known k.kept (known_at d at)))
 
   -- two seats that are at nothing become one
   pub joins_up : (other : ℕ) (d e : CallState T) → get_elem? vs id ≡ some d → other ≢ id → get_elem? (set vs id (both_parts d e)) other ≡ some e → IsResting d → IsResting e → Regroups k n (set (set vs id (both_parts d e)) other empty_seat)

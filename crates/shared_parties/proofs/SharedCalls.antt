@@ -5,16 +5,12 @@ use Rattle.std.specs.List.{Contains}
 use mathlib.Core.List.{IsPrefix}
 use Rattle.atomic_table.proofs.Lists.{at_last}
 use Rattle.queue_laws.specs.Common.Vocabulary.{Call, Reply, Effect}
-use Rattle.queue_steps.specs.{State.State, Effect.IsHistory, Effect.after, Replies.IsRightAt, Replies.Tells, Shares.Share, Shares.IsEntire, Parties.View, Parties.Between, Parties.SharedCall}
+use Rattle.queue_steps.specs.{Effect.IsHistory, Effect.after, Replies.IsRightAt, Replies.Tells, Shares.Share, Shares.IsEntire, Parties.View, Parties.SharedCall}
 use Rattle.shared_parties.specs.{Counting.times, Counting.once_below, declared.known.Known.Known, Known.party, Known.has, Known.share_of}
 use Rattle.shared_parties.proofs.{Counting.all_places, Histories.prefix_trans, Histories.prefix_more, Histories.prefix_length}
 use Rattle.queue_steps.proofs.ShareLaws.{plus_nothing}
 
 module _ {T : Type 0} where
-  -- a moment between two histories is one between the first and any later one
-  pub between_later : (cap : Option ℕ) (s t u : List (Effect T)) (fact : State T → Type 0) → Between cap s t fact → IsPrefix t u → Between cap s u fact
-  between_later cap s t u fact b p = (b.0, b.1, prefix_trans b.0 t u b.2 p, b.3)
-
   -- a call that adds nothing, whose reply was right after the history h
   pub quiet : (cap : Option ℕ) (v w : View T) (h : List (Effect T)) (c : Call T) (r : Reply T) → IsPrefix v.seen h → IsPrefix h w.seen → IsHistory cap w.seen → w.mine ≡ v.mine → w.share ≡ v.share
       → Tells c r [] → IsRightAt (after cap h) c r → SharedCall cap v w c r

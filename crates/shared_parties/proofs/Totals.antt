@@ -67,9 +67,6 @@ once_more p n = grind (arith, nat_tests)
 pub once_none : (p : ℕ) → once_below p 0 ≡ 0
 once_none p = grind (arith, nat_tests)
 
-pub below_once : (p n : ℕ) → 0 < once_below p n → p < n
-below_once p n h = grind (arith, nat_tests)
-
 pub once_when : (p n : ℕ) → p < n → once_below p n ≡ 1
 once_when p n h = grind (arith, nat_tests)
 

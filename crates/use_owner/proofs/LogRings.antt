@@ -63,19 +63,3 @@ module _ {T : Type 0} where
           let more = length-append P.queue.items (v ∷ []) in
           let cap : capacity_of P ≡ length P.queue.items = ap (λ c. unwrap_or c 0) full in
           omega arith
-
-  -- an entry that is handed back
-  pub spent_log : (P R : Owned T) (v : T) (result : Result (Option T) (ForcePushError T)) (e : ForcePushError T) → result ≡ Err e → IsLog P → force_push_error_value e ≡ v
-      → (result ≡ Err (force.Closed v) → ((P.queue.closed ≡ true) ⊎ (P.queue.accepted ≡ LIMIT)) × (R.queue ≡ record P.queue { closed = true }))
-      → (result ≡ Err (force.NoMemory v) → (P.queue.cap ≡ None) × (R ≡ P))
-      → IsLog R × (P.queue.accepted ≡ LIMIT) × (held_by R ≡ held_by P)
-  spent_log P R v result (force.Closed w) is log back closed memory =
-      let told = closed (is ∙ ap (λ (x : T). Err (force.Closed x)) back) in
-      let n : P.queue.accepted ≡ LIMIT = elim told.0 [ inl e ↦ log.shut_when_spent e | inr e ↦ e ] in
-      let stays = kept P R log (ap (λ (Q : State T). Q.cap) told.1) (λ _. ap (λ (Q : State T). Q.accepted) told.1 ∙ n) in
-      (stays.1, n, λ i. log_of (stays.0 i) (ap (λ (Q : State T). Q.items) told.1 i) (ap (λ (Q : State T). Q.accepted) told.1 i))
-  spent_log P R v result (force.NoMemory w) is log back closed memory =
-      let told = memory (is ∙ ap (λ (x : T). Err (force.NoMemory x)) back) in
-      let no = told.0 in
-      let some = log.capped in
-      absurd (cc)

@@ -18,9 +18,6 @@ took_by : (v w : PartyView ℕ) (es : List (Effect ℕ)) (jobs : List ℕ) → A
 took_by v w es jobs did are job =
     let out = did.did (hands_out job) in let came = did.did (hands_in job) in let one = (are job).0 in let none = (are job).1 in (omega (arith, out, one), omega (arith, came, none))
 
-pub took_none : (v : PartyView ℕ) → Took v v []
-took_none v job = (omega arith, omega arith)
-
 pub took_then : (u v w : PartyView ℕ) (jobs more : List ℕ) → Took u v jobs → Took v w more → Took u w (jobs ++ more)
 took_then u v w jobs more a b job =
     let one = a job in let two = b job in

@@ -16,10 +16,6 @@ held_left : {A : Type 0} (s : Chain A) (b : ℕ) (w : Walk) (y : Option (BlockSt
 held_left s b w y x walk (inl h) is = inl (walk ∙ h.0, h.1)
 held_left s b w y x walk (inr h) is = inr ((λ e. h.0 (sym walk ∙ e)), subst (λ z. AliveIs s b z) (sym h.1) is)
 
--- a walk that another block's change leaves
-other_walk : {A : Type 0} (c s : Chain A) (b i : ℕ) (w : Walk) → s.walks ≡ put c.walks b w → i ≢ b → s.walks i ≡ c.walks i
-other_walk c s b i w is ne = ap (λ f. f i) is ∙ put_other c.walks b i w ne
-
 -- the chain c, and the machine's words and blocks before and after a step
 module _ {A : Type 0} {c : Chain A} {head tail : ℕ} {front last : Option ℕ} {blocks after : List (Option (BlockState A))} where
   -- V10: the item is read. The last slot's word does not tell of it

@@ -168,11 +168,6 @@ counts-happens cap parties b c (Begin p k) (Ran (Some x) r) h e = absurd e
 counts-happens cap parties b c (Step p granted) (Ran k r) h e =
     counts-stepped parties b c p k r h (ltb-true p parties (and-left (nat_lt p parties) (is_some (b.open_call p)) e.0)) e.1
 
-pub counts-run : {T : Type 0} (cap : Option ℕ) (parties : ℕ) (b c : Book T) (es : List (Event T)) (ts : List (Told T)) → Counts parties b → Run cap parties b es ts c → Counts parties c
-counts-run cap parties b c [] [] h run = rw run h
-counts-run cap parties b c (x ∷ es) (t ∷ ts) h run = counts-run cap parties run.0 c es ts (counts-happens cap parties b run.0 x t h run.1) run.2
-counts-run cap parties b c es ts h run = absurd run
-
 -- where a party is in a call, one is in progress
 pub some-busy : {T : Type 0} (parties : ℕ) (b : Book T) (p : ℕ) (o : Open T) → Counts parties b → b.open_call p ≡ Some o → 0 < b.busy
 some-busy parties b p o h e =

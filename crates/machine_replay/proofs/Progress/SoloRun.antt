@@ -32,10 +32,6 @@ record Pace {T : Type 0} (past : List (Event T)) (S : List ℕ) (R : List (ℕ �
   steps : (since : ℕ) → k.first ≤ since → taken p since past ≤ o.steps
   alone : (since : ℕ) → k.first ≤ since → IsAloneBetween past S R p since n → taken p since past ≤ o.alone
 
-is_some-none : {X : Type 0} (o : Option X) → is_some o ≡ true → o ≡ None → ⊥
-is_some-none None e n = cc
-is_some-none (Some x) e n = cc
-
 same-open : {T : Type 0} (y : Option (Open T)) (o x : Open T) → y ≡ Some o → y ≡ Some x → o ≡ x
 same-open y o x e f = let g : Some o ≡ Some x = sym e ∙ f in cc
 

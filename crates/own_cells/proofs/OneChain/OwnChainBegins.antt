@@ -10,20 +10,7 @@ module _ {T : Type 0} where
   abbrev pub bare : OwnChain T
   bare = record { head = 0; tail = 0; head_block = None; tail_block = None; first = 0; pieces = []; spare = None }
 
-  pub bare-idle : IsIdle bare
-  bare-idle = record {
-    head_rests = omega arith;
-    tail_rests = omega arith;
-    order = omega arith;
-    below = omega arith;
-    known = λ h. absurd (omega arith);
-    few = omega arith;
-    no_spare = refl;
-    blocks = inl (record { start = refl; none = refl; unused = refl; front = refl; back = refl });
   }
-
-  pub bare-owned : own_chain_owned bare ≡ record { queue = start None 0; blocks = 0 }
-  bare-owned = refl
 
 -- the states of a block whose first k slots count as read
 pub record HasRead (states : List ℕ) (k : ℕ) : Type 0 where
@@ -138,16 +125,6 @@ module _ {T : Type 0} where
 
       laid : Linked 0 (begun_piece b states ∷ []) → HoldsItems (begun_piece b states ∷ []) (n / BLOCK_SLOTS) n n → IsLaid 0 (begun_piece b states ∷ []) (Some b) (Some b) n n
       laid linked holds = record { count = omega arith; linked = linked; front = refl; back = back; holds = holds }
-
-  pub begun-owned : (b : Name T) (states : List ℕ) (n : ℕ) → own_chain_owned (begun b states n) ≡ record { queue = start None n; blocks = 1 }
-  begun-owned b states n =
-      let r : OwnChain T = begun b states n in
-      let F : List T → Bool → ℕ → Owned T = λ xs c a. record { queue = record { items = xs; cap = None; closed = c; coming = None; accepted = a }; blocks = 1 } in
-      let none : accepted r - taken r ≡ 0 = omega arith in
-      let even : word_before n % 2 ≡ 0 = omega arith in
-      ap (λ k. F (items_from r.pieces (taken r / BLOCK_SLOTS) (taken r) k) (is_shut r.tail) (accepted r)) none
-      ∙ ap (λ k. F [] (k == 1) (accepted r)) even
-      ∙ ap (F [] false) (items-before n)
 
   -- a chain that has no items: no block, or one whose slots are empty
   abbrev pub IsUsedUp : OwnChain T → Type 0

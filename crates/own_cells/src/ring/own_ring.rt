@@ -23,7 +23,7 @@ use std::mem;
 /// The slots with their stamps, and the positions of the front and of the next item to come, as they lay in the table.
 ///
 /// A contract sees the two positions, the capacity and the slots.
-pub struct Ring<T, A: Allocator> {
+pub struct OwnRing<T, A: Allocator> {
     /// The number of slots.
     pub capacity: usize,
     /// The words and the slots, as they lay in the table.

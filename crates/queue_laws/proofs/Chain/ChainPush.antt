@@ -76,9 +76,6 @@ last_named {A} c q b ok (inr (at, rests)) e = go (subst (λ m. BlocksOk c.tail c
     go (inl h) = absurd (let z = h.1 in omega arith)
     go (inr h) = let is : b ≡ q / BLOCK_SLOTS = omega arith in inr ((omega arith), ap c.names is)
 
-offset_is : (q : ℕ) → offset_of (open_tail_of q) ≡ q % BLOCK_SLOTS
-offset_is q = omega arith
-
 pub none_spare : {A : Type 0} (c : Chain A) (who : ℕ) (spare : Option ℕ) → c.blocks ≡ 0 → HasSpare c who spare → spare ≡ None
 none_spare c who None none h = refl
 none_spare c who (Some f) none h = absurd (let some = h.1 in omega arith)

@@ -66,10 +66,6 @@ module _ {T : Type 0} where
   flat_lower k m [] le flat = tt
   flat_lower k m (x ∷ xs) le flat = (let here = flat.0 in omega arith, flat.1)
 
-  rising_lower : (k m : ℕ) (xs : List (Entry T)) → k ≤ m → Rising m xs → Rising k xs
-  rising_lower k m [] le up = tt
-  rising_lower k m (x ∷ xs) le up = (let here = up.0 in omega arith, up.1)
-
   fronts_on : (n k p : ℕ) (e : Effect T) (ys zs : List (Entry T)) → Flat n (ys ++ zs) → Flat n (front_first n (entry k p e) e ys ++ zs)
   fronts_on n k p (Effect.Front old v) ys zs flat = (omega arith, (omega arith, flat))
   fronts_on n k p e ys zs flat = flat

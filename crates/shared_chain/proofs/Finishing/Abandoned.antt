@@ -57,9 +57,6 @@ module _ {A : Type 0} (te he : Ptr) (bs : List (Block A)) (last : LastBlocks (Ru
   pub ends_there : Lives bs 0 te × Lives bs 1 he
   ends_there = (codes.tail, codes.head)
 
-  pub ends_can : Testable (block bs 0).next × Testable (block bs 1).next
-  ends_can = (next_tested te he g bs ok codes 0 codes.tail.0, next_tested te he g bs ok codes 1 codes.head.0)
-
   taken_is : items_before (position_of (word_of bs 1 HEAD)) ≡ c.head
   taken_is = ap (λ w. items_before (position_of w)) codes.head_is ∙ head_items c ok
 

@@ -93,12 +93,6 @@ module _ {A : Type 0} (te he : Ptr) (id : ℕ) (d : CallState A) (bs : List (Blo
   left_is : drop before (inner bs two) ≡ left te he rule.cells bs rule.all.ok codes rest
   left_is = ap (λ n. drop n (inner bs two)) before_is ∙ inner_drop bs two rule.cells.chain.front
 
-  pub ends_live : Lives bs 0 te × Lives bs 1 he
-  ends_live = (codes.tail, codes.head)
-
-  pub ends_tested : Testable (block bs 0).next × Testable (block bs 1).next
-  ends_tested = (next_tested te he rule.cells bs rule.all.ok codes 0 codes.tail.0, next_tested te he rule.cells bs rule.all.ok codes 1 codes.head.0)
-
   pub keeps_held : AreHeld (drop before (without (without bs 0) 1))
   keeps_held = subst (λ (xs : List (Block A)). AreHeld xs) (sym left_is) (all_held te he rule.cells bs rule.all.ok codes rest)
 

@@ -95,15 +95,6 @@ module _ {T : Type 0} (c : InCall T) where
   pub told : (a : Op ℕ) (n : ℕ) (q : Sitter T (CallState T)) → c.op ≡ a → Follows c (answer_for c.op n) q → Operated c (answer_map link_of (answer_for a n)) q
   told a n q is follows = (answer_for a n, refl, subst (λ (z : Op ℕ). Follows c (answer_for z n) q) is follows)
 
-  pub told_link : (p : Ptr) (x : Option (Place T)) (q : Sitter T (CallState T)) → ((l : Place T) → x ≡ Some l → (l.ptr ≡ p) × InBlock l.ptr) → (x ≡ None → p ≡ null_ptr) → FollowsLink c p q → Operated c (Answer.Linked x) q
-  told_link p None q some none (None, leads, follows) = (Answer.Linked None, refl, follows)
-  told_link p None q some none (Some f, leads, follows) = absurd (let e : null_ptr ≡ spot f = sym (none refl) ∙ leads in cc)
-  told_link p (Some l) q some none (None, leads, follows) = absurd (subst InBlock ((some l refl).0 ∙ leads) (some l refl).1)
-  told_link p (Some l) q some none (Some f, leads, follows) = (Answer.Linked (Some f), (λ j. Answer.Linked (Some (record { ptr = ((some l refl).0 ∙ leads) j }))), follows)
-
-  pub told_grant : (l : Place T) (q : Sitter T (CallState T)) → FollowsGrant c l.ptr q → Operated c (Answer.Granted l) q
-  told_grant l q (f, is, follows) = (Answer.Granted f, (λ j. Answer.Granted (record { ptr = sym is j })), follows)
-
 -- a call that asks has no slot and no spare
 touches_nothing : {T : Type 0} (l : Local ℕ) (t : Touch) (v : Option T) (xs : List (ℕ × Option T)) → MayTouch l t Op.Ask v xs → t ≡ Touch.Nothing
 touches_nothing l Touch.Nothing v xs may = refl

@@ -22,17 +22,6 @@ queue_given c None = refl
 queue_given c (Some f) = refl
 
 module _ {T : Type 0} where
-  -- the spare that a seat carries is fresh
-  pub carries_spare : (m : Sitter T (CallState T)) (x : Option ℕ) (b : Place T) → m.spare ≡ carried_by x → Some b ≡ name_map link_of x → Carries (Some b) m
-  carries_spare m None b carried is = absurd (let e : Some b ≡ None = is in cc)
-  carries_spare m (Some f) b carried is =
-      let same : b ≡ link_of f = cc in
-      (fresh_at (spot f), carried, ap (λ (p : Place T). p.ptr) (sym same), refl, length-replicate {A = Home T} BLOCK_SLOTS vacant, all_vacant T BLOCK_SLOTS)
-
-  pub carries_none : (m : Sitter T (CallState T)) (x : Option ℕ) → m.spare ≡ carried_by x → None ≡ name_map (link_of {T = T}) x → m.spare ≡ None
-  carries_none m None carried is = carried
-  carries_none m (Some f) carried is = absurd (let e : None ≡ Some (link_of {T = T} f) = is in cc)
-
   module _ (te he : Ptr) (id : ℕ) (m : Sitter T (CallState T)) (may : MayQuit m) where
     leaves : (s : State T (CallState T)) (r : Rule te he s) → get_elem? s.views id ≡ some m.view → Rule te he record { blocks = s.blocks; views = set s.views id (idle m.view.known) } × HasLeft m (sitter (idle m.view.known) m.hand m.spare)
     leaves s r at = (

@@ -24,10 +24,6 @@ laid-new {T} ps b =
     let none : length ps - length ps ≡ 0 = omega arith in
     get_or-append_right ps (fresh_piece b ∷ []) (length ps) (length ps) _ refl (omega arith) ∙ rw none refl
 
--- a fresh block
-fresh-states : {T : Type 0} (b : Name T) → length (fresh_piece b).states ≡ BLOCK_SLOTS
-fresh-states b = refl
-
 fresh-cell : {T : Type 0} (b : Name T) (slot : ℕ) → slot < BLOCK_SLOTS → cell_in (fresh_piece b) slot ≡ (0, None)
 fresh-cell {T} b slot inside =
     let s : state_in (fresh_piece b) slot ≡ 0 = get_or-replicate BLOCK_SLOTS slot 0 0 inside in
