@@ -8,17 +8,43 @@ ghost use Rattle.concurrent_queue.specs.Shared.{IsPartyOf, Calls};
 
 use crate::calls::{Popped, Pushed, WaitedQueue};
 use crate::waiting::Awaited;
+use crate::waking::{pop, push};
 use concurrent_queue::{NullTestable, Party, PopError, PushError};
 use event_count::Deadline;
 use std::alloc::Allocator;
 use std::sync::Wait;
+
+/// Pushes `value`: at once where there is room, and else until the deadline at most.
+///
+/// # Errors
+///
+/// Those of a push, each with the value: `Full` only after the deadline.
+pub(crate) fn push_until<T, A: NullTestable, R: Wait, D: Deadline>(
+    queue: &WaitedQueue<T, A>,
+    awaited: &Awaited,
+    rt: &R,
+    party: &mut Party<T>,
+    value: T,
+    until: &D,
+) -> Result<(), PushError<T>>
+    requires { IsPartyOf party.old queue.now }
+    ensures called { Calls party.old (call.Push value) (reply.Push result) party.new }
+    ensures late { (back : T) → result ≡ Err (push.Full back) → D.can_pass until.now }
+{
+    match push(queue, awaited, rt, party, value) {
+        Err(PushError::Full(back)) => wait_to_push(queue, awaited, rt, party, back, until),
+        pushed => pushed,
+    }
+}
 
 /// Pushes `value`, again and again while the queue is full, until the deadline at most. After a few tries it sleeps between them, until there may be room.
 ///
 /// # Errors
 ///
 /// Those of a push, each with the value: `Full` only after the deadline.
-pub(crate) fn push_until<T, A: NullTestable, R: Wait, D: Deadline>(
+#[cold]
+#[inline(never)]
+fn wait_to_push<T, A: NullTestable, R: Wait, D: Deadline>(
     queue: &WaitedQueue<T, A>,
     awaited: &Awaited,
     rt: &R,
@@ -54,12 +80,36 @@ pub(crate) fn push_until<T, A: NullTestable, R: Wait, D: Deadline>(
     unreachable!()
 }
 
-/// Pops, again and again while the queue is open and empty, until the deadline at most. After a few tries it sleeps between them, until there may be an item.
+/// Pops: at once where there is an item, and else until the deadline at most.
 ///
 /// # Errors
 ///
 /// Those of a pop: `Empty` only after the deadline.
 pub(crate) fn pop_until<T, A: Allocator, R: Wait, D: Deadline>(
+    queue: &WaitedQueue<T, A>,
+    awaited: &Awaited,
+    rt: &R,
+    party: &mut Party<T>,
+    until: &D,
+) -> Result<T, PopError>
+    requires { IsPartyOf party.old queue.now }
+    ensures called { Calls party.old call.Pop (reply.Pop result) party.new }
+    ensures late { result ≡ Err pop.Empty → D.can_pass until.now }
+{
+    match pop(queue, awaited, rt, party) {
+        Err(PopError::Empty) => wait_to_pop(queue, awaited, rt, party, until),
+        popped => popped,
+    }
+}
+
+/// Pops, again and again while the queue is open and empty, until the deadline at most. After a few tries it sleeps between them, until there may be an item.
+///
+/// # Errors
+///
+/// Those of a pop: `Empty` only after the deadline.
+#[cold]
+#[inline(never)]
+fn wait_to_pop<T, A: Allocator, R: Wait, D: Deadline>(
     queue: &WaitedQueue<T, A>,
     awaited: &Awaited,
     rt: &R,

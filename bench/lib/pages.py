@@ -2,7 +2,7 @@
 import os
 import re
 
-TOP = os.path.dirname(os.path.dirname(os.path.abspath(__file__)))
+TOP = os.path.dirname(os.path.dirname(os.path.dirname(os.path.abspath(__file__))))
 COMMANDS = r"(?<=\n\n)((?:    .*\n)+)"
 PRINTED = r"```\n(.*?)```"
 

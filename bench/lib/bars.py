@@ -3,7 +3,7 @@
 import math
 from dataclasses import dataclass
 
-from drawing import Picture
+from lib.drawing import Picture
 
 # In pixels: where the names end and the bars begin, a bar's place, what stands above the bars of a group, a column, and how much of that is bars.
 NAMED, BAR, GAP, COLUMN, PLOT = 124, 17, 30, 390, 310

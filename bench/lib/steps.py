@@ -2,7 +2,7 @@
 import os
 import re
 
-STEPS = os.path.join(os.path.dirname(os.path.dirname(os.path.abspath(__file__))), "docs", "STEPS.md")
+STEPS = os.path.join(os.path.dirname(os.path.dirname(os.path.dirname(os.path.abspath(__file__)))), "docs", "STEPS.md")
 SECTIONS = {"single": "One slot", "bounded": "A ring", "unbounded": "A chain"}
 LABEL = re.compile(r"\b[A-Z]{1,2}\d*b?\b")
 LETTERS = "p, h: the positions of the tail t and of the head, as they were read"

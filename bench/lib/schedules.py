@@ -21,7 +21,7 @@ EFFECTS = {
 
 def model():
     """The module of the model."""
-    loader = SourceFileLoader("outcomes", os.path.join(os.path.dirname(os.path.abspath(__file__)), "outcomes"))
+    loader = SourceFileLoader("outcomes", os.path.join(os.path.dirname(os.path.dirname(os.path.abspath(__file__))), "outcomes"))
     module = importlib.util.module_from_spec(importlib.util.spec_from_loader("outcomes", loader))
     loader.exec_module(module)
     return module

@@ -3,7 +3,7 @@ import os
 import shutil
 import subprocess
 
-import pages
+from lib import pages
 
 OWN = {
     "crates/app/src/main.rt": "//! The owner's own.\n",
