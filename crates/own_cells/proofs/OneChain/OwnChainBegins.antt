@@ -10,8 +10,6 @@ module _ {T : Type 0} where
   abbrev pub bare : OwnChain T
   bare = record { head = 0; tail = 0; head_block = None; tail_block = None; first = 0; pieces = []; spare = None }
 
-  }
-
 -- the states of a block whose first k slots count as read
 pub record HasRead (states : List ℕ) (k : ℕ) : Type 0 where
   pub long : length states ≡ BLOCK_SLOTS
