@@ -33,9 +33,6 @@ pub record IsNumber (bs : List ℕ) (value : ℕ) : Type 0 where
   pub number : value ≡ digits_value 10 bs
   pub fits : IsWord value
 
-pub number_none : IsNumber [] 0
-number_none = record { digits = tt; number = refl; fits = omega arith }
-
 pub number_more : (bs : List ℕ) (i value more : ℕ) → i < length bs → IsNumber (take i bs) value → (more ≡ value * 10 + digit_value (get_or bs i 0)) × (digit_value (get_or bs i 0) < 10) × IsWord more → IsNumber (take (i + 1) bs) more
 number_more bs i value more within so_far step =
     let longer : digits_value 10 (take (i + 1) bs) ≡ digits_value 10 (take i bs) * 10 + digit_value (get_or bs i 0) = digits_value_more 10 bs i within in

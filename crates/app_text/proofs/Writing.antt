@@ -41,19 +41,6 @@ slice_from n xs = take_all (length xs - n) (drop n xs) (omega (arith, length-dro
 pub writes-begun : (old now : Option (List ℕ)) (text rest : List ℕ) → LeavesRest old now text rest → IsBegun old now text
 writes-begun old now text rest w = record { begun = w.begun; rest = rest; text_is = w.text_is; appends = w.appends }
 
--- where nothing is left, all of it is
-pub writes-all : (old now : Option (List ℕ)) (text rest : List ℕ) → LeavesRest old now text rest → rest ≡ [] → Appends old now text
-writes-all old now text rest w none =
-    let all : text ≡ w.begun = w.text_is ∙ ap (λ l. w.begun ++ l) none ∙ append-nil w.begun in rw all w.appends
-
--- what is held and a text behind it are left, where nothing was written
-pub put-held : (old : Option (List ℕ)) (held text kept : List ℕ) → kept ≡ held ++ text → LeavesRest old old (held ++ text) kept
-put-held old held text kept same = rw same (writes-first old (held ++ text))
-
--- the text is left, where what was held was written
-pub put-written : (old new : Option (List ℕ)) (held text kept : List ℕ) → Appends old new held → kept ≡ text → LeavesRest old new (held ++ text) kept
-put-written old new held text kept a same = rw same (record { begun = held; text_is = refl; appends = a })
-
 -- what was held could not be written
 pub put-failed : (old new : Option (List ℕ)) (held text : List ℕ) → IsBegun old new held → IsBegun old new (held ++ text)
 put-failed old new held text b = record {

@@ -1,7 +1,9 @@
 //! Why a run ended before its work was done.
 ghost use Rattle.std.specs.Prelude.{◌≡◌, Some};
+ghost use Rattle.app_text.specs.declared.faults.Fault.TheVariants.{NoMemory};
 ghost use Rattle.app_text.specs.Faults.{fault_text, fault_status};
 
+use std::alloc::{AllocError, AllocFailed};
 use std::fmt;
 
 /// Why a run ended before its work was done.
@@ -28,6 +30,22 @@ impl Fault {
             Fault::Usage | Fault::Unreadable(_) => 2,
             Fault::NoMemory | Fault::InputFailed | Fault::OutputFailed => 3,
         }
+    }
+}
+
+impl From<AllocError> for Fault {
+    ghost from_gives = { λ _ fault. fault ≡ NoMemory };
+
+    fn from(_error: AllocError) -> Fault {
+        Fault::NoMemory
+    }
+}
+
+impl<X: Drop> From<AllocFailed<X>> for Fault {
+    ghost from_gives = { λ _ fault. fault ≡ NoMemory };
+
+    fn from(_failed: AllocFailed<X>) -> Fault {
+        Fault::NoMemory
     }
 }
 

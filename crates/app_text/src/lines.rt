@@ -37,9 +37,7 @@ pub fn read_lines<L: Line, A: Allocator>(alloc: A, text: &[u8]) -> Result<Vec<L,
         let Some(value) = L::parse(line) else {
             return Err(Fault::Unreadable(values.len() + 1));
         };
-        if values.push(value).is_err() {
-            return Err(Fault::NoMemory);
-        }
+        values.push(value)?;
         rest = after;
     }
     Ok(values)
