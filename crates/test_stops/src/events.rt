@@ -1,5 +1,5 @@
 //! Lists of events.
-use crate::flaw::Flaw;
+use crate::flaw::{Flaw, append};
 use machine_replay::types::Event;
 use queue_steps::model::Call;
 
@@ -15,14 +15,9 @@ pub fn numbered(number: u64) -> Item {
 pub type Events = Vec<Event<Item>>;
 
 /// Appends that the party takes so many steps, at each of which a block is granted or refused.
-pub fn add_steps(
-    events: &mut Events,
-    party: usize,
-    count: u64,
-    granted: bool,
-) -> Result<(), Flaw> {
+pub fn add_steps(events: &mut Events, party: usize, count: u64, granted: bool) -> Result<(), Flaw> {
     for _ in 0..count {
-        events.push(Event::Step(party, granted))?;
+        append(events, Event::Step(party, granted))?;
     }
     Ok(())
 }
@@ -35,6 +30,6 @@ pub fn add_call(
     count: u64,
     granted: bool,
 ) -> Result<(), Flaw> {
-    events.push(Event::Begin(party, call))?;
+    append(events, Event::Begin(party, call))?;
     add_steps(events, party, count, granted)
 }

@@ -33,3 +33,15 @@ impl From<AllocError> for Flaw {
         Flaw::NoMemory
     }
 }
+
+/// Appends an item to a list.
+///
+/// # Errors
+///
+/// `NoMemory`.
+pub fn append<T: Copy>(list: &mut Vec<T>, item: T) -> Result<(), Flaw> {
+    match list.push(item) {
+        Ok(()) => Ok(()),
+        Err(_) => Err(Flaw::NoMemory),
+    }
+}

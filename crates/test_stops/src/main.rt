@@ -45,7 +45,10 @@ fn tell_all<R: Print + AllocGlobal>(rt: &R) -> io::Result<u64> {
         one.cases, one.waits, one.flawed
     )?;
     let two = try_stops(rt, rt.alloc(), Second::Stops)?;
-    println!(rt; "two calls stop: {} cases, {} flawed", two.cases, two.flawed)?;
+    println!(rt;
+        "two calls stop: {} cases, {} flawed",
+        two.cases, two.flawed
+    )?;
     let lists = tell_lists(rt, 1, LISTS)?;
     Ok(one.flawed.wrapping_add(two.flawed).wrapping_add(lists))
 }

@@ -1,6 +1,6 @@
 //! Finds the calls of a run in one order of whole calls, each of which is one moment, a displacement too.
 use crate::events::Item;
-use crate::flaw::Flaw;
+use crate::flaw::{Flaw, append};
 use crate::moment::Moment;
 use crate::queue::Queue;
 use machine_replay::types::EffectKind;
@@ -49,7 +49,7 @@ impl History {
             first: event,
             end: None,
         };
-        self.calls.push(span)?;
+        append(&mut self.calls, span)?;
         Ok(number)
     }
 
@@ -67,7 +67,7 @@ impl History {
             call,
             effect,
         };
-        Ok(self.acts.push(act)?)
+        append(&mut self.acts, act)
     }
 
     /// Notes that the call ends with this event, and its reply.
@@ -88,24 +88,19 @@ fn settle(acts: &[Act], settled: &mut Vec<Act>) -> Result<(), Flaw> {
             EffectKind::Close | EffectKind::SelfClose => {
                 closed = true;
                 displace(acts, number, act.event, settled)?;
-                settled.push(*act)?;
+                append(settled, *act)?;
             }
-            _ => settled.push(*act)?,
+            _ => append(settled, *act)?,
         }
     }
     Ok(())
 }
 
 // The displacements from the act of this number on are made at this event.
-fn displace(
-    acts: &[Act],
-    number: usize,
-    event: usize,
-    settled: &mut Vec<Act>,
-) -> Result<(), Flaw> {
+fn displace(acts: &[Act], number: usize, event: usize, settled: &mut Vec<Act>) -> Result<(), Flaw> {
     for act in acts.iter().skip(number) {
         if act.effect == EffectKind::Front {
-            settled.push(Act { event, ..*act })?;
+            append(settled, Act { event, ..*act })?;
         }
     }
     Ok(())
@@ -188,7 +183,7 @@ impl Order {
             until: usize::MAX,
             moment: self.queue.moment(),
         };
-        Ok(self.stands.push(stand)?)
+        append(&mut self.stands, stand)
     }
 
     // Makes the call of an act, which was not made yet, in its time.

@@ -1,6 +1,6 @@
 //! A queue as it is defined: a list, an optional capacity, a closed flag, at most one item on its way in, and a count of accepted items.
 use crate::events::Item;
-use crate::flaw::Flaw;
+use crate::flaw::{Flaw, append};
 use crate::moment::Moment;
 use machine_replay::types::EffectKind;
 use queue_steps::errors::{ForcePushError, PopError, PushError};
@@ -247,7 +247,7 @@ impl Queue {
     }
 
     fn accept(&mut self, item: Item) -> Result<(), Flaw> {
-        self.items.push(item)?;
+        append(&mut self.items, item)?;
         self.accepted = self.accepted.wrapping_add(1);
         Ok(())
     }

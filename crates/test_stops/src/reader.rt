@@ -1,6 +1,6 @@
 //! Reads what is told of a run, event by event, beside a queue that does what is told.
 use crate::events::Item;
-use crate::flaw::Flaw;
+use crate::flaw::{Flaw, append};
 use crate::moment::{Moment, may_answer};
 use crate::orders::{History, find_order};
 use crate::queue::{Deed, Queue};
@@ -250,7 +250,7 @@ impl<'a> Reader<'a> {
 
     // Notes the queue as it is now.
     fn note_moment(&mut self) -> Result<(), Flaw> {
-        Ok(self.moments.push(self.queue.moment())?)
+        append(&mut self.moments, self.queue.moment())
     }
 
     fn has_no_steps(&self, call: Call<Item>) -> bool {
