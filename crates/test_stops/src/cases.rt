@@ -1,40 +1,52 @@
 //! Calls that stop after each of their steps, while another party's call begins.
-use crate::events::{Events, Item};
+use crate::events::{Events, Item, add_call, add_steps, numbered};
 use crate::flaw::Flaw;
 use crate::runs::{AtEnd, Times, run};
 use crate::shapes::{Shape, Start};
+use crate::tally::Tally;
 use queue_steps::model::Call;
-use queue_steps::sizes::{BLOCK_SLOTS, SOLO_STEPS};
+use queue_steps::sizes::SOLO_STEPS;
 use std::alloc::Global;
 use std::io;
+use std::io::ErrorKind;
+use std::ops::Range;
 
-/// The calls of the party that stops, in the order of the steps in a row.
-static FIRST_CALLS: [Call<Item>; 9] = [
-    Call::Push([101; 4]),
-    Call::ForcePush([102; 4]),
-    Call::Pop,
-    Call::Close,
-    Call::IsClosed,
-    Call::IsEmpty,
-    Call::IsFull,
-    Call::Len,
-    Call::Capacity,
-];
+/// Each queue at each start: its kind, how many items were pushed and how many of them popped, and whether it was closed then; and how many steps each call takes there alone, by the tables of the steps, in the order of `each_call`.
+const ROWS: &str = "\
+single 0 0 open 2 2 1 1 1 1 1 1 0
+single 1 0 open 1 3 2 1 1 1 1 1 0
+single 1 0 closed 1 1 3 1 1 1 1 1 0
+bounded:2 0 0 open 4 4 3 1 1 2 2 3 0
+bounded:2 1 0 open 4 4 4 1 1 2 2 3 0
+bounded:2 2 0 open 3 5 4 1 1 2 2 3 0
+bounded:2 1 0 closed 1 1 4 1 1 2 2 3 0
+bounded:3 0 0 open 4 4 3 1 1 2 2 3 0
+bounded:3 1 0 open 4 4 4 1 1 2 2 3 0
+bounded:3 3 0 open 3 5 4 1 1 2 2 3 0
+bounded:3 1 0 closed 1 1 4 1 1 2 2 3 0
+unbounded 0 0 open 7 7 3 1 1 2 0 3 0
+unbounded 1 0 open 4 4 6 1 1 2 0 3 0
+unbounded 1 0 closed 1 1 6 1 1 2 0 3 0
+unbounded 62 0 open 8 8 6 1 1 2 0 3 0
+unbounded 63 62 open 4 4 70 1 1 2 0 3 0
+";
 
-/// The calls of the other party, in the same order.
-static SECOND_CALLS: [Call<Item>; 9] = [
-    Call::Push([201; 4]),
-    Call::ForcePush([202; 4]),
-    Call::Pop,
-    Call::Close,
-    Call::IsClosed,
-    Call::IsEmpty,
-    Call::IsFull,
-    Call::Len,
-    Call::Capacity,
-];
+/// Each call. A push has this number, and a forced push the next one.
+fn each_call(number: u64) -> [Call<Item>; 9] {
+    [
+        Call::Push(numbered(number)),
+        Call::ForcePush(numbered(number.wrapping_add(1))),
+        Call::Pop,
+        Call::Close,
+        Call::IsClosed,
+        Call::IsEmpty,
+        Call::IsFull,
+        Call::Len,
+        Call::Capacity,
+    ]
+}
 
-/// A queue at a start, and how many steps each call takes there alone, by the tables of the steps.
+/// A queue at a start, and how many steps each call takes there alone.
 #[derive(Clone, Copy)]
 struct Row {
     shape: Shape,
@@ -42,196 +54,53 @@ struct Row {
     steps: [u64; 9],
 }
 
-const EMPTY: Start = Start {
-    pushed: 0,
-    popped: 0,
-    closed: false,
-};
-
-const ONE: Start = Start { pushed: 1, ..EMPTY };
-
-const TWO: Start = Start { pushed: 2, ..EMPTY };
-
-const THREE: Start = Start { pushed: 3, ..EMPTY };
-
-const CLOSED: Start = Start {
-    closed: true,
-    ..ONE
-};
-
-/// One item short of a block.
-const SHORT_OF_A_BLOCK: Start = Start {
-    pushed: BLOCK_SLOTS - 1,
-    ..EMPTY
-};
-
-/// Of a block only the last item is left.
-const LAST_OF_A_BLOCK: Start = Start {
-    pushed: BLOCK_SLOTS,
-    popped: BLOCK_SLOTS - 1,
-    ..EMPTY
-};
-
-static ROWS: [Row; 16] = [
-    Row {
-        shape: Shape::Single,
-        start: EMPTY,
-        steps: [2, 2, 1, 1, 1, 1, 1, 1, 0],
-    },
-    Row {
-        shape: Shape::Single,
-        start: ONE,
-        steps: [1, 3, 2, 1, 1, 1, 1, 1, 0],
-    },
-    Row {
-        shape: Shape::Single,
-        start: CLOSED,
-        steps: [1, 1, 3, 1, 1, 1, 1, 1, 0],
-    },
-    Row {
-        shape: Shape::Pair,
-        start: EMPTY,
-        steps: [4, 4, 3, 1, 1, 2, 2, 3, 0],
-    },
-    Row {
-        shape: Shape::Pair,
-        start: ONE,
-        steps: [4, 4, 4, 1, 1, 2, 2, 3, 0],
-    },
-    Row {
-        shape: Shape::Pair,
-        start: TWO,
-        steps: [3, 5, 4, 1, 1, 2, 2, 3, 0],
-    },
-    Row {
-        shape: Shape::Pair,
-        start: CLOSED,
-        steps: [1, 1, 4, 1, 1, 2, 2, 3, 0],
-    },
-    Row {
-        shape: Shape::Triple,
-        start: EMPTY,
-        steps: [4, 4, 3, 1, 1, 2, 2, 3, 0],
-    },
-    Row {
-        shape: Shape::Triple,
-        start: ONE,
-        steps: [4, 4, 4, 1, 1, 2, 2, 3, 0],
-    },
-    Row {
-        shape: Shape::Triple,
-        start: THREE,
-        steps: [3, 5, 4, 1, 1, 2, 2, 3, 0],
-    },
-    Row {
-        shape: Shape::Triple,
-        start: CLOSED,
-        steps: [1, 1, 4, 1, 1, 2, 2, 3, 0],
-    },
-    Row {
-        shape: Shape::Chain,
-        start: EMPTY,
-        steps: [7, 7, 3, 1, 1, 2, 0, 3, 0],
-    },
-    Row {
-        shape: Shape::Chain,
-        start: ONE,
-        steps: [4, 4, 6, 1, 1, 2, 0, 3, 0],
-    },
-    Row {
-        shape: Shape::Chain,
-        start: CLOSED,
-        steps: [1, 1, 6, 1, 1, 2, 0, 3, 0],
-    },
-    Row {
-        shape: Shape::Chain,
-        start: SHORT_OF_A_BLOCK,
-        steps: [8, 8, 6, 1, 1, 2, 0, 3, 0],
-    },
-    Row {
-        shape: Shape::Chain,
-        start: LAST_OF_A_BLOCK,
-        steps: [4, 4, 8 + (BLOCK_SLOTS - 1), 1, 1, 2, 0, 3, 0],
-    },
-];
-
-/// To whom a block is granted that asks for one.
-#[derive(Clone, Copy, Debug)]
-struct Grants {
-    first: bool,
-    second: bool,
+impl Row {
+    /// The row that a line tells.
+    fn parse(line: &str) -> Option<Row> {
+        let mut words = line.split(' ');
+        let shape = Shape::named(words.next()?)?;
+        let start = Start {
+            pushed: words.next()?.parse().ok()?,
+            popped: words.next()?.parse().ok()?,
+            closed: words.next()? == "closed",
+        };
+        let mut steps = [0; 9];
+        for count in steps.iter_mut() {
+            *count = words.next()?.parse().ok()?;
+        }
+        match words.next() {
+            Some(_) => None,
+            None => Some(Row {
+                shape,
+                start,
+                steps,
+            }),
+        }
+    }
 }
 
-static ALL_GRANTS: [Grants; 4] = [
-    Grants {
-        first: true,
-        second: true,
-    },
-    Grants {
-        first: true,
-        second: false,
-    },
-    Grants {
-        first: false,
-        second: true,
-    },
-    Grants {
-        first: false,
-        second: false,
-    },
-];
+/// To which of two parties a block is granted that asks for one.
+static GRANTS: [[bool; 2]; 4] = [[true, true], [true, false], [false, true], [false, false]];
 
-/// Party 0 stops after so many steps, party 1 after so many of its own, and then both go on.
+// Blocks are asked for on a chain alone.
+fn grants_of(shape: Shape) -> &'static [[bool; 2]] {
+    match shape {
+        Shape::Chain => &GRANTS,
+        _ => &GRANTS[..1],
+    }
+}
+
+/// Two parties make a call each, stop after so many steps of it, party 0 first, and then go on.
 #[derive(Clone, Copy, Debug)]
 struct Case {
     shape: Shape,
     start: Start,
-    first: Call<Item>,
-    first_stop: u64,
-    second: Call<Item>,
-    second_stop: u64,
-    grants: Grants,
+    calls: [Call<Item>; 2],
+    stops: [u64; 2],
+    grants: [bool; 2],
 }
 
-/// How many flawed runs are told one by one, of each sort.
-pub const MOST_TOLD: u64 = 5;
-
-/// How many cases there were, in how many of them the second call waited for the first, and how many were flawed.
-#[derive(Clone, Copy)]
-pub struct Tally {
-    pub cases: u64,
-    pub waits: u64,
-    pub flawed: u64,
-}
-
-impl Tally {
-    /// Of no cases.
-    pub fn zero() -> Tally {
-        Tally {
-            cases: 0,
-            waits: 0,
-            flawed: 0,
-        }
-    }
-
-    /// Counts a case in which this was found, and tells the flaw, if there is one.
-    fn add<R: Print>(&mut self, rt: &R, case: Case, found: Result<bool, Flaw>) -> io::Result<()> {
-        self.cases = self.cases.wrapping_add(1);
-        match found {
-            Ok(true) => self.waits = self.waits.wrapping_add(1),
-            Ok(false) => {}
-            Err(flaw) => {
-                self.flawed = self.flawed.wrapping_add(1);
-                if self.flawed <= MOST_TOLD {
-                    println!(rt; "{flaw:?} in {case:?}")?;
-                }
-            }
-        }
-        Ok(())
-    }
-}
-
-/// Which stops of the second party are tried.
+/// Which stops of party 1 are tried.
 #[derive(Clone, Copy)]
 pub enum Second {
     /// It goes on as long as a solo call ever does.
@@ -240,70 +109,55 @@ pub enum Second {
     Stops,
 }
 
+impl Second {
+    /// Its stops in a call of so many steps.
+    fn stops(self, steps: u64) -> Range<u64> {
+        match self {
+            Second::GoesOn => SOLO_STEPS..SOLO_STEPS + 1,
+            Second::Stops => 0..steps.wrapping_add(1),
+        }
+    }
+}
+
 /// Tries each call of party 0 at each of its stops, beside each call of party 1.
 pub fn try_stops<R: Print>(rt: &R, alloc: Global, second: Second) -> io::Result<Tally> {
-    let mut tally = Tally::zero();
-    for row in ROWS.iter() {
+    let mut tally = Tally::NONE;
+    for line in ROWS.lines() {
+        let Some(row) = Row::parse(line) else {
+            return Err(io::Error::from(ErrorKind::InvalidData));
+        };
         for grants in grants_of(row.shape) {
-            try_row(rt, alloc, row, *grants, second, &mut tally)?;
+            try_row(rt, alloc, &row, *grants, second, &mut tally)?;
         }
     }
     Ok(tally)
-}
-
-// Blocks are asked for on a chain alone.
-fn grants_of(shape: Shape) -> &'static [Grants] {
-    match shape {
-        Shape::Chain => &ALL_GRANTS,
-        _ => &ALL_GRANTS[..1],
-    }
 }
 
 fn try_row<R: Print>(
     rt: &R,
     alloc: Global,
     row: &Row,
-    grants: Grants,
+    grants: [bool; 2],
     second: Second,
     tally: &mut Tally,
 ) -> io::Result<()> {
-    for (call, alone) in FIRST_CALLS.iter().zip(row.steps.iter()) {
+    let calls = each_call(101);
+    let others = each_call(201);
+    for (call, alone) in calls.iter().zip(row.steps.iter()) {
         for stop in 0..alone.wrapping_add(1) {
-            for (other, its_steps) in SECOND_CALLS.iter().zip(row.steps.iter()) {
-                let case = Case {
-                    shape: row.shape,
-                    start: row.start,
-                    first: *call,
-                    first_stop: stop,
-                    second: *other,
-                    second_stop: SOLO_STEPS,
-                    grants,
-                };
-                match second {
-                    Second::GoesOn => tally.add(rt, case, judge(alloc, case, *alone))?,
-                    Second::Stops => try_second(rt, alloc, case, *alone, *its_steps, tally)?,
+            for (other, its_steps) in others.iter().zip(row.steps.iter()) {
+                for other_stop in second.stops(*its_steps) {
+                    let case = Case {
+                        shape: row.shape,
+                        start: row.start,
+                        calls: [*call, *other],
+                        stops: [stop, other_stop],
+                        grants,
+                    };
+                    tally.count(rt, &case, judge(alloc, case, *alone))?;
                 }
             }
         }
-    }
-    Ok(())
-}
-
-// The same case, with each stop of the second party.
-fn try_second<R: Print>(
-    rt: &R,
-    alloc: Global,
-    case: Case,
-    alone: u64,
-    its_steps: u64,
-    tally: &mut Tally,
-) -> io::Result<()> {
-    for second_stop in 0..its_steps.wrapping_add(1) {
-        let case = Case {
-            second_stop,
-            ..case
-        };
-        tally.add(rt, case, judge(alloc, case, alone))?;
     }
     Ok(())
 }
@@ -321,20 +175,18 @@ struct Marks {
 
 // Runs a case, up to where both stop and then to the end, and tells whether the second call waited for the first.
 fn judge(alloc: Global, case: Case, alone: u64) -> Result<bool, Flaw> {
-    let mut events = Events::new(alloc);
-    judge_events(alloc, case, alone, &mut events)
-}
-
-fn judge_events(alloc: Global, case: Case, alone: u64, events: &mut Events) -> Result<bool, Flaw> {
-    let marks = stop_both(case, events)?;
-    run(alloc, case.shape, events, marks.begun, AtEnd::Stopped)?;
-    go_on(case.grants, events)?;
-    let (times, others) = run(alloc, case.shape, events, marks.begun, AtEnd::Ended)?;
-    if case.grants.first && !stops_in_time(times, marks, alone) {
+    let mut events = Vec::new(alloc);
+    let marks = stop_both(case, &mut events)?;
+    run(alloc, case.shape, &events, marks.begun, AtEnd::Stopped)?;
+    add_steps(&mut events, 0, SOLO_STEPS, case.grants[0])?;
+    add_steps(&mut events, 1, SOLO_STEPS, case.grants[1])?;
+    add_steps(&mut events, 0, SOLO_STEPS, case.grants[0])?;
+    let [first, second] = run(alloc, case.shape, &events, marks.begun, AtEnd::Ended)?;
+    if case.grants[0] && !stops_in_time(first, marks, alone) {
         return Err(Flaw::Steps);
     }
-    let waited = case.second_stop == SOLO_STEPS && comes_late(others.ended, marks.after);
-    if waited && !holds(times, marks.stopped) {
+    let waited = case.stops[1] == SOLO_STEPS && comes_late(second.ended, marks.after);
+    if waited && !holds(first, marks.stopped) {
         return Err(Flaw::Waits);
     }
     Ok(waited)
@@ -344,23 +196,14 @@ fn judge_events(alloc: Global, case: Case, alone: u64, events: &mut Events) -> R
 fn stop_both(case: Case, events: &mut Events) -> Result<Marks, Flaw> {
     case.start.reach(events)?;
     let begun = events.len();
-    events.begin(0, case.first)?;
-    events.steps(0, case.first_stop, case.grants.first)?;
+    add_call(events, 0, case.calls[0], case.stops[0], case.grants[0])?;
     let stopped = events.len();
-    events.begin(1, case.second)?;
-    events.steps(1, case.second_stop, case.grants.second)?;
+    add_call(events, 1, case.calls[1], case.stops[1], case.grants[1])?;
     Ok(Marks {
         begun,
         stopped,
         after: events.len(),
     })
-}
-
-// The events by which both go on to their ends.
-fn go_on(grants: Grants, events: &mut Events) -> Result<(), Flaw> {
-    events.steps(0, SOLO_STEPS, grants.first)?;
-    events.steps(1, SOLO_STEPS, grants.second)?;
-    events.steps(0, SOLO_STEPS, grants.first)
 }
 
 // Whether the first call was in the middle where it stopped, or had ended with its last step.

@@ -1,9 +1,9 @@
 //! Lists of events of all sorts, made from fixed numbers.
-use crate::cases::MOST_TOLD;
-use crate::events::{Events, Item, numbered};
+use crate::events::{Events, Item, add_call, add_steps, numbered};
 use crate::flaw::Flaw;
 use crate::runs::{AtEnd, PARTIES, run};
 use crate::shapes::{Shape, Start};
+use crate::tally::Tally;
 use queue_steps::model::Call;
 use queue_steps::sizes::{BLOCK_SLOTS, SOLO_STEPS};
 use std::alloc::Global;
@@ -37,55 +37,39 @@ impl Dice {
     }
 }
 
-/// How many lists there were, and how many were flawed.
-#[derive(Clone, Copy)]
-pub struct Tally {
-    pub lists: u64,
-    pub flawed: u64,
+/// The list that follows from a seed.
+#[derive(Clone, Copy, Debug)]
+struct List {
+    seed: u64,
 }
 
 /// Tries so many lists, of this seed and the ones behind it.
 pub fn try_lists<R: Print>(rt: &R, alloc: Global, seed: u64, count: u64) -> io::Result<Tally> {
-    let mut flawed = 0u64;
+    let mut tally = Tally::NONE;
     for before in 0..count {
-        let seed = seed.wrapping_add(before);
-        if let Err(flaw) = judge(alloc, seed) {
-            flawed = flawed.wrapping_add(1);
-            if flawed <= MOST_TOLD {
-                println!(rt; "{flaw:?} in the list of seed {seed}")?;
-            }
-        }
+        let list = List {
+            seed: seed.wrapping_add(before),
+        };
+        tally.count(rt, &list, judge(alloc, list))?;
     }
-    Ok(Tally {
-        lists: count,
-        flawed,
-    })
+    Ok(tally)
 }
 
-fn judge(alloc: Global, seed: u64) -> Result<(), Flaw> {
-    let mut dice = Dice::new(seed);
+// Makes the list, runs it, and runs it again with a way to each call's end. In which of them calls waited is not looked at.
+fn judge(alloc: Global, list: List) -> Result<bool, Flaw> {
+    let mut dice = Dice::new(list.seed);
     let shape = shape_of(&mut dice);
-    let mut events = Events::new(alloc);
-    judge_list(alloc, shape, &mut dice, &mut events)
-}
-
-// Makes the list, runs it, and runs it again with a way to each call's end.
-fn judge_list(
-    alloc: Global,
-    shape: Shape,
-    dice: &mut Dice,
-    events: &mut Events,
-) -> Result<(), Flaw> {
+    let mut events = Vec::new(alloc);
     for _ in 0..dice.roll(4).wrapping_add(1) {
-        start_of(shape, dice).reach(events)?;
+        start_of(shape, &mut dice).reach(&mut events)?;
     }
     for _ in 0..TURNS {
-        add_turn(dice, events)?;
+        add_turn(&mut dice, &mut events)?;
     }
-    run(alloc, shape, events, 0, AtEnd::Stopped)?;
-    end_all(events)?;
-    run(alloc, shape, events, 0, AtEnd::Ended)?;
-    Ok(())
+    run(alloc, shape, &events, 0, AtEnd::Stopped)?;
+    end_all(&mut events)?;
+    run(alloc, shape, &events, 0, AtEnd::Ended)?;
+    Ok(false)
 }
 
 fn shape_of(dice: &mut Dice) -> Shape {
@@ -118,10 +102,10 @@ fn add_turn(dice: &mut Dice, events: &mut Events) -> Result<(), Flaw> {
     match dice.roll(8) {
         0 | 1 | 2 => {
             let call = call_of(dice);
-            events.begin(party, call)
+            add_call(events, party, call, 0, true)
         }
-        3 => events.steps(party, 1, false),
-        _ => events.steps(party, dice.roll(5), true),
+        3 => add_steps(events, party, 1, false),
+        _ => add_steps(events, party, dice.roll(5), true),
     }
 }
 
@@ -152,7 +136,7 @@ fn call_of(dice: &mut Dice) -> Call<Item> {
 fn end_all(events: &mut Events) -> Result<(), Flaw> {
     for _ in 0..PARTIES {
         for party in 0..PARTIES {
-            events.steps(party, SOLO_STEPS, true)?;
+            add_steps(events, party, SOLO_STEPS, true)?;
         }
     }
     Ok(())

@@ -1,8 +1,8 @@
 //! Finds the calls of a run in one order of whole calls, each of which is one moment, a displacement too.
-use crate::claims::{Claim, claim_of};
 use crate::events::Item;
 use crate::flaw::{Flaw, append};
-use crate::queue::{Moment, Queue};
+use crate::moment::Moment;
+use crate::queue::Queue;
 use machine_replay::types::EffectKind;
 use queue_steps::model::{Call, Reply};
 use std::alloc::Global;
@@ -23,16 +23,6 @@ struct Act {
     event: usize,
     call: usize,
     effect: EffectKind,
-}
-
-impl Act {
-    /// Its call is made where it was done.
-    fn settling(self) -> Settling {
-        Settling {
-            event: self.event,
-            call: self.call,
-        }
-    }
 }
 
 /// The calls of a run in the order in which they began, and what they did.
@@ -88,15 +78,8 @@ impl History {
     }
 }
 
-/// The call of one number is made whole at the event of another.
-#[derive(Clone, Copy)]
-struct Settling {
-    event: usize,
-    call: usize,
-}
-
-// The settlings of the calls that did something. A displacement is settled where it takes the front off, or right before a close that comes earlier.
-fn settle(acts: &[Act], settlings: &mut Vec<Settling>) -> Result<(), Flaw> {
+// Where the calls that did something are made whole: each once, at the event of its act here. A displacement is made where it takes the front off, or right before a close that comes earlier.
+fn settle(acts: &[Act], settled: &mut Vec<Act>) -> Result<(), Flaw> {
     let mut closed = false;
     for (number, act) in acts.iter().enumerate() {
         match act.effect {
@@ -104,29 +87,20 @@ fn settle(acts: &[Act], settlings: &mut Vec<Settling>) -> Result<(), Flaw> {
             EffectKind::Front if closed => {}
             EffectKind::Close | EffectKind::SelfClose => {
                 closed = true;
-                displace(settlings, act.event, acts, number)?;
-                append(settlings, act.settling())?;
+                displace(acts, number, act.event, settled)?;
+                append(settled, *act)?;
             }
-            _ => append(settlings, act.settling())?,
+            _ => append(settled, *act)?,
         }
     }
     Ok(())
 }
 
-// The displacements from the effect of this number on are settled at this event.
-fn displace(
-    settlings: &mut Vec<Settling>,
-    event: usize,
-    acts: &[Act],
-    number: usize,
-) -> Result<(), Flaw> {
+// The displacements from the act of this number on are made at this event.
+fn displace(acts: &[Act], number: usize, event: usize, settled: &mut Vec<Act>) -> Result<(), Flaw> {
     for act in acts.iter().skip(number) {
         if act.effect == EffectKind::Front {
-            let settling = Settling {
-                event,
-                call: act.call,
-            };
-            append(settlings, settling)?;
+            append(settled, Act { event, ..*act })?;
         }
     }
     Ok(())
@@ -168,10 +142,10 @@ pub fn find_order(
     moments: &[Moment],
     queue: &Queue,
 ) -> Result<(), Flaw> {
-    let mut settlings = Vec::new(alloc);
-    settle(history.acts.as_slice(), &mut settlings)?;
+    let mut settled = Vec::new(alloc);
+    settle(history.acts.as_slice(), &mut settled)?;
     let mut order = Order::new(alloc, queue.capacity(), history.calls.len())?;
-    order.make_calls(history, settlings.as_slice())?;
+    order.make_calls(history, settled.as_slice())?;
     if order.has_rest(history, moments) && order.queue.is_settled(queue) {
         Ok(())
     } else {
@@ -190,11 +164,11 @@ impl Order {
         })
     }
 
-    // Makes the calls of these settlings.
-    fn make_calls(&mut self, history: &History, settlings: &[Settling]) -> Result<(), Flaw> {
+    // Makes the calls of these acts.
+    fn make_calls(&mut self, history: &History, settled: &[Act]) -> Result<(), Flaw> {
         self.note(0)?;
-        for settling in settlings {
-            self.make_call(history, *settling)?;
+        for act in settled {
+            self.make_call(history, *act)?;
         }
         Ok(())
     }
@@ -212,24 +186,22 @@ impl Order {
         append(&mut self.stands, stand)
     }
 
-    // Makes a call that was not made yet, in its time.
-    fn make_call(&mut self, history: &History, settling: Settling) -> Result<(), Flaw> {
-        let (Some(span), Some(made)) = (
-            history.calls.get(settling.call),
-            self.made.get_mut(settling.call),
-        ) else {
+    // Makes the call of an act, which was not made yet, in its time.
+    fn make_call(&mut self, history: &History, act: Act) -> Result<(), Flaw> {
+        let (Some(span), Some(made)) = (history.calls.get(act.call), self.made.get_mut(act.call))
+        else {
             return Err(Flaw::Order);
         };
-        if *made || settling.event < span.first {
+        if *made || act.event < span.first {
             return Err(Flaw::Order);
         }
         *made = true;
         let reply = self.queue.make(span.call)?;
         match span.end {
-            Some((last, told)) if settling.event > last || told != reply => return Err(Flaw::Order),
+            Some((last, told)) if act.event > last || told != reply => return Err(Flaw::Order),
             _ => {}
         }
-        self.note(settling.event)
+        self.note(act.event)
     }
 
     // Whether each other call that has ended is right at one of its moments.
@@ -246,38 +218,27 @@ impl Order {
         let Some((last, reply)) = span.end else {
             return true;
         };
-        match claim_of(span.call, reply) {
-            None => false,
-            Some(claim) => {
-                self.has_moment(claim, span.first, last)
-                    || is_glance(span.call) && self.is_glanced(claim, moments, span.first, last)
-            }
-        }
-    }
-
-    // Whether this is so of the queue after one of these events.
-    fn has_moment(&self, claim: Claim, first: usize, last: usize) -> bool {
         for stand in self.stands.iter() {
-            if stand.is_between(first, last) && claim.holds(self.queue.capacity(), stand.moment) {
+            if stand.is_between(span.first, last) && stand.moment.answers(span.call, reply) {
                 return true;
             }
         }
-        false
-    }
-
-    // Whether this is so in the run after one of these events, with an item on its way in.
-    fn is_glanced(&self, claim: Claim, moments: &[Moment], first: usize, last: usize) -> bool {
-        let count = last.wrapping_add(1).wrapping_sub(first);
-        for moment in moments.iter().skip(first).take(count) {
-            if moment.coming && claim.holds(self.queue.capacity(), *moment) {
-                return true;
-            }
-        }
-        false
+        let seen = moments.get(span.first..last.wrapping_add(1)).unwrap_or(&[]);
+        is_glance(span.call) && is_glanced(span.call, reply, seen)
     }
 }
 
 // The calls that may see the queue while an item is on its way in.
 fn is_glance(call: Call<Item>) -> bool {
     matches!(call, Call::Len | Call::IsEmpty | Call::IsFull)
+}
+
+// Whether the reply is right at one of these moments of the run, with an item on its way in.
+fn is_glanced(call: Call<Item>, reply: Reply<Item>, moments: &[Moment]) -> bool {
+    for moment in moments {
+        if moment.coming && moment.answers(call, reply) {
+            return true;
+        }
+    }
+    false
 }

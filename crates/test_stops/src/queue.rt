@@ -1,6 +1,7 @@
 //! A queue as it is defined: a list, an optional capacity, a closed flag, at most one item on its way in, and a count of accepted items.
 use crate::events::Item;
 use crate::flaw::{Flaw, append};
+use crate::moment::Moment;
 use machine_replay::types::EffectKind;
 use queue_steps::errors::{ForcePushError, PopError, PushError};
 use queue_steps::model::{Call, Reply};
@@ -18,28 +19,14 @@ pub struct Queue {
     accepted: u64,
 }
 
-/// What a call has done to the queue so far, with the item that it took off.
+/// What a call has done to the queue so far.
 #[derive(Clone, Copy)]
 pub enum Deed {
     Nothing,
-    Appended,
-    Took(Item),
-    Replaced(Item),
-    /// The front is off, and the call's own item is on its way in.
+    /// This front is off, and the call's own item is on its way in.
     TookFront(Item),
-    Displaced(Item),
-    Closed,
-    SelfClosed,
-}
-
-/// What replies speak of, at one moment.
-#[derive(Clone, Copy)]
-pub struct Moment {
-    pub len: usize,
-    pub full: bool,
-    pub closed: bool,
-    pub coming: bool,
-    pub accepted: u64,
+    /// All that it does. This is to be its reply.
+    All(Reply<Item>),
 }
 
 impl Queue {
@@ -72,8 +59,8 @@ impl Queue {
     /// What replies may say of it now.
     pub fn moment(&self) -> Moment {
         Moment {
+            cap: self.cap,
             len: self.items.len(),
-            full: self.is_full(),
             closed: self.closed,
             coming: self.coming.is_some(),
             accepted: self.accepted,
@@ -127,16 +114,68 @@ impl Queue {
         call: Call<Item>,
         done: Deed,
     ) -> Result<Deed, Flaw> {
-        match (effect, done) {
-            (EffectKind::Append, Deed::Nothing) => self.append(call),
-            (EffectKind::Take, Deed::Nothing) => self.take(call),
-            (EffectKind::Replace, Deed::Nothing) => self.replace(call),
-            (EffectKind::Front, Deed::Nothing) => self.take_front(call),
-            (EffectKind::Arrive, Deed::TookFront(old)) => self.arrive(call, old),
-            (EffectKind::Close, Deed::Nothing) => self.close(call),
-            (EffectKind::SelfClose, Deed::Nothing) => self.close_itself(call),
+        match (done, call) {
+            (Deed::Nothing, Call::Push(item)) => self.apply_push(effect, item),
+            (Deed::Nothing, Call::ForcePush(item)) => self.apply_force(effect, item),
+            (Deed::Nothing, Call::Pop) if effect == EffectKind::Take => {
+                let item = self.front_off()?;
+                Ok(Deed::All(Reply::Pop(Ok(item))))
+            }
+            (Deed::Nothing, Call::Close) if effect == EffectKind::Close && !self.closed => {
+                self.closed = true;
+                Ok(Deed::All(Reply::Close(true)))
+            }
+            (Deed::TookFront(old), Call::ForcePush(item)) if effect == EffectKind::Arrive => {
+                self.arrive(item, old)
+            }
             _ => Err(Flaw::Effect),
         }
+    }
+
+    fn apply_push(&mut self, effect: EffectKind, item: Item) -> Result<Deed, Flaw> {
+        match effect {
+            EffectKind::Append if self.may_append() => {
+                self.accept(item)?;
+                Ok(Deed::All(Reply::Push(Ok(()))))
+            }
+            EffectKind::SelfClose if self.may_close_itself() => {
+                self.closed = true;
+                Ok(Deed::All(Reply::Push(Err(PushError::Closed(item)))))
+            }
+            _ => Err(Flaw::Effect),
+        }
+    }
+
+    fn apply_force(&mut self, effect: EffectKind, item: Item) -> Result<Deed, Flaw> {
+        match effect {
+            EffectKind::Append if self.may_append() => {
+                self.accept(item)?;
+                Ok(Deed::All(Reply::ForcePush(Ok(None))))
+            }
+            EffectKind::Replace if self.may_replace() => {
+                let old = self.front_off()?;
+                self.accept(item)?;
+                Ok(Deed::All(Reply::ForcePush(Ok(Some(old)))))
+            }
+            EffectKind::Front if self.may_take_front() => {
+                self.coming = Some(item);
+                Ok(Deed::TookFront(self.front_off()?))
+            }
+            EffectKind::SelfClose if self.may_close_itself() => {
+                self.closed = true;
+                Ok(Deed::All(Reply::ForcePush(Err(ForcePushError::Closed(item)))))
+            }
+            _ => Err(Flaw::Effect),
+        }
+    }
+
+    fn arrive(&mut self, item: Item, old: Item) -> Result<Deed, Flaw> {
+        if self.coming != Some(item) {
+            return Err(Flaw::Effect);
+        }
+        self.coming = None;
+        self.accept(item)?;
+        Ok(Deed::All(Reply::ForcePush(Ok(Some(old)))))
     }
 
     /// Makes a call that may do something, whole and at one moment, and gives its reply.
@@ -200,75 +239,6 @@ impl Queue {
         }
     }
 
-    fn append(&mut self, call: Call<Item>) -> Result<Deed, Flaw> {
-        let Some(item) = pushed(call) else {
-            return Err(Flaw::Effect);
-        };
-        if !self.may_append() {
-            return Err(Flaw::Effect);
-        }
-        self.accept(item)?;
-        Ok(Deed::Appended)
-    }
-
-    fn take(&mut self, call: Call<Item>) -> Result<Deed, Flaw> {
-        match call {
-            Call::Pop => Ok(Deed::Took(self.front_off()?)),
-            _ => Err(Flaw::Effect),
-        }
-    }
-
-    fn replace(&mut self, call: Call<Item>) -> Result<Deed, Flaw> {
-        match call {
-            Call::ForcePush(item) if self.may_replace() => {
-                let old = self.front_off()?;
-                self.accept(item)?;
-                Ok(Deed::Replaced(old))
-            }
-            _ => Err(Flaw::Effect),
-        }
-    }
-
-    fn take_front(&mut self, call: Call<Item>) -> Result<Deed, Flaw> {
-        match call {
-            Call::ForcePush(item) if self.may_take_front() => {
-                let old = self.front_off()?;
-                self.coming = Some(item);
-                Ok(Deed::TookFront(old))
-            }
-            _ => Err(Flaw::Effect),
-        }
-    }
-
-    fn arrive(&mut self, call: Call<Item>, old: Item) -> Result<Deed, Flaw> {
-        match call {
-            Call::ForcePush(item) if self.coming == Some(item) => {
-                self.coming = None;
-                self.accept(item)?;
-                Ok(Deed::Displaced(old))
-            }
-            _ => Err(Flaw::Effect),
-        }
-    }
-
-    fn close(&mut self, call: Call<Item>) -> Result<Deed, Flaw> {
-        match call {
-            Call::Close if !self.closed => {
-                self.closed = true;
-                Ok(Deed::Closed)
-            }
-            _ => Err(Flaw::Effect),
-        }
-    }
-
-    fn close_itself(&mut self, call: Call<Item>) -> Result<Deed, Flaw> {
-        if pushed(call).is_none() || !self.may_close_itself() {
-            return Err(Flaw::Effect);
-        }
-        self.closed = true;
-        Ok(Deed::SelfClosed)
-    }
-
     fn front_off(&mut self) -> Result<Item, Flaw> {
         if self.items.is_empty() {
             return Err(Flaw::Effect);
@@ -280,14 +250,5 @@ impl Queue {
         append(&mut self.items, item)?;
         self.accepted = self.accepted.wrapping_add(1);
         Ok(())
-    }
-}
-
-// The item that a push or a forced push carries.
-fn pushed(call: Call<Item>) -> Option<Item> {
-    match call {
-        Call::Push(item) => Some(item),
-        Call::ForcePush(item) => Some(item),
-        _ => None,
     }
 }

@@ -1,11 +1,10 @@
 //! Reads what is told of a run, event by event, beside a queue that does what is told.
-use crate::claims::{Claim, claim_of};
 use crate::events::Item;
 use crate::flaw::{Flaw, append};
+use crate::moment::{Moment, may_answer};
 use crate::orders::{History, find_order};
-use crate::queue::{Deed, Moment, Queue};
+use crate::queue::{Deed, Queue};
 use machine_replay::types::{EffectKind, Event, Peak, Replay};
-use queue_steps::errors::{ForcePushError, PushError};
 use queue_steps::model::{Call, Reply};
 use queue_steps::sizes::{BLOCK_SLOTS, WAIT_FREE_STEPS};
 use std::alloc::{Allocator, Global};
@@ -56,14 +55,44 @@ impl InCall {
             _ => false,
         }
     }
+
+    /// Whether it may end with this reply after these moments, the first of which comes after its first own step.
+    fn may_end(&self, reply: Reply<Item>, moments: &[Moment]) -> bool {
+        match self.done {
+            Deed::Nothing => may_answer(moments, self.call, reply),
+            Deed::TookFront(_) => false,
+            Deed::All(owed) => owed == reply,
+        }
+    }
 }
 
 /// What is told of one event.
 #[derive(Clone, Copy)]
-struct Entry<'a> {
+struct Entry {
     skipped: bool,
     effect: Option<EffectKind>,
-    reply: Option<&'a Reply<Item>>,
+    reply: Option<Reply<Item>>,
+}
+
+impl Entry {
+    // It ends no call.
+    fn is_unanswered(self) -> Result<(), Flaw> {
+        match self.reply {
+            None => Ok(()),
+            Some(_) => Err(Flaw::Reply),
+        }
+    }
+
+    // It does nothing to the queue, and is skipped where it does not fit.
+    fn is_idle(self, fits: bool) -> Result<(), Flaw> {
+        if self.skipped == fits {
+            return Err(Flaw::Skip);
+        }
+        match self.effect {
+            None => Ok(()),
+            Some(_) => Err(Flaw::Effect),
+        }
+    }
 }
 
 /// A run that is read.
@@ -126,6 +155,7 @@ impl<'a> Reader<'a> {
         self.note_blocks();
         for (number, event) in events.iter().enumerate() {
             self.read_event(number, event)?;
+            self.note_blocks();
         }
         self.end(left)?;
         find_order(alloc, &self.history, self.moments.as_slice(), &self.queue)?;
@@ -136,23 +166,21 @@ impl<'a> Reader<'a> {
         match event {
             Event::Begin(party, call) => {
                 let entry = self.entry(number, *party)?;
-                self.read_begin(*party, *call, entry)?;
+                self.read_begin(*party, *call, entry)
             }
             Event::Step(party, _) => {
                 let entry = self.entry(number, *party)?;
-                self.read_step(*party, entry)?;
+                self.read_step(*party, entry)
             }
         }
-        self.note_blocks();
-        Ok(())
     }
 
     // What is told of the event of this number, which is this party's.
-    fn entry(&mut self, number: usize, party: usize) -> Result<Entry<'a>, Flaw> {
+    fn entry(&mut self, number: usize, party: usize) -> Result<Entry, Flaw> {
         Ok(Entry {
             skipped: self.is_skipped(number),
-            effect: self.effect(number, party)?,
-            reply: self.reply(number, party)?,
+            effect: next_of(&mut self.effects, number, party, Flaw::Effect)?,
+            reply: next_of(&mut self.replies, number, party, Flaw::Reply)?,
         })
     }
 
@@ -166,37 +194,6 @@ impl<'a> Reader<'a> {
         }
     }
 
-    fn effect(&mut self, number: usize, party: usize) -> Result<Option<EffectKind>, Flaw> {
-        match self.effects.split_first() {
-            Some(((at, whose, effect), rest)) if *at == number => {
-                self.effects = rest;
-                if *whose != party {
-                    return Err(Flaw::Effect);
-                }
-                Ok(Some(*effect))
-            }
-            _ => Ok(None),
-        }
-    }
-
-    fn reply(&mut self, number: usize, party: usize) -> Result<Option<&'a Reply<Item>>, Flaw> {
-        match self.replies.split_first() {
-            Some(((at, whose, reply), rest)) if *at == number => {
-                self.replies = rest;
-                if *whose != party {
-                    return Err(Flaw::Reply);
-                }
-                Ok(Some(reply))
-            }
-            _ => Ok(None),
-        }
-    }
-
-    // Whether a party is one of the run, and is between calls.
-    fn is_idle(&self, party: usize) -> bool {
-        matches!(self.calls.get(party), Some(None))
-    }
-
     fn put(&mut self, party: usize, call: Option<InCall>) {
         if let Some(place) = self.calls.get_mut(party) {
             *place = call;
@@ -204,17 +201,13 @@ impl<'a> Reader<'a> {
     }
 
     fn read_begin(&mut self, party: usize, call: Call<Item>, entry: Entry) -> Result<(), Flaw> {
-        let fits = self.is_idle(party);
-        if entry.skipped == fits {
-            return Err(Flaw::Skip);
-        }
-        if entry.effect.is_some() {
-            return Err(Flaw::Effect);
-        }
+        // Its party is one of the run, and is between calls.
+        let fits = matches!(self.calls.get(party), Some(None));
+        entry.is_idle(fits)?;
         let first = self.moments.len();
         self.note_moment()?;
         if !fits {
-            return unanswered(entry);
+            return entry.is_unanswered();
         }
         let number = self.history.begin(call, first)?;
         let in_call = InCall::begin(number, call, first);
@@ -223,13 +216,14 @@ impl<'a> Reader<'a> {
             return self.read_reply(in_call, entry.reply);
         }
         self.put(party, Some(in_call));
-        unanswered(entry)
+        entry.is_unanswered()
     }
 
     fn read_step(&mut self, party: usize, entry: Entry) -> Result<(), Flaw> {
         let Some(Some(in_call)) = self.calls.get_mut(party) else {
             self.note_moment()?;
-            return no_step(entry);
+            entry.is_idle(false)?;
+            return entry.is_unanswered();
         };
         if entry.skipped {
             return Err(Flaw::Skip);
@@ -245,21 +239,11 @@ impl<'a> Reader<'a> {
             in_call.apply(effect, &mut self.queue)?;
         }
         in_call.read_open = in_call.read_open || self.queue.is_open();
-        let ends = entry.reply.is_some() || in_call.is_due();
-        self.note_moment()?;
-        if ends {
-            self.end_call(party, entry)
-        } else {
-            Ok(())
-        }
-    }
-
-    // The party's call is to reply.
-    fn end_call(&mut self, party: usize, entry: Entry) -> Result<(), Flaw> {
-        let Some(Some(in_call)) = self.calls.get(party) else {
-            return Err(Flaw::Reply);
-        };
         let in_call = *in_call;
+        self.note_moment()?;
+        if entry.reply.is_none() && !in_call.is_due() {
+            return Ok(());
+        }
         self.put(party, None);
         self.read_reply(in_call, entry.reply)
     }
@@ -277,39 +261,20 @@ impl<'a> Reader<'a> {
         }
     }
 
-    fn read_reply(&mut self, in_call: InCall, reply: Option<&Reply<Item>>) -> Result<(), Flaw> {
+    // Reads the reply of a call that is to have one now.
+    fn read_reply(&mut self, in_call: InCall, reply: Option<Reply<Item>>) -> Result<(), Flaw> {
         let Some(reply) = reply else {
             return Err(Flaw::WaitFree);
         };
         self.in_progress = self.in_progress.wrapping_sub(1);
         let last = self.moments.len().wrapping_sub(1);
-        self.history.end(in_call.number, last, *reply);
-        if self.fits(in_call, *reply) {
+        self.history.end(in_call.number, last, reply);
+        let moments = self.moments.get(in_call.first..).unwrap_or(&[]);
+        if in_call.may_end(reply, moments) {
             Ok(())
         } else {
             Err(Flaw::Reply)
         }
-    }
-
-    // Whether a call that has done this may end with this reply now.
-    fn fits(&self, in_call: InCall, reply: Reply<Item>) -> bool {
-        match in_call.done {
-            Deed::Nothing => match claim_of(in_call.call, reply) {
-                Some(claim) => self.was_so(in_call.first, claim),
-                None => false,
-            },
-            deed => reply_for(deed, in_call.call) == Some(reply),
-        }
-    }
-
-    // Whether this was so at a moment from the one of this number on.
-    fn was_so(&self, first: usize, claim: Claim) -> bool {
-        for moment in self.moments.iter().skip(first) {
-            if claim.holds(self.queue.capacity(), *moment) {
-                return true;
-            }
-        }
-        false
     }
 
     // Compares the bound on blocks with what may be held at this moment.
@@ -353,39 +318,23 @@ impl<'a> Reader<'a> {
     }
 }
 
-// The reply of a call that has done this.
-fn reply_for(deed: Deed, call: Call<Item>) -> Option<Reply<Item>> {
-    match (deed, call) {
-        (Deed::Appended, Call::Push(_)) => Some(Reply::Push(Ok(()))),
-        (Deed::Appended, Call::ForcePush(_)) => Some(Reply::ForcePush(Ok(None))),
-        (Deed::Took(item), Call::Pop) => Some(Reply::Pop(Ok(item))),
-        (Deed::Replaced(old) | Deed::Displaced(old), Call::ForcePush(_)) => {
-            Some(Reply::ForcePush(Ok(Some(old))))
+// What the first of these entries tells, which goes, if it is of the event of this number: then it has to be this party's.
+fn next_of<E: Copy>(
+    entries: &mut &[(usize, usize, E)],
+    number: usize,
+    party: usize,
+    other_party: Flaw,
+) -> Result<Option<E>, Flaw> {
+    let later = *entries;
+    match later.split_first() {
+        Some(((at, whose, told), rest)) if *at == number => {
+            *entries = rest;
+            if *whose == party {
+                Ok(Some(*told))
+            } else {
+                Err(other_party)
+            }
         }
-        (Deed::Closed, Call::Close) => Some(Reply::Close(true)),
-        (Deed::SelfClosed, Call::Push(item)) => Some(Reply::Push(Err(PushError::Closed(item)))),
-        (Deed::SelfClosed, Call::ForcePush(item)) => {
-            Some(Reply::ForcePush(Err(ForcePushError::Closed(item))))
-        }
-        _ => None,
+        _ => Ok(None),
     }
-}
-
-// An event that does not fit, or that ends no call, has no reply.
-fn unanswered(entry: Entry) -> Result<(), Flaw> {
-    match entry.reply {
-        None => Ok(()),
-        Some(_) => Err(Flaw::Reply),
-    }
-}
-
-// What is told of a step between calls, or of a stranger's: that it was skipped.
-fn no_step(entry: Entry) -> Result<(), Flaw> {
-    if !entry.skipped {
-        return Err(Flaw::Skip);
-    }
-    if entry.effect.is_some() {
-        return Err(Flaw::Effect);
-    }
-    unanswered(entry)
 }

@@ -1,5 +1,5 @@
 //! Runs of the machine in memory that is counted, each of which is read.
-use crate::events::{Events, Item};
+use crate::events::Item;
 use crate::flaw::Flaw;
 use crate::reader::read;
 use crate::shapes::Shape;
@@ -42,10 +42,10 @@ pub enum AtEnd {
 pub fn run(
     alloc: Global,
     shape: Shape,
-    events: &Events,
+    events: &[Event<Item>],
     from: usize,
     at_end: AtEnd,
-) -> Result<(Times, Times), Flaw> {
+) -> Result<[Times; 2], Flaw> {
     let Ok(places) = Layout::array::<BlockPlace<Item>>(BLOCK_SLOTS as usize) else {
         return Err(Flaw::NoMemory);
     };
@@ -63,35 +63,21 @@ fn run_in(
     alloc: Global,
     heap: &Refusing<Global>,
     shape: Shape,
-    events: &Events,
+    events: &[Event<Item>],
     from: usize,
     at_end: AtEnd,
-) -> Result<(Times, Times), Flaw> {
-    let events = events.as_slice();
+) -> Result<[Times; 2], Flaw> {
     let mut list = Vec::with_capacity(heap, events.len().max(ROOM))?;
     list.extend_from_slice(events)?;
     let told = replay(heap, shape.kind(), PARTIES, list)?;
-    judge(alloc, heap, shape, events, &told, at_end)?;
-    Ok((times_of(&told, 0, from), times_of(&told, 1, from)))
-}
-
-// Reads what is told of a run, and compares its blocks with those that were counted.
-fn judge(
-    alloc: Global,
-    heap: &Refusing<Global>,
-    shape: Shape,
-    events: &[Event<Item>],
-    told: &Replay<Item, &Refusing<Global>>,
-    at_end: AtEnd,
-) -> Result<(), Flaw> {
-    let in_progress = read(alloc, shape.capacity(), PARTIES, events, told)?;
+    let in_progress = read(alloc, shape.capacity(), PARTIES, events, &told)?;
     if in_progress != 0 && matches!(at_end, AtEnd::Ended) {
         return Err(Flaw::Waits);
     }
     if heap.most_watched() != told.peak.blocks as u64 {
         return Err(Flaw::Blocks);
     }
-    Ok(())
+    Ok([times_of(&told, 0, from), times_of(&told, 1, from)])
 }
 
 fn times_of(told: &Replay<Item, &Refusing<Global>>, party: usize, from: usize) -> Times {

@@ -1,7 +1,7 @@
 //! Queues as stops and lists of events find them: their kinds, and what they hold.
 ghost use Rattle.machine_replay.specs.Replays.{CanReplay};
 
-use crate::events::{Events, numbered};
+use crate::events::{Events, add_call, numbered};
 use crate::flaw::Flaw;
 use queue_steps::model::Call;
 use queue_steps::sizes::{BLOCK_SLOTS, WAIT_FREE_STEPS};
@@ -21,6 +21,17 @@ pub enum Shape {
 }
 
 impl Shape {
+    /// The one that this word names.
+    pub fn named(word: &str) -> Option<Shape> {
+        match word {
+            "single" => Some(Shape::Single),
+            "bounded:2" => Some(Shape::Pair),
+            "bounded:3" => Some(Shape::Triple),
+            "unbounded" => Some(Shape::Chain),
+            _ => None,
+        }
+    }
+
     /// Its kind in the machine.
     pub fn kind(self) -> Kind
         ensures { CanReplay result }
@@ -75,13 +86,13 @@ impl Start {
     pub fn reach(self, events: &mut Events) -> Result<(), Flaw> {
         for before in 0..self.pushed {
             let item = numbered(before.wrapping_add(1));
-            events.call(0, Call::Push(item), push_steps(before))?;
+            add_call(events, 0, Call::Push(item), push_steps(before), true)?;
         }
         for _ in 0..self.popped {
-            events.call(0, Call::Pop, POP_STEPS)?;
+            add_call(events, 0, Call::Pop, POP_STEPS, true)?;
         }
         if self.closed {
-            events.call(0, Call::Close, WAIT_FREE_STEPS)?;
+            add_call(events, 0, Call::Close, WAIT_FREE_STEPS, true)?;
         }
         Ok(())
     }

@@ -1,9 +1,11 @@
 //! Stored cases: a program with its arguments, what it reads, and what it is to write.
-use crate::stored::runs::{explore, queue_run};
+use crate::stored::replays::text_of;
+use crate::stored::runs::{counting, explore, queue_run};
 use std::rt::Files;
 use std::sync::Wait;
 use std::thread::Threads;
 use std::{fs, io};
+use test_support::allocators::Heap;
 use test_support::runs::{End, Outcome};
 use test_support::streams::{Failing, Flow, Reader, WHOLE};
 
@@ -100,10 +102,11 @@ impl<'a> Case<'a> {
         }
     }
 
-    /// Runs its program.
+    /// Runs its program. Scripts and replays take this memory.
     fn run<R: Threads + Wait + Sync + Files + Print + AllocGlobal>(
         &self,
         rt: &R,
+        heap: &Heap,
     ) -> io::Result<Outcome> {
         let (input, flow) = match self.input {
             Some(name) => (file(rt, name)?, WHOLE),
@@ -112,25 +115,28 @@ impl<'a> Case<'a> {
         let mut reader = Reader::new(&input, flow);
         let outcome = match self.command.strip_prefix("queue_explore") {
             Some(args) => explore(rt.alloc(), args, &mut reader)?,
-            None => queue_run(rt, self.command, &mut reader)?,
+            None => queue_run(rt, heap, self.command, &mut reader)?,
         };
         Ok(outcome)
     }
 
-    /// Whether its program ends as it is to. If not, it names the line of the file that has something else.
+    /// Whether its program ends as it is to, with as many blocks at once as a replay tells of, and gives its memory back. If not, it names the line of the file that has something else, or the one behind the last, and what was counted.
     pub fn agrees<R: Threads + Wait + Sync + Files + Print + AllocGlobal>(
         &self,
         rt: &R,
     ) -> io::Result<bool> {
         let text = file(rt, self.wanted.name())?;
-        let outcome = self.run(rt)?;
+        let heap = counting(rt.alloc())?;
+        let outcome = self.run(rt, &heap)?;
         let end = outcome.end();
-        if end == self.wanted.end(&text) && outcome.is_flushed() {
+        let is_right = end == self.wanted.end(&text) && outcome.is_flushed();
+        let (blocks, kept) = (heap.most_watched(), heap.live());
+        if is_right && blocks == most_blocks(text_of(&text)) && kept == 0 {
             return Ok(true);
         }
         let line = first_other_line(&text, self.wanted.written(end));
         println!(rt;
-            "{}, line {line}, status {}",
+            "{}, line {line}, status {}, {blocks} blocks at once, {kept} allocations kept",
             self.wanted.name(),
             end.status
         )?;
@@ -143,6 +149,17 @@ const UNREADABLE: Flow = Flow {
     most: 1,
     failing: Failing::At(0, io::ErrorKind::BrokenPipe),
 };
+
+/// The most blocks at once that the output of a replay tells of, which it does on a queue without a capacity alone.
+fn most_blocks(output: &str) -> u64 {
+    for line in output.lines() {
+        if let Some(told) = line.strip_prefix("blocks ") {
+            let (blocks, _) = told.split_once(" of ").unwrap_or(("", ""));
+            return blocks.parse().unwrap_or(0);
+        }
+    }
+    0
+}
 
 /// The number of the first line in which the other text is not as this one; where there is none, that of the one behind the last.
 fn first_other_line(text: &[u8], other: &[u8]) -> usize {

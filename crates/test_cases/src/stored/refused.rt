@@ -9,6 +9,6 @@ const REFUSED: &str = "queue_run replay bounded:576460752303423489 1";
 
 /// The status with which that replay ends.
 pub fn status_of_refused<R: Threads + Wait + Sync + AllocGlobal>(rt: &R) -> Result<u8, AllocError> {
-    let outcome = queue_run(rt, REFUSED, &mut &b"0 push 1\n"[..])?;
+    let outcome = queue_run(rt, &rt.alloc(), REFUSED, &mut &b"0 push 1\n"[..])?;
     Ok(outcome.status)
 }

@@ -61,7 +61,7 @@ fn replay<R: Threads + Wait + Sync + AllocGlobal>(
     mut schedule: &[u8],
 ) -> Result<Outcome, AllocError> {
     let line = format!(in rt.alloc(); "queue_run replay {kind} {parties}")?;
-    queue_run(rt, line.as_str(), &mut schedule)
+    queue_run(rt, &rt.alloc(), line.as_str(), &mut schedule)
 }
 
 // The kind of queue that the explorer's arguments name.

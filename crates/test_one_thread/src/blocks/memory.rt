@@ -120,29 +120,15 @@ fn large_slots_are_asked_for(rt: HostRuntime) {
     is(&rt, found, [granted, refused, refused, refused, not_asked]);
 }
 
-/// How many allocations of the watched layout live while there is a block of such slots, and how many of any layout; and whether a second block is refused, and how many live once it is given up.
-fn counts_with<S>(rt: &impl Abort, alloc: &&Heap) -> ([u64; 3], bool) {
-    let (link, block) = Loose::<S, &Heap>::make(alloc).expect(rt, "memory");
-    let watched = alloc.live_watched();
-    let one = alloc.live();
-    let refused = refuses_block::<S>(alloc);
-    let again = alloc.live();
-    block.give_up(alloc, link);
-    ([watched, one, again], refused)
-}
-
-/// Makes two blocks of such slots and gives them up, the second one first. Gives what is counted with the first; and in the end how many allocations of this layout live, how many of any, how many there were at most, and how many requests.
-fn counts_of<S>(
-    rt: &impl Abort,
-    alloc: Global,
-    size: usize,
-    align: usize,
-) -> (([u64; 3], bool), [u64; 4]) {
+/// Makes a block of such slots, which is of this layout, and gives it up. Gives how many allocations of the layout live while it is there, and how many of any; and the same afterwards.
+fn counts_of<S>(rt: &impl Abort, alloc: Global, size: usize, align: usize) -> [u64; 4] {
     let layout = Layout::from_size_align(size, align).expect(rt, "a layout");
     let heap = Heap::watching(alloc, Refusal::Never, layout);
-    let with = counts_with::<S>(rt, &&heap);
-    let live = heap.live_watched();
-    (with, [live, heap.live(), heap.most(), heap.requests()])
+    let alloc = &heap;
+    let (link, block) = Loose::<S, &Heap>::make(&alloc).expect(rt, "memory");
+    let (watched, all) = (heap.live_watched(), heap.live());
+    block.give_up(&alloc, link);
+    [watched, all, heap.live_watched(), heap.live()]
 }
 
 /// A block of slots that are aligned more strictly than its words goes back with the size and the alignment that it was asked for with.
@@ -150,11 +136,7 @@ fn counts_of<S>(
 fn a_block_goes_back_as_it_came(rt: HostRuntime) {
     let of_words = counts_of::<u64>(&rt, rt.alloc(), 1016, 8);
     let aligned = counts_of::<u128>(&rt, rt.alloc(), 1520, 16);
-    is(
-        &rt,
-        [of_words, aligned],
-        [(([1, 1, 1], false), [0, 0, 2, 2]); 2],
-    );
+    is(&rt, [of_words, aligned], [[1, 1, 0, 0]; 2]);
 }
 
 /// Whether the link of a block leads anywhere.

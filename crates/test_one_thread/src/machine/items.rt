@@ -2,72 +2,64 @@
 ghost use Rattle.machine_replay.specs.Replays.{CanReplay};
 
 use crate::asserts::is_in;
-use crate::machine::script::{StoryLine, events_of};
+use crate::machine::events::add;
 use machine_replay::replay;
 use machine_replay::types::Event;
 use queue_steps::model::Call;
+use queue_steps::sizes::SOLO_STEPS;
 use queue_steps::steps::Kind;
 use std::alloc::Global;
 use std::process::Abort;
 use test_support::items::{Counted, Items};
 
-/// The same push or forced push with an item in the place of the number, and else a pop.
-fn with_item<'a>(call: Call<u64>, items: &'a Items) -> Call<Counted<'a>> {
-    match call {
-        Call::Push(_) => Call::Push(Counted::of(items)),
-        Call::ForcePush(_) => Call::ForcePush(Counted::of(items)),
-        _ => Call::Pop,
-    }
-}
-
-/// The events of these lines with items in the place of numbers.
-fn counted_events<'a>(
+/// So many pushes; a forced push, a push and a pop that stop after so many steps; and calls of parties of which one may be in a call already, and of one that the machine does not have.
+fn events_of<'a>(
     rt: &impl Abort,
     alloc: Global,
-    lines: &[StoryLine],
     items: &'a Items,
+    held: u64,
+    steps: u64,
 ) -> Vec<Event<Counted<'a>>> {
     let mut events = Vec::new(alloc);
-    for event in events_of(rt, alloc, lines) {
-        let event = match event {
-            Event::Begin(party, call) => Event::Begin(party, with_item(call, items)),
-            Event::Step(party, granted) => Event::Step(party, granted),
-        };
-        events.push(event).expect(rt, "memory");
+    for _ in 0..held {
+        add(
+            rt,
+            &mut events,
+            0,
+            Call::Push(Counted::of(items)),
+            SOLO_STEPS,
+        );
+    }
+    add(
+        rt,
+        &mut events,
+        0,
+        Call::ForcePush(Counted::of(items)),
+        steps,
+    );
+    add(rt, &mut events, 1, Call::Push(Counted::of(items)), steps);
+    add(rt, &mut events, 2, Call::Pop, steps);
+    for party in [0, 1, 9usize] {
+        add(rt, &mut events, party, Call::Push(Counted::of(items)), 0);
     }
     events
 }
 
-/// How many items are made for the run of these lines, and how many of them are dropped in the end.
-fn made_and_dropped(rt: &impl Abort, alloc: Global, kind: Kind, lines: &[StoryLine]) -> (u64, u64)
-    requires { CanReplay kind }
-{
-    let items = Items::none();
-    let run = replay(alloc, kind, 3, counted_events(rt, alloc, lines, &items));
-    drop(run.expect(rt, "memory"));
-    (items.made(), items.dropped())
-}
-
-/// A forced push, a push and a pop that stop after each number of steps, begun by parties of which one is in a call already, and by one that the machine does not have; the queue holds so many items before.
+/// Asserts that each item of such runs by three parties is dropped in the end.
 fn drops_all(rt: &impl Abort, alloc: Global, kind: Kind, held: u64)
     requires { CanReplay kind }
 {
     for steps in 0..12u64 {
-        let lines = [
-            StoryLine::Pushes(0, held),
-            StoryLine::Begins(0, Call::ForcePush(1)),
-            StoryLine::Steps(0, steps),
-            StoryLine::Begins(1, Call::Push(2)),
-            StoryLine::Steps(1, steps),
-            StoryLine::Begins(2, Call::Pop),
-            StoryLine::Steps(2, steps),
-            StoryLine::Begins(0, Call::Push(3)),
-            StoryLine::Begins(1, Call::ForcePush(4)),
-            StoryLine::Begins(9, Call::Push(5)),
-        ];
+        let items = Items::none();
+        let run = replay(alloc, kind, 3, events_of(rt, alloc, &items, held, steps));
+        drop(run.expect(rt, "memory"));
         let given = held.wrapping_add(5);
-        let seen = made_and_dropped(rt, alloc, kind, &lines);
-        is_in(rt, kind, seen, (given, given));
+        is_in(
+            rt,
+            (kind, steps),
+            [items.made(), items.dropped()],
+            [given; 2],
+        );
     }
 }
 

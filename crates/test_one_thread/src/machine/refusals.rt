@@ -2,113 +2,106 @@
 ghost use Rattle.machine_replay.specs.Replays.{CanReplay};
 
 use crate::asserts::is_in;
-use crate::machine::script::{StoryLine, events_of};
+use crate::machine::events::add;
 use machine_replay::replay;
-use machine_replay::types::{Event, Peak};
+use machine_replay::types::Event;
 use queue_steps::model::Call;
-use queue_steps::sizes::MAX_CAPACITY;
+use queue_steps::sizes::{MAX_CAPACITY, SOLO_STEPS};
 use queue_steps::steps::Kind;
 use std::alloc::Global;
 use std::process::Abort;
 use test_support::allocators::{Heap, Refusal};
 
-/// The run of these events, in memory that is counted. Gives how many items it leaves and what it tells of its blocks, where there is memory for it.
-pub(crate) fn run(
-    heap: &Heap,
-    kind: Kind,
-    parties: usize,
-    events: &[Event<u64>],
-) -> Option<(usize, Peak)>
+/// How many items a run of these events by two parties leaves, where there is memory for it.
+fn left_of(heap: &Heap, kind: Kind, events: &[Event<u64>]) -> Option<usize>
     requires { CanReplay kind }
 {
     let Ok(events) = events.to_vec(heap) else {
         return None;
     };
-    match replay(heap, kind, parties, events) {
-        Ok(told) => Some((told.left.len(), told.peak)),
+    match replay(heap, kind, 2, events) {
+        Ok(told) => Some(told.left.len()),
         Err(_) => None,
     }
 }
 
-/// Asserts what is seen of the run of these events by two parties, of which the request of this number is refused: how many items are left, where there is memory for the run, and how many requests there are. Nothing stays allocated.
+/// Asserts how many items are left where the request of this number is refused, if there is memory for the run then, and how many requests there are. Nothing stays allocated.
 fn is_refused(
     rt: &impl Abort,
     alloc: Global,
     kind: Kind,
     events: &[Event<u64>],
     number: u64,
-    wanted: (Option<usize>, u64),
+    left: Option<usize>,
+    requests: u64,
 )
     requires { CanReplay kind }
 {
     let heap = Heap::new(alloc, Refusal::Nth(number));
-    let left = match run(&heap, kind, 2, events) {
-        Some((left, _)) => Some(left),
-        None => None,
-    };
-    let seen = ((left, heap.requests()), heap.live());
-    is_in(rt, (kind, number), seen, (wanted, 0));
+    let found = left_of(&heap, kind, events);
+    let seen = (found, heap.requests(), heap.live());
+    is_in(rt, (kind, number), seen, (left, requests, 0));
 }
 
-/// Requests of which one is refused in each run: the first, and the one behind the last; how many items are left then, where there is memory for the run; and how many requests there are, where the one that is refused is not the last.
-type Row = (u64, u64, Option<usize>, Option<u64>);
-
-/// Refuses these requests in turn, and asserts what is seen of each run.
-fn are_refused(rt: &impl Abort, alloc: Global, kind: Kind, lines: &[StoryLine], rows: &[Row])
+/// Asserts that there are so many requests for room, that each of them refused is want of memory, and that no request comes after it. Where none is refused, so many items are left.
+fn each_is_refused(
+    rt: &impl Abort,
+    alloc: Global,
+    kind: Kind,
+    events: &[Event<u64>],
+    requests: u64,
+    left: usize,
+)
     requires { CanReplay kind }
 {
-    let events = events_of(rt, alloc, lines);
-    for (first, end, left, requests) in rows {
-        for number in *first..*end {
-            let wanted = (*left, requests.unwrap_or(number));
-            is_refused(rt, alloc, kind, &events, number, wanted);
-        }
+    for number in 1..requests.wrapping_add(1) {
+        is_refused(rt, alloc, kind, events, number, None, number);
     }
+    is_refused(rt, alloc, kind, events, 0, Some(left), requests);
 }
 
-/// A push of which one step is taken, and a pop that has begun.
-static BEGUN: [StoryLine; 4] = [
-    StoryLine::Begins(0, Call::Push(7)),
-    StoryLine::Steps(0, 1),
-    StoryLine::Begins(1, Call::Pop),
-    StoryLine::Steps(1, 1),
-];
-
-/// Eighty pushes without a capacity.
-static EIGHTY: [StoryLine; 1] = [StoryLine::Pushes(0, 80)];
-
-/// Each request for room refused in turn is want of memory. One slot has no stamps, and the step is the append there.
-static OF_SLOT: [Row; 2] = [(1, 9, None, None), (9, 10, Some(1), Some(8))];
-
-static OF_RING: [Row; 2] = [(1, 10, None, None), (10, 11, Some(0), Some(9))];
-
-/// No block was asked for where a request for room is refused. Each of the two requests for a block refused is want of memory to its push alone: the next push asks again.
-static OF_CHAIN: [Row; 3] = [
-    (1, 8, None, None),
-    (8, 10, Some(79), Some(10)),
-    (10, 11, Some(80), Some(9)),
-];
-
+/// One slot has no stamps, and the step is the append there.
 #[test]
-fn each_request_refused(rt: HostRuntime) {
-    let alloc = rt.alloc();
-    are_refused(&rt, alloc, Kind::Single, &BEGUN, &OF_SLOT);
-    are_refused(&rt, alloc, Kind::Bounded(2), &BEGUN, &OF_RING);
-    are_refused(&rt, alloc, Kind::Unbounded, &EIGHTY, &OF_CHAIN);
+fn each_request_for_room_refused(rt: HostRuntime) {
+    let begun = [
+        Event::Begin(0, Call::Push(7)),
+        Event::Step(0, true),
+        Event::Begin(1, Call::Pop),
+        Event::Step(1, true),
+    ];
+    each_is_refused(&rt, rt.alloc(), Kind::Single, &begun, 8, 1);
+    each_is_refused(&rt, rt.alloc(), Kind::Bounded(2), &begun, 9, 0);
+    each_is_refused(&rt, rt.alloc(), Kind::Unbounded, &begun, 7, 0);
 }
 
-/// Want of memory without a request, and at the first one.
-static NOT_ASKED: [Row; 1] = [(1, 2, None, Some(0))];
-
-static ASKED: [Row; 1] = [(1, 2, None, None)];
+/// Each of two requests for a block refused is want of memory to its push alone: the next push asks again.
+#[test]
+fn each_block_refused(rt: HostRuntime) {
+    let mut pushes = Vec::new(rt.alloc());
+    for item in 0..80u64 {
+        add(&rt, &mut pushes, 0, Call::Push(item), SOLO_STEPS);
+    }
+    for number in [8, 9u64] {
+        is_refused(
+            &rt,
+            rt.alloc(),
+            Kind::Unbounded,
+            &pushes,
+            number,
+            Some(79),
+            10,
+        );
+    }
+    is_refused(&rt, rt.alloc(), Kind::Unbounded, &pushes, 10, Some(80), 9);
+}
 
 /// A capacity that no queue may have is want of memory without a request. Any other is asked of the allocator.
 #[test]
 fn the_greatest_capacity_is_asked_for(rt: HostRuntime) {
     let alloc = rt.alloc();
-    are_refused(&rt, alloc, Kind::Bounded(MAX_CAPACITY + 1), &[], &NOT_ASKED);
-    are_refused(&rt, alloc, Kind::Bounded(usize::MAX), &[], &NOT_ASKED);
-    are_refused(&rt, alloc, Kind::Bounded(1 << 40), &[], &ASKED);
-    are_refused(&rt, alloc, Kind::Bounded(1 << 50), &[], &ASKED);
-    are_refused(&rt, alloc, Kind::Bounded(MAX_CAPACITY), &[], &ASKED);
+    is_refused(&rt, alloc, Kind::Bounded(MAX_CAPACITY + 1), &[], 1, None, 0);
+    is_refused(&rt, alloc, Kind::Bounded(usize::MAX), &[], 1, None, 0);
+    is_refused(&rt, alloc, Kind::Bounded(1 << 40), &[], 1, None, 1);
+    is_refused(&rt, alloc, Kind::Bounded(1 << 50), &[], 1, None, 1);
+    is_refused(&rt, alloc, Kind::Bounded(MAX_CAPACITY), &[], 1, None, 1);
 }

@@ -1,6 +1,6 @@
 //! Iterators over queues with one owner, and what is printed of both.
 use crate::asserts::{is, is_in};
-use crate::owner::rows::{Counting, Made, filled};
+use crate::owner::made::{Counting, Made, filled};
 use std::alloc::Global;
 use std::fmt::Debug;
 use std::process::Abort;
@@ -58,99 +58,44 @@ fn an_iterator_takes_from_the_front(rt: HostRuntime) {
     }
 }
 
-/// How a queue is made, how many items are pushed, whether it is closed, and what is printed of it and of an iterator over it.
-static TEXTS: [(Made, u64, bool, &str, &str); 9] = [
-    (
-        Made::Bounded(1),
-        0,
-        false,
-        "Exclusive { len: 0, capacity: Some(1), is_closed: false }",
-        "Iter(Exclusive { len: 0, capacity: Some(1), is_closed: false })",
-    ),
-    (
-        Made::Bounded(1),
-        1,
-        true,
-        "Exclusive { len: 1, capacity: Some(1), is_closed: true }",
-        "Iter(Exclusive { len: 1, capacity: Some(1), is_closed: true })",
-    ),
-    (
-        Made::Bounded(2),
-        1,
-        false,
-        "Exclusive { len: 1, capacity: Some(2), is_closed: false }",
-        "Iter(Exclusive { len: 1, capacity: Some(2), is_closed: false })",
-    ),
-    (
-        Made::Bounded(2),
-        2,
-        true,
-        "Exclusive { len: 2, capacity: Some(2), is_closed: true }",
-        "Iter(Exclusive { len: 2, capacity: Some(2), is_closed: true })",
-    ),
-    (
-        Made::Bounded(3),
-        2,
-        true,
-        "Exclusive { len: 2, capacity: Some(3), is_closed: true }",
-        "Iter(Exclusive { len: 2, capacity: Some(3), is_closed: true })",
-    ),
-    (
-        Made::Bounded(300),
-        237,
-        false,
-        "Exclusive { len: 237, capacity: Some(300), is_closed: false }",
-        "Iter(Exclusive { len: 237, capacity: Some(300), is_closed: false })",
-    ),
-    (
-        Made::Unbounded,
-        0,
-        true,
-        "Exclusive { len: 0, capacity: None, is_closed: true }",
-        "Iter(Exclusive { len: 0, capacity: None, is_closed: true })",
-    ),
-    (
-        Made::Unbounded,
-        7,
-        false,
-        "Exclusive { len: 7, capacity: None, is_closed: false }",
-        "Iter(Exclusive { len: 7, capacity: None, is_closed: false })",
-    ),
-    (
-        Made::Unbounded,
-        104,
-        false,
-        "Exclusive { len: 104, capacity: None, is_closed: false }",
-        "Iter(Exclusive { len: 104, capacity: None, is_closed: false })",
-    ),
-];
-
 /// Asserts what is printed of a queue, or of an iterator.
 fn is_printed<T: Debug>(rt: &impl Abort, alloc: Global, value: &T, wanted: &str) {
     let text = format!(in alloc; "{value:?}").expect(rt, "memory");
     is(rt, text.as_str(), wanted);
 }
 
-/// Asserts what is printed of a queue, and of an iterator over it.
+/// Asserts what is printed of a queue that is made so, into which so many items are pushed, and which is closed or not, and of an iterator over it.
 fn both_are_printed(
     rt: &impl Abort,
     alloc: Global,
-    mut queue: Counting<'_>,
-    text: &str,
-    of_iterator: &str,
+    made: Made,
+    items: u64,
+    closed: bool,
+    wanted: &str,
 ) {
-    is_printed(rt, alloc, &queue, text);
-    is_printed(rt, alloc, &queue.try_iter(), of_iterator);
+    let heap = Heap::new(alloc, Refusal::Never);
+    let mut queue = filled(rt, &heap, made, 0, items);
+    if closed {
+        queue.close();
+    }
+    is_printed(rt, alloc, &queue, wanted);
+    let of_iterator = format!(in alloc; "Iter({wanted})").expect(rt, "memory");
+    is_printed(rt, alloc, &queue.try_iter(), of_iterator.as_str());
 }
 
 #[test]
 fn queues_and_iterators_are_printed(rt: HostRuntime) {
-    let heap = Heap::new(rt.alloc(), Refusal::Never);
-    for (made, items, closed, text, of_iterator) in TEXTS.iter() {
-        let mut queue = filled(&rt, &heap, *made, 0, *items);
-        if *closed {
-            queue.close();
-        }
-        both_are_printed(&rt, rt.alloc(), queue, text, of_iterator);
-    }
+    let alloc = rt.alloc();
+    let slot = "Exclusive { len: 0, capacity: Some(1), is_closed: false }";
+    both_are_printed(&rt, alloc, Made::Bounded(1), 0, false, slot);
+    let closed_slot = "Exclusive { len: 1, capacity: Some(1), is_closed: true }";
+    both_are_printed(&rt, alloc, Made::Bounded(1), 1, true, closed_slot);
+    let closed_ring = "Exclusive { len: 2, capacity: Some(3), is_closed: true }";
+    both_are_printed(&rt, alloc, Made::Bounded(3), 2, true, closed_ring);
+    let ring = "Exclusive { len: 237, capacity: Some(300), is_closed: false }";
+    both_are_printed(&rt, alloc, Made::Bounded(300), 237, false, ring);
+    let closed_chain = "Exclusive { len: 0, capacity: None, is_closed: true }";
+    both_are_printed(&rt, alloc, Made::Unbounded, 0, true, closed_chain);
+    let chain = "Exclusive { len: 104, capacity: None, is_closed: false }";
+    both_are_printed(&rt, alloc, Made::Unbounded, 104, false, chain);
 }

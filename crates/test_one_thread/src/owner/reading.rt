@@ -1,6 +1,6 @@
 //! Items that are read in their places, and items that are taken out of a queue that ends.
 use crate::asserts::{is, is_in};
-use crate::owner::rows::{Counting, Made, filled};
+use crate::owner::made::{Counting, Made, filled};
 use test_support::allocators::{Heap, Refusal};
 
 /// How a queue is made, how many items go through it first, and how many are in it then.
