@@ -1,11 +1,13 @@
 //! Stored cases: a program with its arguments, what it reads, and what it is to write.
 use crate::stored::runs::{explore, queue_run};
+use std::alloc::{AllocError, Allocator};
 use std::rt::Files;
 use std::sync::Wait;
 use std::thread::Threads;
 use std::{fs, io};
-use test_support::runs::{End, Outcome};
-use test_support::streams::{Failing, Flow, Reader, WHOLE};
+use test_support::programs::Run;
+use test_support::runs::{End, Outcome, SOUND, Streams};
+use test_support::streams::{Failing, Flow};
 
 /// The file of this name. One that cannot be read is named.
 pub fn file<R: Files + Print + AllocGlobal>(rt: &R, name: &str) -> io::Result<Vec<u8>> {
@@ -36,16 +38,8 @@ impl<'a> Wanted<'a> {
     /// How a run is to end, if this is in the file.
     fn end(self, text: &[u8]) -> End<'_> {
         match self {
-            Wanted::Output(_) => End {
-                status: 0,
-                output: text,
-                faults: b"",
-            },
-            Wanted::Fault(_, status) => End {
-                status,
-                output: b"",
-                faults: text,
-            },
+            Wanted::Output(_) => End::right(text),
+            Wanted::Fault(_, status) => End::fault(status, text),
         }
     }
 
@@ -100,21 +94,47 @@ impl<'a> Case<'a> {
         }
     }
 
-    /// Runs its program.
-    fn run<R: Threads + Wait + Sync + Files + Print + AllocGlobal>(
+    /// What it reads.
+    pub fn input<R: Files + Print + AllocGlobal>(&self, rt: &R) -> io::Result<Vec<u8>> {
+        match self.input {
+            Some(name) => file(rt, name),
+            None => Ok(Vec::new(rt.alloc())),
+        }
+    }
+
+    /// What its program is to write.
+    pub fn text<R: Files + Print + AllocGlobal>(&self, rt: &R) -> io::Result<Vec<u8>> {
+        file(rt, self.wanted.name())
+    }
+
+    /// Whether it may read.
+    pub fn reads(&self) -> bool {
+        self.input.is_some()
+    }
+
+    /// The run of it on this input, if this is in the file that it is to write.
+    pub fn as_run(&self, input: &'a [u8], text: &'a [u8]) -> Run<'a> {
+        let streams = if self.reads() { SOUND } else { UNREADABLE };
+        Run {
+            line: self.command,
+            input,
+            streams,
+            end: self.wanted.end(text),
+        }
+    }
+
+    /// Runs its program on this input, with its memory from this allocator.
+    pub fn run<R: Threads + Wait + Sync + AllocGlobal, A: Allocator>(
         &self,
         rt: &R,
-    ) -> io::Result<Outcome> {
-        let (input, flow) = match self.input {
-            Some(name) => (file(rt, name)?, WHOLE),
-            None => (Vec::new(rt.alloc()), UNREADABLE),
-        };
-        let mut reader = Reader::new(&input, flow);
-        let outcome = match self.command.strip_prefix("queue_explore") {
-            Some(args) => explore(rt.alloc(), args, &mut reader)?,
-            None => queue_run(rt, self.command, &mut reader)?,
-        };
-        Ok(outcome)
+        alloc: &A,
+        input: &[u8],
+        streams: Streams,
+    ) -> Result<Outcome, AllocError> {
+        match self.command.strip_prefix("queue_explore") {
+            Some(args) => explore(rt.alloc(), alloc, args, input, streams),
+            None => queue_run(rt, alloc, self.command, input, streams),
+        }
     }
 
     /// Whether its program ends as it is to. If not, it names the line of the file that has something else.
@@ -122,10 +142,12 @@ impl<'a> Case<'a> {
         &self,
         rt: &R,
     ) -> io::Result<bool> {
-        let text = file(rt, self.wanted.name())?;
-        let outcome = self.run(rt)?;
+        let input = self.input(rt)?;
+        let text = self.text(rt)?;
+        let run = self.as_run(&input, &text);
+        let outcome = self.run(rt, &rt.alloc(), &input, run.streams)?;
         let end = outcome.end();
-        if end == self.wanted.end(&text) && outcome.is_flushed() {
+        if end == run.end && outcome.is_flushed() {
             return Ok(true);
         }
         let line = first_other_line(&text, self.wanted.written(end));
@@ -139,9 +161,12 @@ impl<'a> Case<'a> {
 }
 
 /// An input that is not to be read: a read fails.
-const UNREADABLE: Flow = Flow {
-    most: 1,
-    failing: Failing::At(0, io::ErrorKind::BrokenPipe),
+const UNREADABLE: Streams = Streams {
+    input: Flow {
+        most: 1,
+        failing: Failing::At(0, io::ErrorKind::BrokenPipe),
+    },
+    ..SOUND
 };
 
 /// The number of the first line in which the other text is not as this one; where there is none, that of the one behind the last.

@@ -1,27 +1,29 @@
 //! Runs of the two programs.
 use app_command::program::program;
 use app_explore::command::command;
-use std::alloc::{AllocError, Global};
-use std::io::Read;
+use std::alloc::{AllocError, Allocator, Global};
 use std::sync::Wait;
 use std::thread::Threads;
-use test_support::runs::{Outcome, words};
-use test_support::streams::{WHOLE, Writer};
+use test_support::runs::{Outcome, Streams, words};
+use test_support::streams::{Reader, Writer};
 
-/// Runs `queue_run` on the words of this line, of which the first is its name.
-pub fn queue_run<R: Threads + Wait + Sync + AllocGlobal, I: Read>(
+/// Runs `queue_run` on the words of this line, of which the first is its name, with its memory from this allocator.
+pub fn queue_run<R: Threads + Wait + Sync + AllocGlobal, A: Allocator>(
     rt: &R,
+    alloc: &A,
     line: &str,
-    input: &mut I,
+    input: &[u8],
+    streams: Streams,
 ) -> Result<Outcome, AllocError> {
     let args = words(rt.alloc(), line)?;
-    let mut output = Writer::new(rt.alloc(), WHOLE);
-    let mut faults = Writer::new(rt.alloc(), WHOLE);
+    let mut input = Reader::new(input, streams.input);
+    let mut output = Writer::new(rt.alloc(), streams.output);
+    let mut faults = Writer::new(rt.alloc(), streams.faults);
     let ended = program(
         rt,
-        &rt.alloc(),
+        alloc,
         Ok(args.into_iter()),
-        input,
+        &mut input,
         &mut output,
         &mut faults,
     );
@@ -32,12 +34,19 @@ pub fn queue_run<R: Threads + Wait + Sync + AllocGlobal, I: Read>(
     })
 }
 
-/// Runs `queue_explore` on these arguments.
-pub fn explore<I: Read>(alloc: Global, args: &str, input: &mut I) -> Result<Outcome, AllocError> {
-    let words = words(alloc, args)?;
-    let mut output = Writer::new(alloc, WHOLE);
-    let mut faults = Writer::new(alloc, WHOLE);
-    let status = command(&alloc, &words, input, &mut output, &mut faults);
+/// Runs `queue_explore` on these arguments, with its memory from this allocator. They, and what it writes, have theirs from the global one.
+pub fn explore<A: Allocator>(
+    global: Global,
+    alloc: &A,
+    args: &str,
+    input: &[u8],
+    streams: Streams,
+) -> Result<Outcome, AllocError> {
+    let words = words(global, args)?;
+    let mut input = Reader::new(input, streams.input);
+    let mut output = Writer::new(global, streams.output);
+    let mut faults = Writer::new(global, streams.faults);
+    let status = command(alloc, &words, &mut input, &mut output, &mut faults);
     Ok(Outcome {
         status,
         output,
