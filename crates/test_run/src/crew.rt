@@ -334,7 +334,12 @@ fn see<R: Abort + Threads + Wait + Sync + AllocGlobal>(rt: &R, heap: &Heap, row:
     };
     let work = work_on(rt, heap, &queue, party, row);
     let mut seen = row.told(rt, &work);
-    let left = left(rt, queue, work.party);
+    let WorkResult {
+        party,
+        counts: _,
+        done: _,
+    } = work;
+    let left = left(rt, queue, party);
     seen.push_str(left.as_str()).expect(rt, "memory");
     seen
 }
