@@ -41,7 +41,12 @@ fn push_in_turn<'a, R: Wait + Abort>(
 }
 
 /// Pops so many items. Gives whether there were as many.
-fn pop_some<'a, R: Wait>(rt: &R, queue: &Counting<'a>, party: &mut Party<Item<'a>>, count: u64) -> bool
+fn pop_some<'a, R: Wait>(
+    rt: &R,
+    queue: &Counting<'a>,
+    party: &mut Party<Item<'a>>,
+    count: u64,
+) -> bool
     requires { IsPartyOf party.old queue.now }
     ensures { IsPartyOf party.new queue.now }
 {
@@ -53,7 +58,13 @@ fn pop_some<'a, R: Wait>(rt: &R, queue: &Counting<'a>, party: &mut Party<Item<'a
 }
 
 /// Drops a queue, with its parties joined, kept or dropped before.
-fn drop_all<'a>(rt: &impl Abort, queue: Counting<'a>, a: Party<Item<'a>>, b: Party<Item<'a>>, how: End)
+fn drop_all<'a>(
+    rt: &impl Abort,
+    queue: Counting<'a>,
+    a: Party<Item<'a>>,
+    b: Party<Item<'a>>,
+    how: End,
+)
     requires { IsPartyOf a queue × IsPartyOf b queue }
 {
     match how {
@@ -90,12 +101,7 @@ fn push_and_pop<'a, R: Wait + Abort>(
 }
 
 /// Uses a queue and drops it, with its parties joined, kept or dropped before. Asserts that what was refused or popped was dropped before. Gives how many items there were: none where there was no memory for the queue.
-fn use_and_drop<'a, R: Wait + Abort>(
-    rt: &R,
-    heap: &'a Heap,
-    items: &'a Items,
-    used: Use,
-) -> u64 {
+fn use_and_drop<'a, R: Wait + Abort>(rt: &R, heap: &'a Heap, items: &'a Items, used: Use) -> u64 {
     let Ok((queue, party)) = Counting::unbounded(heap) else {
         return 0;
     };

@@ -6,9 +6,7 @@ ghost use Rattle.test_shared.specs.Outcomes.{IsOf};
 use crate::asserts::is_in;
 use crate::gates::{Signs, call_held, call_waiting};
 use crate::opening::part;
-use crate::stories::lines::{
-    Called, Queue, Seat, World, counts, follow, party_of, seated, sides,
-};
+use crate::stories::lines::{Called, Queue, Seat, World, counts, follow, party_of, seated, sides};
 use crate::stories::words::{At, call_of, is_said, reply_words};
 use std::process::Abort;
 use std::sync::Wait;

@@ -35,7 +35,7 @@ fn left_words<'a>(
     mut alone: Exclusive<Item<'a>, &'a Heap>,
 ) -> Result<String, AllocError> {
     let mut text = String::from_str(alloc, "left ")?;
-    let mut row = None;
+    let mut row: Option<(u64, u64)> = None;
     for _ in 0..alone.len() {
         let number = match alone.pop() {
             Ok(item) => item.number,
