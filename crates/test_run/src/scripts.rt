@@ -11,12 +11,7 @@ use test_support::runs::{End, SOUND, Streams};
 use test_support::streams::{Failing, Flow};
 
 /// This text, and then so many times this line.
-fn with_lines(
-    alloc: Global,
-    text: &str,
-    times: usize,
-    line: &str,
-) -> Result<String, AllocError> {
+fn with_lines(alloc: Global, text: &str, times: usize, line: &str) -> Result<String, AllocError> {
     let mut text = String::from_str(alloc, text)?;
     let lines = line.repeat(alloc, times)?;
     text.push_str(lines.as_str())?;
@@ -28,8 +23,12 @@ fn with_lines(
 fn each_request_of_a_long_script_refused(rt: HostRuntime) {
     let alloc = rt.alloc();
     let input = with_lines(alloc, "", 4_000, "force 18446744073709551615\n").expect(&rt, "memory");
-    let mut output = with_lines(alloc, "ok\n", 3_999, "displaced 18446744073709551615\n").expect(&rt, "memory");
-    output.push_str("left 18446744073709551615\n").expect(&rt, "memory");
+    let mut output = with_lines(alloc, "ok\n", 3_999, "displaced 18446744073709551615\n").expect(
+        &rt, "memory",
+    );
+    output
+        .push_str("left 18446744073709551615\n")
+        .expect(&rt, "memory");
     let run = Run {
         line: "script single",
         input: input.as_bytes(),
@@ -79,8 +78,12 @@ fn begins<R: Abort + Threads + Wait + Sync + AllocGlobal>(rt: &R, run: Run<'_>) 
 #[test]
 fn output_in_pieces_is_whole_or_begun(rt: HostRuntime) {
     let alloc = rt.alloc();
-    let input = with_lines(alloc, "push 1\n", 6_000, "push 18446744073709551615\n").expect(&rt, "memory");
-    let mut output = with_lines(alloc, "ok\n", 6_000, "full 18446744073709551615\n").expect(&rt, "memory");
+    let input = with_lines(alloc, "push 1\n", 6_000, "push 18446744073709551615\n").expect(
+        &rt, "memory",
+    );
+    let mut output = with_lines(alloc, "ok\n", 6_000, "full 18446744073709551615\n").expect(
+        &rt, "memory",
+    );
     output.push_str("left 1\n").expect(&rt, "memory");
     let run = Run {
         line: "script single",
