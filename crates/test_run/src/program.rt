@@ -50,6 +50,11 @@ fn each_end_has_its_status(rt: HostRuntime) {
             output: output.as_slice(),
             faults: faults.as_slice(),
         };
-        is_in(&rt, *told, (end, input), (End::fault(*status, told), INPUT));
+        is_in(
+            &rt,
+            *told,
+            (end, input),
+            (End::fault(*status, told.as_bytes()), INPUT),
+        );
     }
 }

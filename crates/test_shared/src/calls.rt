@@ -2,14 +2,17 @@
 ghost use Rattle.concurrent_queue.specs.Shared.{IsPartyOf};
 ghost use Rattle.test_shared.specs.Outcomes.{IsOf};
 
-use concurrent_queue::{ConcurrentQueue, Outcome, Party};
+use concurrent_queue::{ConcurrentQueue, NullTestable, Outcome, Party};
 use queue_steps::model::{Call, Reply};
 use std::sync::Wait;
 
-pub(crate) type Queue = ConcurrentQueue<u64>;
-
 /// Makes a call that only looks; in the place of any other, that for the capacity.
-fn look<R: Wait>(rt: &R, queue: &Queue, party: &mut Party<u64>, call: Call<u64>) -> Reply<u64>
+fn look<T: Drop, A: NullTestable, R: Wait>(
+    rt: &R,
+    queue: &ConcurrentQueue<T, A>,
+    party: &mut Party<T>,
+    call: Call<T>,
+) -> Reply<T>
     requires { IsPartyOf party.old queue.now }
     ensures { IsPartyOf party.new queue.now }
 {
@@ -23,12 +26,12 @@ fn look<R: Wait>(rt: &R, queue: &Queue, party: &mut Party<u64>, call: Call<u64>)
 }
 
 /// Makes a call.
-pub(crate) fn answer<R: Wait>(
+pub(crate) fn answer<T: Drop, A: NullTestable, R: Wait>(
     rt: &R,
-    queue: &Queue,
-    party: &mut Party<u64>,
-    call: Call<u64>,
-) -> Reply<u64>
+    queue: &ConcurrentQueue<T, A>,
+    party: &mut Party<T>,
+    call: Call<T>,
+) -> Reply<T>
     requires { IsPartyOf party.old queue.now }
     ensures { IsPartyOf party.new queue.now }
 {
@@ -42,7 +45,11 @@ pub(crate) fn answer<R: Wait>(
 }
 
 /// Begins a call.
-pub(crate) fn begin(queue: &Queue, party: Party<u64>, call: Call<u64>) -> Outcome<u64>
+pub(crate) fn begin<T, A: NullTestable>(
+    queue: &ConcurrentQueue<T, A>,
+    party: Party<T>,
+    call: Call<T>,
+) -> Outcome<T, A>
     requires { IsPartyOf party queue.now }
     ensures { IsOf result queue.now }
 {
@@ -53,7 +60,10 @@ pub(crate) fn begin(queue: &Queue, party: Party<u64>, call: Call<u64>) -> Outcom
 }
 
 /// Takes a call up, where it is pending.
-pub(crate) fn take_up(queue: &Queue, outcome: Outcome<u64>) -> Outcome<u64>
+pub(crate) fn take_up<T, A: NullTestable>(
+    queue: &ConcurrentQueue<T, A>,
+    outcome: Outcome<T, A>,
+) -> Outcome<T, A>
     requires { IsOf outcome queue.now }
     ensures { IsOf result queue.now }
 {

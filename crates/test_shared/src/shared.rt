@@ -7,3 +7,4 @@ pub mod left;
 pub mod lengths;
 pub mod refusals;
 pub mod threads;
+pub mod trying;
