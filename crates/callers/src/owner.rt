@@ -7,7 +7,7 @@ ghost use Rattle.queue_steps.specs.declared.steps.types.Local.TheVariants as loc
 ghost use Rattle.queue_steps.specs.declared.steps.types.Touch.TheVariants as touch;
 ghost use Rattle.queue_steps.specs.declared.steps.types.Op.TheVariants as op;
 ghost use Rattle.queue_steps.specs.declared.steps.types.Word.TheVariants as word;
-ghost use Rattle.queue_steps.specs.declared.steps.single.SingleLocal.TheVariants as slot;
+ghost use Rattle.queue_steps.specs.declared.steps.slot.SlotLocal.TheVariants as slot;
 
 use exclusive_queue::model::Call;
 use exclusive_queue::steps::{Answer, Kind, Next};
@@ -55,7 +55,7 @@ pub fn one_of_two<A: Allocator + Clone>(
 
 /// The first step of a pop on one slot, which is the exchange of the word of an unlocked slot with an item.
 pub fn first_step_of_a_pop() -> Next<()>
-    ensures { result ≡ next.Step (local.Single (slot.Popping 2)) touch.Nothing (op.Exchange word.Lock 2 1) }
+    ensures { result ≡ next.Step (local.Slot (slot.Popping 2)) touch.Nothing (op.Exchange word.Lock 2 1) }
 {
     let local = queue_steps::steps::start(Kind::Single, Call::Pop);
     queue_steps::steps::next(Kind::Single, local, Answer::Start)

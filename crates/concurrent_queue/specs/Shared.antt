@@ -78,7 +78,7 @@ Meets a b c d = (c.queue ≡ a.queue) × (d.queue ≡ b.queue) × Meet a.queue.c
 
 -- which queue this is
 abbrev pub form_id : {T A : Type 0} → Form T A → QueueId
-form_id (form.Single s) = record { name = at_table s.table.shared.table_id; cap = Some 1 }
+form_id (form.Slot s) = record { name = at_table s.table.shared.table_id; cap = Some 1 }
 form_id (form.Ring r) = record { name = at_table r.table.shared.table_id; cap = Some r.table.shared.table_id.slots }
 form_id (form.Chain w) = record { name = in_web (web_of w.chain); cap = None }
 

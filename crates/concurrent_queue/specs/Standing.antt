@@ -11,6 +11,6 @@ StandsAs (standing.Chain queue s l) v = StopsInside queue.now.chain s l v
 
 -- the seat at this place of this queue is that one
 abbrev pub IsSeatOf : {T A : Type 0} → Form T A → SeatPlace T → Seated T A → Type 0
-IsSeatOf f p (seated.Slot table s) = (f ≡ form.Single table.now) × (p ≡ place.Table s)
+IsSeatOf f p (seated.Slot table s) = (f ≡ form.Slot table.now) × (p ≡ place.Table s)
 IsSeatOf f p (seated.Ring table s) = (f ≡ form.Ring table.now) × (p ≡ place.Table s)
 IsSeatOf f p (seated.Chain queue r) = (f ≡ form.Chain queue.now) × (p ≡ place.Web r)

@@ -72,7 +72,7 @@ enum Form<T, A: Allocator> {
     /// A ring of slots.
     Ring(SharedTable<T, Rings, A>),
     /// One slot.
-    Single(SharedTable<T, Slots, A>),
+    Slot(SharedTable<T, Slots, A>),
     /// A chain of blocks.
     Chain(AllocatedChain<T, A>),
 }
@@ -90,7 +90,7 @@ impl<T: Drop, A: Allocator> Drop for ConcurrentQueue<T, A> {
     fn drop(self) {
         let ConcurrentQueue { form } = self;
         match form {
-            Form::Single(slot) => drop(slot),
+            Form::Slot(slot) => drop(slot),
             Form::Ring(ring) => drop(ring),
             Form::Chain(queue) => {
                 let AllocatedChain { alloc, chain } = queue;
@@ -104,7 +104,7 @@ impl<T, A: Allocator> Form<T, A> {
     /// Which kind of queue it is.
     fn kind(&self) -> Kind {
         match self {
-            Form::Single(_) => Kind::Single,
+            Form::Slot(_) => Kind::Single,
             Form::Ring(ring) => Kind::Bounded(ring.slots()),
             Form::Chain(_) => Kind::Unbounded,
         }
@@ -113,7 +113,7 @@ impl<T, A: Allocator> Form<T, A> {
     /// The tail, by a load without a seat. One slot has one word, which stands for it.
     fn peek_tail(&self) -> u64 {
         match self {
-            Form::Single(slot) => slot::peek_word(slot),
+            Form::Slot(slot) => slot::peek_word(slot),
             Form::Ring(ring) => ring::peek_tail(ring),
             Form::Chain(queue) => queue.chain.peek_tail(),
         }
@@ -122,7 +122,7 @@ impl<T, A: Allocator> Form<T, A> {
     /// The head, by such a load. One slot has none, and 0 stands for it.
     fn peek_head(&self) -> u64 {
         match self {
-            Form::Single(_) => 0,
+            Form::Slot(_) => 0,
             Form::Ring(ring) => ring::peek_head(ring),
             Form::Chain(queue) => queue.chain.peek_head(),
         }
@@ -168,7 +168,7 @@ macro_rules! at_table {
 macro_rules! in_place {
     ($queue:ident, $rt:ident, $party:ident, $source:ty, $calls:ty, $call:ident) => {
         match (&$queue.form, &mut $party.place) {
-            (Form::Single(slot), SeatPlace::Table(seat)) => {
+            (Form::Slot(slot), SeatPlace::Table(seat)) => {
                 at_table!(Slots, OnSlot, OnSlot, slot, $rt, seat, $calls, $call)
             }
             (Form::Ring(ring), SeatPlace::Table(seat)) => {
@@ -198,7 +198,7 @@ impl<T, A: Allocator + Clone> ConcurrentQueue<T, A> {
         prove!(cap > 0, "the capacity is above 0");
         let (form, seat) = if cap == 1 {
             let (slot, seat) = open_slot(alloc)?;
-            (Form::Single(slot), seat)
+            (Form::Slot(slot), seat)
         } else {
             let (ring, seat) = open_ring(alloc, cap)?;
             (Form::Ring(ring), seat)
@@ -325,7 +325,7 @@ impl<T, A: Allocator> ConcurrentQueue<T, A> {
         ensures { result ≡ self.now.cap }
     {
         match &self.form {
-            Form::Single(_) => Some(1),
+            Form::Slot(_) => Some(1),
             Form::Ring(ring) => Some(ring.slots()),
             Form::Chain(_) => None,
         }

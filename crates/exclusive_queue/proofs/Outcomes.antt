@@ -1,7 +1,7 @@
 -- What a call that may change the queue answers and leaves, in std's words.
 use Rattle.std.proofs.Common.{◌≡◌, ◌⊎◌, ℕ, Bool, true, false, not, ◌&&◌, ◌==◌, List, [], ◌∷◌, ◌++◌, length, Option, Some, None, Result, Ok, Err, refl, ap, sym, subst, inl, inr, arith}
 use Rattle.std.specs.{Prelude.OnOk, Prelude.IfOk, Prelude.IfErr, Prelude.IfSome, Option.option_to_list}
-use Rattle.queue_steps.specs.{declared.sizes.TheConstants.LIMIT, State.is_full, State.fills, State.is_single_cap, Effect.rest, Errors.push_error_value, Errors.force_push_error_value, declared.errors.PopError.PopError, declared.errors.PushError.PushError, declared.errors.ForcePushError.ForcePushError, declared.errors.PopError.PopError as pop, declared.errors.PushError.PushError as push, declared.errors.ForcePushError.ForcePushError as force, declared.model.Call.Call as call, declared.model.Reply.Reply, declared.model.Reply.Reply as reply}
+use Rattle.queue_steps.specs.{declared.sizes.TheConstants.LIMIT, State.is_full, State.fills, State.is_slot_cap, Effect.rest, Errors.push_error_value, Errors.force_push_error_value, declared.errors.PopError.PopError, declared.errors.PushError.PushError, declared.errors.ForcePushError.ForcePushError, declared.errors.PopError.PopError as pop, declared.errors.PushError.PushError as push, declared.errors.ForcePushError.ForcePushError as force, declared.model.Call.Call as call, declared.model.Reply.Reply, declared.model.Reply.Reply as reply}
 use Rattle.queue_steps.specs.Sequential.{Owned, Sequential, is_spent, shut, displaced, counted, front, moved, pop_result}
 use Rattle.queue_steps.proofs.TableCases.{table_cases}
 
@@ -45,7 +45,7 @@ module _ {T : Type 0} where
   shut_already P e = (inl e, λ i. record P.queue { closed = e i })
 
   spent_now : (P : Owned T) → is_spent P.queue ≡ true → FindsClosed P (moved P (shut P.queue))
-  spent_now P e = (inr (spent_tells (is_single_cap P.queue.cap) P.queue.accepted e), refl)
+  spent_now P e = (inr (spent_tells (is_slot_cap P.queue.cap) P.queue.accepted e), refl)
 
   pub push_told : (P R : Owned T) (v : T) (r : Reply T) → Sequential P (call.Push v) r R → Told P v r R × (R.queue.cap ≡ P.queue.cap)
   push_told P R v (reply.Push (Err (push.NoMemory w))) (inr lacks) = rw lacks.2 ((lacks.0.0, (lacks.0.1.0, refl)), refl)

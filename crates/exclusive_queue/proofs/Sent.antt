@@ -6,17 +6,17 @@ use Rattle.std.specs.declared.alloc.Allocator as Allocator
 use Rattle.std.specs.contracts.alloc.Global as global
 use Rattle.std.specs.contracts.impls.GlobalAllocator.TheImpl.{ghosts}
 use Rattle.std.proofs.Crossing.{frees, send, sync}
-use Rattle.own_cells.proofs.{OneRing.Sent.ring_send, OneRing.Sent.ring_sync, chain.unbounded.LinkedBlocks.TheSendSync.the_send as blocks_send, chain.unbounded.LinkedBlocks.TheSendSync.the_sync as blocks_sync, slot.single.Single.TheSendSync.the_send as single_send, slot.single.Single.TheSendSync.the_sync as single_sync}
+use Rattle.own_cells.proofs.{OneRing.Sent.ring_send, OneRing.Sent.ring_sync, chain.own_chain.OwnChain.TheSendSync.the_send as blocks_send, chain.own_chain.OwnChain.TheSendSync.the_sync as blocks_sync, slot.own_slot.OwnSlot.TheSendSync.the_send as slot_send, slot.own_slot.OwnSlot.TheSendSync.the_sync as slot_sync}
 use Rattle.exclusive_queue.specs.contracts.exclusive.{form.Form.the_row as form_row, form.Form.enum as form_enum, Exclusive.the_row as exclusive_row, Exclusive.TheInside.the_type as exclusive_type}
 
 form_send : (T A : RattleType) (g : Allocator.Ghosts A.Denot) → IsSend T → IsSend A → Frees g g.dealloc_token → IsSend (form_row T A g)
-form_send T A g s t f = variants_send (form_enum T A g) ((single_send T s, tt), ((ring_send T A g s t f, tt), (((blocks_send T A g s t f, tt), tt))))
+form_send T A g s t f = variants_send (form_enum T A g) ((slot_send T s, tt), ((ring_send T A g s t f, tt), (((blocks_send T A g s t f, tt), tt))))
 
 pub exclusive_send_over : (T A : RattleType) (g : Allocator.Ghosts A.Denot) → IsSend T → IsSend A → Frees g g.dealloc_token → IsSend (exclusive_row T A g)
 exclusive_send_over T A g s t f = view_send _ _ _ _ _ (declared_send (exclusive_type T A g) (form_send T A g s t f, tt))
 
 form_sync : (T A : RattleType) (g : Allocator.Ghosts A.Denot) → IsSend T → IsSync T → IsSend A → IsSync A → Frees g g.dealloc_token → IsSync (form_row T A g)
-form_sync T A g s ys t yt f = variants_sync (form_enum T A g) ((single_sync T ys, tt), ((ring_sync T A g ys yt f, tt), (((blocks_sync T A g s t ys yt f, tt), tt))))
+form_sync T A g s ys t yt f = variants_sync (form_enum T A g) ((slot_sync T ys, tt), ((ring_sync T A g ys yt f, tt), (((blocks_sync T A g s t ys yt f, tt), tt))))
 
 pub exclusive_sync_over : (T A : RattleType) (g : Allocator.Ghosts A.Denot) → IsSend T → IsSync T → IsSend A → IsSync A → Frees g g.dealloc_token → IsSync (exclusive_row T A g)
 exclusive_sync_over T A g s ys t yt f = view_sync _ _ _ _ _ (declared_sync (exclusive_type T A g) (form_sync T A g s ys t yt f, tt))

@@ -8,6 +8,6 @@ shown None = []
 shown (Some x) = x.now ∷ []
 
 abbrev pub list_of : {T A : Type 0} → Left T A → List T
-list_of (left.Single item) = shown item
-list_of (left.Bounded items) = items
-list_of (left.Unbounded items) = items
+list_of (left.Slot item) = shown item
+list_of (left.Ring items) = items
+list_of (left.Chain items) = items

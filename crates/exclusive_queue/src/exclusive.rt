@@ -10,7 +10,7 @@ ghost use Rattle.queue_steps.specs.declared.errors.PopError.TheVariants as pop;
 ghost use Rattle.queue_steps.specs.declared.errors.PushError.TheVariants as push;
 ghost use Rattle.queue_steps.specs.declared.errors.ForcePushError.TheVariants as force;
 ghost use Rattle.queue_steps.specs.Legal.{IsSoundOwned};
-ghost use Rattle.own_cells.specs.OneSlot.SingleCells.{IsIdle, single_owned};
+ghost use Rattle.own_cells.specs.OneSlot.OwnSlotCells.{IsIdle, slot_owned};
 ghost use Rattle.own_cells.specs.OneRing.RingOwned.{IsIdle as IsRingIdle, ring_owned};
 ghost use Rattle.own_cells.specs.OneRing.RingMemory.{ring_in};
 ghost use Rattle.own_cells.specs.declared.ring.ring_words.TheConstants.{STAMPS};
@@ -29,9 +29,9 @@ use atomic_table::Closed;
 use call_driver::own::drive_in_loop;
 use mem_blocks::chain::Chain;
 use mem_blocks::item::{Item, Place};
-use own_cells::chain::unbounded::{LinkedBlocks, Name};
-use own_cells::ring::bounded::Ring;
-use own_cells::slot::single::Single;
+use own_cells::chain::own_chain::{Name, OwnChain};
+use own_cells::ring::own_ring::OwnRing;
+use own_cells::slot::own_slot::OwnSlot;
 use queue_steps::errors::{ForcePushError, PopError, PushError};
 use queue_steps::model::{Call, CallKind, Reply, ReplyKind};
 use std::alloc::{AllocError, Allocator, Global};
@@ -70,9 +70,9 @@ impl<T: Drop, A: Allocator> Drop for Exclusive<T, A> {
     fn drop(self) {
         let Exclusive { form } = self;
         match form {
-            Form::Single(single) => drop(single),
-            Form::Bounded(ring) => drop(ring),
-            Form::Unbounded(blocks) => give_up(blocks),
+            Form::Slot(single) => drop(single),
+            Form::Ring(ring) => drop(ring),
+            Form::Chain(blocks) => give_up(blocks),
         }
     }
 }
@@ -92,11 +92,11 @@ impl<T, A: Allocator> fmt::Debug for Exclusive<T, A> {
 }
 
 /// Drops the items that are left, and gives all memory back.
-fn give_up<T: Drop, A: Allocator>(mut blocks: LinkedBlocks<T, A>)
+fn give_up<T: Drop, A: Allocator>(mut blocks: OwnChain<T, A>)
     requires { IsOwnChainIdle blocks }
 {
     loop {
-        match drive_in_loop::<LinkedBlocks<T, A>>(&mut blocks, Call::Pop) {
+        match drive_in_loop::<OwnChain<T, A>>(&mut blocks, Call::Pop) {
             Reply::Pop(result) => match result {
                 Ok(item) => drop(item),
                 Err(_) => break,
@@ -148,7 +148,7 @@ impl<T, A: Allocator + Clone> Exclusive<T, A> {
         prove!(cap > 0, "the capacity is above 0");
         if cap == 1 {
             return Ok(Exclusive {
-                form: Form::Single(Single::new()),
+                form: Form::Slot(OwnSlot::new()),
             });
         }
         Exclusive::bounded_after(alloc, cap, 0)
@@ -166,9 +166,9 @@ impl<T, A: Allocator + Clone> Exclusive<T, A> {
         ensures limited { MAX_CAPACITY < cap → IsErr result }
     {
         prove!(cap > 1, "the capacity is above 1");
-        let ring = Ring::new(alloc, cap, n)?;
+        let ring = OwnRing::new(alloc, cap, n)?;
         Ok(Exclusive {
-            form: Form::Bounded(ring),
+            form: Form::Ring(ring),
         })
     }
 }
@@ -181,7 +181,7 @@ impl<T, A: Allocator> Exclusive<T, A> {
         ensures { result ≡ fresh None }
     {
         Exclusive {
-            form: Form::Unbounded(LinkedBlocks::new(alloc)),
+            form: Form::Chain(OwnChain::new(alloc)),
         }
     }
 
@@ -200,19 +200,19 @@ impl<T, A: Allocator> Exclusive<T, A> {
         if n == 0 {
             return Ok(Exclusive::unbounded(alloc));
         }
-        let blocks = LinkedBlocks::after(alloc, n)?;
+        let blocks = OwnChain::after(alloc, n)?;
         Ok(Exclusive {
-            form: Form::Unbounded(blocks),
+            form: Form::Chain(blocks),
         })
     }
 
     /// A queue of this slot, which no call holds.
-    pub fn of_single(single: Single<T>) -> Self
+    pub fn of_slot(single: OwnSlot<T>) -> Self
         requires { IsIdle single }
-        ensures { result ≡ single_owned single }
+        ensures { result ≡ slot_owned single }
     {
         Exclusive {
-            form: Form::Single(single),
+            form: Form::Slot(single),
         }
     }
 
@@ -224,7 +224,7 @@ impl<T, A: Allocator> Exclusive<T, A> {
         ensures { result ≡ ring_owned (ring_in capacity (slots_items memory.words) (slots_items memory.slots)) }
     {
         Exclusive {
-            form: Form::Bounded(Ring { capacity, memory }),
+            form: Form::Ring(OwnRing { capacity, memory }),
         }
     }
 
@@ -244,7 +244,7 @@ impl<T, A: Allocator> Exclusive<T, A> {
         ensures { result ≡ own_chain_owned (own_chain_in head tail front back chain.blocks) }
     {
         Exclusive {
-            form: Form::Unbounded(LinkedBlocks::of_chain(alloc, chain, head, tail, front, back)),
+            form: Form::Chain(OwnChain::of_chain(alloc, chain, head, tail, front, back)),
         }
     }
 
@@ -361,9 +361,9 @@ impl<T, A: Allocator> Exclusive<T, A> {
         ensures held { HoldsBlocks self.now }
     {
         match &self.form {
-            Form::Single(_) => 0,
-            Form::Bounded(_) => 0,
-            Form::Unbounded(blocks) => blocks.blocks(),
+            Form::Slot(_) => 0,
+            Form::Ring(_) => 0,
+            Form::Chain(blocks) => blocks.blocks(),
         }
     }
 }

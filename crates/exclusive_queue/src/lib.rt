@@ -7,7 +7,7 @@ pub mod store;
 pub mod text;
 
 pub use exclusive::Exclusive;
-pub use own_cells::slot::Single;
+pub use own_cells::slot::OwnSlot;
 pub use queue_steps::errors::{ForcePushError, PopError, PushError};
 pub use queue_steps::{errors as errors, model as model, steps as steps};
 pub use store::{Store, run};

@@ -6,7 +6,7 @@ use Rattle.queue_steps.specs.declared.{model.Call.Call, sizes.TheConstants.MAX_C
 use Rattle.machine_memory.specs.declared.types.{Event.Event, Told.Told}
 use Rattle.machine_steps.specs.{Left.opening_world, Steps.start_of, Steps.step_of, World.call_at}
 use Rattle.machine_replay.specs.{Book.Open, Conforms.party_of, Played.told_of, Played.world_after, Progress.Standing as CallStanding, Progress.Between, Progress.Undone, Progress.HalfDone, Progress.standing, Progress.stands_by, Progress.stands_then, Replays.CanReplay, Replays.is_too_large}
-use Rattle.machine_replay.proofs.{Chain.Stretch.chain_rules, Ring.Stretch.ring_rules, Single.Stretch.single_rules, Progress.Standings.Agrees, Progress.Stretch.Rules, Progress.Stretch.call-there, Progress.Stretch.first, Progress.Stretch.reach}
+use Rattle.machine_replay.proofs.{Chain.Stretch.chain_rules, Ring.Stretch.ring_rules, Slot.Stretch.slot_rules, Progress.Standings.Agrees, Progress.Stretch.Rules, Progress.Stretch.call-there, Progress.Stretch.first, Progress.Stretch.reach}
 use Rattle.machine_explore.specs.{Explored.IsPreparing, Positions.Standing, Starts.IsStart}
 use Rattle.machine_explore.proofs.{Showing.told_by-length, Starting.told_by-append}
 
@@ -27,7 +27,7 @@ rests k rules parties q past none =
     (λ o is. let f = call-there ℕ k rules parties h.b.busy w.shared h.b.queue h.sim.g q (call_at w q) (h.b.open_call q) o (h.sim.each q) is in let some = f.1 in cc)
 
 rules_of : (k : Kind) → CanReplay k → is_too_large k ≡ false → Rules ℕ k
-rules_of kind.Single can small = single_rules ℕ
+rules_of kind.Single can small = slot_rules ℕ
 rules_of (kind.Bounded n) can small = ring_rules {A = ℕ} n (can, ltb-false MAX_CAPACITY n small)
 rules_of kind.Unbounded can small = chain_rules ℕ
 

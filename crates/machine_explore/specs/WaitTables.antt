@@ -1,54 +1,54 @@
 -- What where calls stand tells of waits, of each standing of a table.
 use Rattle.std.specs.Prelude.{◌≡◌, ◌≢◌, ℕ, ◌<◌, ◌==◌, Bool, true, false, Option, Some, None, List, length, Contains}
-use Rattle.queue_steps.specs.declared.{model.Call.Call, steps.bounded.BoundedLocal.BoundedLocal as ring, steps.single.SingleLocal.SingleLocal as slot, steps.unbounded.UnboundedLocal.UnboundedLocal as chain, steps.types.Local.Local, steps.types.Local.Local as local}
+use Rattle.queue_steps.specs.declared.{model.Call.Call, steps.ring.RingLocal.RingLocal as ring, steps.slot.SlotLocal.SlotLocal as slot, steps.chain.ChainLocal.ChainLocal as chain, steps.types.Local.Local, steps.types.Local.Local as local}
 use Rattle.machine_steps.specs.World.{call_at}
 use Rattle.machine_replay.specs.Played.{local_in}
 use Rattle.machine_explore.specs.{Positions.Standing, Waiting.GoesRound, Waiting.IsSentBack, Waiting.SideKey, Waiting.side_at, Waiting.side_key}
 
 -- whether a call that stands there has had an effect
 abbrev pub is_half_done_at : Option (Local ℕ) → Bool
-is_half_done_at (Some (local.Single slot.Pushed)) = true
-is_half_done_at (Some (local.Single (slot.Forced w))) = true
-is_half_done_at (Some (local.Single slot.Popped)) = true
-is_half_done_at (Some (local.Bounded (ring.Filling d))) = true
-is_half_done_at (Some (local.Bounded (ring.Arriving t))) = true
-is_half_done_at (Some (local.Bounded ring.Swapping)) = true
-is_half_done_at (Some (local.Bounded ring.Emptying)) = true
-is_half_done_at (Some (local.Unbounded (chain.Laying d t b f))) = true
-is_half_done_at (Some (local.Unbounded (chain.Opening d t b f))) = true
-is_half_done_at (Some (local.Unbounded (chain.Chaining d t b f))) = true
-is_half_done_at (Some (local.Unbounded (chain.Writing d spare))) = true
-is_half_done_at (Some (local.Unbounded (chain.Following h b))) = true
-is_half_done_at (Some (local.Unbounded (chain.Peeking h b a))) = true
-is_half_done_at (Some (local.Unbounded (chain.Passing h b more))) = true
-is_half_done_at (Some (local.Unbounded (chain.Entering h b))) = true
-is_half_done_at (Some (local.Unbounded (chain.Awaiting h b))) = true
-is_half_done_at (Some (local.Unbounded (chain.Reading b i))) = true
-is_half_done_at (Some (local.Unbounded (chain.Walking b i))) = true
-is_half_done_at (Some (local.Unbounded (chain.Destroying b i))) = true
+is_half_done_at (Some (local.Slot slot.Pushed)) = true
+is_half_done_at (Some (local.Slot (slot.Forced w))) = true
+is_half_done_at (Some (local.Slot slot.Popped)) = true
+is_half_done_at (Some (local.Ring (ring.Filling d))) = true
+is_half_done_at (Some (local.Ring (ring.Arriving t))) = true
+is_half_done_at (Some (local.Ring ring.Swapping)) = true
+is_half_done_at (Some (local.Ring ring.Emptying)) = true
+is_half_done_at (Some (local.Chain (chain.Laying d t b f))) = true
+is_half_done_at (Some (local.Chain (chain.Opening d t b f))) = true
+is_half_done_at (Some (local.Chain (chain.Chaining d t b f))) = true
+is_half_done_at (Some (local.Chain (chain.Writing d spare))) = true
+is_half_done_at (Some (local.Chain (chain.Following h b))) = true
+is_half_done_at (Some (local.Chain (chain.Peeking h b a))) = true
+is_half_done_at (Some (local.Chain (chain.Passing h b more))) = true
+is_half_done_at (Some (local.Chain (chain.Entering h b))) = true
+is_half_done_at (Some (local.Chain (chain.Awaiting h b))) = true
+is_half_done_at (Some (local.Chain (chain.Reading b i))) = true
+is_half_done_at (Some (local.Chain (chain.Walking b i))) = true
+is_half_done_at (Some (local.Chain (chain.Destroying b i))) = true
 is_half_done_at _ = false
 
 -- the word or the slot that a push or a pop remembers where it may be sent back or walks a block, and the block or the spare
 abbrev pub remembered : Option (Local ℕ) → ℕ × Option ℕ
-remembered (Some (local.Single (slot.Forcing w))) = (w, None)
-remembered (Some (local.Single (slot.Popping w))) = (w, None)
-remembered (Some (local.Bounded (ring.PushStamp d t))) = (t, None)
-remembered (Some (local.Bounded (ring.Claiming d t))) = (t, None)
-remembered (Some (local.Bounded (ring.PushHead t))) = (t, None)
-remembered (Some (local.Bounded (ring.Displacing t))) = (t, None)
-remembered (Some (local.Bounded (ring.PopStamp h))) = (h, None)
-remembered (Some (local.Bounded (ring.Taking h))) = (h, None)
-remembered (Some (local.Bounded (ring.PopTail h))) = (h, None)
-remembered (Some (local.Unbounded (chain.PushBlock d t spare))) = (t, spare)
-remembered (Some (local.Unbounded (chain.Asking d t b))) = (t, b)
-remembered (Some (local.Unbounded (chain.Installing d t b))) = (t, Some b)
-remembered (Some (local.Unbounded (chain.Claiming d t b spare))) = (t, Some b)
-remembered (Some (local.Unbounded (chain.PopBlock h))) = (h, None)
-remembered (Some (local.Unbounded (chain.PopTail h b))) = (h, b)
-remembered (Some (local.Unbounded (chain.Taking h b))) = (h, Some b)
-remembered (Some (local.Unbounded (chain.Reading b i))) = (i, Some b)
-remembered (Some (local.Unbounded (chain.Walking b i))) = (i, Some b)
-remembered (Some (local.Unbounded (chain.Destroying b i))) = (i, Some b)
+remembered (Some (local.Slot (slot.Forcing w))) = (w, None)
+remembered (Some (local.Slot (slot.Popping w))) = (w, None)
+remembered (Some (local.Ring (ring.PushStamp d t))) = (t, None)
+remembered (Some (local.Ring (ring.Claiming d t))) = (t, None)
+remembered (Some (local.Ring (ring.PushHead t))) = (t, None)
+remembered (Some (local.Ring (ring.Displacing t))) = (t, None)
+remembered (Some (local.Ring (ring.PopStamp h))) = (h, None)
+remembered (Some (local.Ring (ring.Taking h))) = (h, None)
+remembered (Some (local.Ring (ring.PopTail h))) = (h, None)
+remembered (Some (local.Chain (chain.PushBlock d t spare))) = (t, spare)
+remembered (Some (local.Chain (chain.Asking d t b))) = (t, b)
+remembered (Some (local.Chain (chain.Installing d t b))) = (t, Some b)
+remembered (Some (local.Chain (chain.Claiming d t b spare))) = (t, Some b)
+remembered (Some (local.Chain (chain.PopBlock h))) = (h, None)
+remembered (Some (local.Chain (chain.PopTail h b))) = (h, b)
+remembered (Some (local.Chain (chain.Taking h b))) = (h, Some b)
+remembered (Some (local.Chain (chain.Reading b i))) = (i, Some b)
+remembered (Some (local.Chain (chain.Walking b i))) = (i, Some b)
+remembered (Some (local.Chain (chain.Destroying b i))) = (i, Some b)
 remembered _ = (0, None)
 
 -- party p waits there for party q, as `IsWaitOf` has it, by where the calls stand

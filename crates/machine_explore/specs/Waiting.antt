@@ -1,6 +1,6 @@
 -- When a party waits for another at the end of a schedule.
 use Rattle.std.specs.Prelude.{◌≡◌, ◌≢◌, ◌⊎◌, ℕ, ◌-◌, ◌<◌, ◌≤◌, ◌==◌, Bool, true, false, Option, Some, None, List, [], ◌∷◌, ◌++◌, length, map, replicate, slice_get, Contains}
-use Rattle.queue_steps.specs.declared.{model.Call.Call, sizes.TheConstants.SOLO_STEPS, steps.bounded.BoundedLocal.BoundedLocal as ring, steps.unbounded.UnboundedLocal.UnboundedLocal as chain, steps.types.Kind.Kind, steps.types.Local.Local, steps.types.Local.Local as local}
+use Rattle.queue_steps.specs.declared.{model.Call.Call, sizes.TheConstants.SOLO_STEPS, steps.ring.RingLocal.RingLocal as ring, steps.chain.ChainLocal.ChainLocal as chain, steps.types.Kind.Kind, steps.types.Local.Local, steps.types.Local.Local as local}
 use Rattle.machine_memory.specs.{declared.calls.Running.Running, declared.types.Event.TheVariants.Step, declared.types.Told.TheVariants.Ran, Places.label_text, SharedMemory.Shared}
 use Rattle.machine_steps.specs.{Machine.event_of, World.World, World.call_at}
 use Rattle.machine_replay.specs.{Played.local_in, Played.told_of, Played.world_after, Progress.Standing as CallStanding, Progress.HalfDone, Progress.standing, Progress.stands_then}
@@ -17,10 +17,10 @@ pub record GoesRound (k : Kind) (w : World (Shared ℕ) (Running ℕ)) (p : ℕ)
 
 -- the first step of a push, a forced push or a pop, on a ring or a chain
 abbrev pub is_first : Option (Local ℕ) → Bool
-is_first (Some (local.Bounded (ring.PushTail d))) = true
-is_first (Some (local.Bounded ring.PopHead)) = true
-is_first (Some (local.Unbounded (chain.PushTail d spare))) = true
-is_first (Some (local.Unbounded chain.PopHead)) = true
+is_first (Some (local.Ring (ring.PushTail d))) = true
+is_first (Some (local.Ring ring.PopHead)) = true
+is_first (Some (local.Chain (chain.PushTail d spare))) = true
+is_first (Some (local.Chain chain.PopHead)) = true
 is_first _ = false
 
 -- the party's next step sends it back: all is then as it is now, or its call stands at its first step

@@ -14,7 +14,7 @@ use crate::waiting::{Side, Wait, is_first, is_quiet, side_of};
 use machine_memory::places::label;
 use machine_replay::types::Event;
 use queue_steps::sizes::SOLO_STEPS;
-use queue_steps::steps::{BoundedLocal, Kind, Local, SingleLocal, UnboundedLocal};
+use queue_steps::steps::{ChainLocal, Kind, Local, RingLocal, SlotLocal};
 use std::alloc::{AllocError, Allocator};
 
 /// Whether each wait of the program is one of these, by its parties, their calls and the labels of their steps, as the table shows. Whoever made the table is not trusted.
@@ -241,31 +241,31 @@ fn remembered(local: Option<Local<usize>>) -> (u64, Option<usize>)
     ensures { result ≡ remembered local }
 {
     match local {
-        Some(Local::Single(local)) => match local {
-            SingleLocal::Forcing(word) | SingleLocal::Popping(word) => (word, None),
+        Some(Local::Slot(local)) => match local {
+            SlotLocal::Forcing(word) | SlotLocal::Popping(word) => (word, None),
             _ => (0, None),
         },
-        Some(Local::Bounded(local)) => match local {
-            BoundedLocal::PushStamp(_, word)
-            | BoundedLocal::Claiming(_, word)
-            | BoundedLocal::PushHead(word)
-            | BoundedLocal::Displacing(word)
-            | BoundedLocal::PopStamp(word)
-            | BoundedLocal::Taking(word)
-            | BoundedLocal::PopTail(word) => (word, None),
+        Some(Local::Ring(local)) => match local {
+            RingLocal::PushStamp(_, word)
+            | RingLocal::Claiming(_, word)
+            | RingLocal::PushHead(word)
+            | RingLocal::Displacing(word)
+            | RingLocal::PopStamp(word)
+            | RingLocal::Taking(word)
+            | RingLocal::PopTail(word) => (word, None),
             _ => (0, None),
         },
-        Some(Local::Unbounded(local)) => match local {
-            UnboundedLocal::PopBlock(word) => (word, None),
-            UnboundedLocal::PushBlock(_, word, block)
-            | UnboundedLocal::Asking(_, word, block)
-            | UnboundedLocal::PopTail(word, block) => (word, block),
-            UnboundedLocal::Installing(_, word, block)
-            | UnboundedLocal::Claiming(_, word, block, _)
-            | UnboundedLocal::Taking(word, block)
-            | UnboundedLocal::Reading(block, word)
-            | UnboundedLocal::Walking(block, word)
-            | UnboundedLocal::Destroying(block, word) => (word, Some(block)),
+        Some(Local::Chain(local)) => match local {
+            ChainLocal::PopBlock(word) => (word, None),
+            ChainLocal::PushBlock(_, word, block)
+            | ChainLocal::Asking(_, word, block)
+            | ChainLocal::PopTail(word, block) => (word, block),
+            ChainLocal::Installing(_, word, block)
+            | ChainLocal::Claiming(_, word, block, _)
+            | ChainLocal::Taking(word, block)
+            | ChainLocal::Reading(block, word)
+            | ChainLocal::Walking(block, word)
+            | ChainLocal::Destroying(block, word) => (word, Some(block)),
             _ => (0, None),
         },
         _ => (0, None),
@@ -277,30 +277,30 @@ pub(crate) fn is_half_done_at(local: Option<Local<usize>>) -> bool
     ensures { result ≡ is_half_done_at local }
 {
     match local {
-        Some(Local::Single(local)) => match local {
-            SingleLocal::Pushed | SingleLocal::Forced(_) | SingleLocal::Popped => true,
+        Some(Local::Slot(local)) => match local {
+            SlotLocal::Pushed | SlotLocal::Forced(_) | SlotLocal::Popped => true,
             _ => false,
         },
-        Some(Local::Bounded(local)) => match local {
-            BoundedLocal::Filling(_)
-            | BoundedLocal::Arriving(_)
-            | BoundedLocal::Swapping
-            | BoundedLocal::Emptying => true,
+        Some(Local::Ring(local)) => match local {
+            RingLocal::Filling(_)
+            | RingLocal::Arriving(_)
+            | RingLocal::Swapping
+            | RingLocal::Emptying => true,
             _ => false,
         },
-        Some(Local::Unbounded(local)) => match local {
-            UnboundedLocal::Laying(_, _, _, _)
-            | UnboundedLocal::Opening(_, _, _, _)
-            | UnboundedLocal::Chaining(_, _, _, _)
-            | UnboundedLocal::Writing(_, _)
-            | UnboundedLocal::Following(_, _)
-            | UnboundedLocal::Peeking(_, _, _)
-            | UnboundedLocal::Passing(_, _, _)
-            | UnboundedLocal::Entering(_, _)
-            | UnboundedLocal::Awaiting(_, _)
-            | UnboundedLocal::Reading(_, _)
-            | UnboundedLocal::Walking(_, _)
-            | UnboundedLocal::Destroying(_, _) => true,
+        Some(Local::Chain(local)) => match local {
+            ChainLocal::Laying(_, _, _, _)
+            | ChainLocal::Opening(_, _, _, _)
+            | ChainLocal::Chaining(_, _, _, _)
+            | ChainLocal::Writing(_, _)
+            | ChainLocal::Following(_, _)
+            | ChainLocal::Peeking(_, _, _)
+            | ChainLocal::Passing(_, _, _)
+            | ChainLocal::Entering(_, _)
+            | ChainLocal::Awaiting(_, _)
+            | ChainLocal::Reading(_, _)
+            | ChainLocal::Walking(_, _)
+            | ChainLocal::Destroying(_, _) => true,
             _ => false,
         },
         _ => false,

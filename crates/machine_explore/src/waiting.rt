@@ -12,7 +12,7 @@ use crate::trace::{TraceEntry, go};
 use machine_replay::types::{Event, Told};
 use queue_steps::model::Call;
 use queue_steps::sizes::SOLO_STEPS;
-use queue_steps::steps::{BoundedLocal, Kind, Local, UnboundedLocal};
+use queue_steps::steps::{ChainLocal, Kind, Local, RingLocal};
 use std::alloc::{AllocError, Allocator};
 
 /// One side of a wait.
@@ -95,12 +95,12 @@ pub fn is_first(local: Option<Local<usize>>) -> bool
     ensures { result ≡ is_first local }
 {
     match local {
-        Some(Local::Bounded(local)) => match local {
-            BoundedLocal::PushTail(_) | BoundedLocal::PopHead => true,
+        Some(Local::Ring(local)) => match local {
+            RingLocal::PushTail(_) | RingLocal::PopHead => true,
             _ => false,
         },
-        Some(Local::Unbounded(local)) => match local {
-            UnboundedLocal::PushTail(_, _) | UnboundedLocal::PopHead => true,
+        Some(Local::Chain(local)) => match local {
+            ChainLocal::PushTail(_, _) | ChainLocal::PopHead => true,
             _ => false,
         },
         _ => false,

@@ -1,9 +1,9 @@
 -- Where a call is: the label of its step, as docs/STEPS.md has it, and what it remembers.
 use Rattle.std.specs.Prelude.{ℕ, cond, List, [], ◌∷◌, codes, bytes_eq, ◌==◌, Option, Some, None}
-use Rattle.queue_steps.specs.declared.steps.{bounded.PushKind.PushKind, bounded.PushKind.PushKind as push, looks.CallView.CallView, looks.CallView.CallView as view, looks.Look.Look, looks.Look.Look as look, types.Local.Local, types.Local.Local as local, single.SingleLocal.SingleLocal, single.SingleLocal.SingleLocal as slot, bounded.BoundedLocal.BoundedLocal, bounded.BoundedLocal.BoundedLocal as ring, unbounded.UnboundedLocal.UnboundedLocal, unbounded.UnboundedLocal.UnboundedLocal as chain}
+use Rattle.queue_steps.specs.declared.steps.{ring.PushKind.PushKind, ring.PushKind.PushKind as push, looks.CallView.CallView, looks.CallView.CallView as view, looks.Look.Look, looks.Look.Look as look, types.Local.Local, types.Local.Local as local, slot.SlotLocal.SlotLocal, slot.SlotLocal.SlotLocal as slot, ring.RingLocal.RingLocal, ring.RingLocal.RingLocal as ring, chain.ChainLocal.ChainLocal, chain.ChainLocal.ChainLocal as chain}
 
 -- one slot
-abbrev pub slot_label : SingleLocal → List ℕ
+abbrev pub slot_label : SlotLocal → List ℕ
 slot_label slot.Pushing = codes "P1"
 slot_label slot.Pushed = codes "P2"
 slot_label (slot.Forcing w) = codes "F1"
@@ -14,7 +14,7 @@ slot_label slot.Closing = codes "C1"
 slot_label (slot.Looking l) = codes "L1"
 
 -- a ring
-abbrev pub ring_label : BoundedLocal → List ℕ
+abbrev pub ring_label : RingLocal → List ℕ
 ring_label (ring.PushTail k) = codes "B1"
 ring_label (ring.PushStamp k t) = codes "B2"
 ring_label (ring.Claiming k t) = codes "B3"
@@ -40,7 +40,7 @@ ring_label ring.Closing = codes "C1"
 ring_label ring.ClosedTail = codes "K1"
 
 -- a chain of blocks
-abbrev pub chain_label : {B : Type 0} → UnboundedLocal B → List ℕ
+abbrev pub chain_label : {B : Type 0} → ChainLocal B → List ℕ
 chain_label (chain.PushTail k s) = codes "U1"
 chain_label (chain.PushBlock k t s) = codes "U2"
 chain_label (chain.Asking k t b) = codes "U3"
@@ -75,9 +75,9 @@ chain_label chain.ClosedTail = codes "L1"
 -- the step before which a call stands. One that begins has none yet
 abbrev pub local_label : {B : Type 0} → Local B → List ℕ
 local_label (local.Begin c) = []
-local_label (local.Single l) = slot_label l
-local_label (local.Bounded l) = ring_label l
-local_label (local.Unbounded l) = chain_label l
+local_label (local.Slot l) = slot_label l
+local_label (local.Ring l) = ring_label l
+local_label (local.Chain l) = chain_label l
 
 abbrev pub label_text : {B : Type 0} → Option (Local B) → List ℕ
 label_text (Some l) = local_label l
@@ -102,7 +102,7 @@ look_of (Some (view.Look l)) = l
 look_of _ = look.Len
 
 -- a ring: which push or look it is, and two words
-abbrev pub ring_at : List ℕ → Option CallView × ℕ × ℕ → BoundedLocal
+abbrev pub ring_at : List ℕ → Option CallView × ℕ × ℕ → RingLocal
 ring_at label (which, one, two) = pick ring.ClosedTail label (
     (codes "B1", ring.PushTail (push_of which))
     ∷ (codes "B2", ring.PushStamp (push_of which) one)
@@ -130,7 +130,7 @@ ring_at label (which, one, two) = pick ring.ClosedTail label (
     ∷ [])
 
 -- a chain: which push or look it is, two words, a block, and the one after it or the spare
-abbrev pub chain_at : List ℕ → Option CallView × (ℕ × ℕ) × (Option ℕ × Option ℕ) → UnboundedLocal ℕ
+abbrev pub chain_at : List ℕ → Option CallView × (ℕ × ℕ) × (Option ℕ × Option ℕ) → ChainLocal ℕ
 chain_at label (which, (one, two), (block, other)) = pick chain.ClosedTail label (
     (codes "U1", chain.PushTail (push_of which) other)
     ∷ (codes "U2", chain.PushBlock (push_of which) one other)

@@ -1,22 +1,22 @@
 //! What a step of a call did to the queue.
 ghost use Rattle.std.specs.Prelude.{◌≡◌, ℕ};
-ghost use Rattle.queue_steps.specs.BoundedNext.{FitsRing};
+ghost use Rattle.queue_steps.specs.RingNext.{FitsRing};
 ghost use Rattle.queue_steps.specs.Next.{CanNext};
 ghost use Rattle.queue_steps.specs.Words.{IsRing};
 ghost use Rattle.queue_steps.specs.declared.steps.types.Answer.TheVariants.{Found as SpecFound};
-ghost use Rattle.machine_memory.specs.EffectOf.{single_effect, bounded_effect, unbounded_effect, effect_of};
+ghost use Rattle.machine_memory.specs.EffectOf.{slot_effect, ring_effect, chain_effect, effect_of};
 
 use crate::types::EffectKind;
-use queue_steps::steps::{Answer, BoundedLocal, CLOSED, Kind, Local, SingleLocal, UnboundedLocal};
+use queue_steps::steps::{Answer, CLOSED, ChainLocal, Kind, Local, RingLocal, SlotLocal};
 use queue_steps::words::{is_marked, position_of};
 
 /// What a step on one slot did to the queue.
-fn effect_on_single(local: SingleLocal, found: u64) -> Option<EffectKind>
-    ensures { result ≡ single_effect local found }
+fn effect_on_slot(local: SlotLocal, found: u64) -> Option<EffectKind>
+    ensures { result ≡ slot_effect local found }
 {
     match local {
-        SingleLocal::Pushing => (found == 0).then_some(EffectKind::Append),
-        SingleLocal::Forcing(seen) => {
+        SlotLocal::Pushing => (found == 0).then_some(EffectKind::Append),
+        SlotLocal::Forcing(seen) => {
             if found & CLOSED != 0 || found != seen {
                 None
             } else if seen == 0 {
@@ -25,42 +25,40 @@ fn effect_on_single(local: SingleLocal, found: u64) -> Option<EffectKind>
                 Some(EffectKind::Replace)
             }
         }
-        SingleLocal::Popping(seen) => (found == seen).then_some(EffectKind::Take),
-        SingleLocal::Closing => (found & CLOSED == 0).then_some(EffectKind::Close),
+        SlotLocal::Popping(seen) => (found == seen).then_some(EffectKind::Take),
+        SlotLocal::Closing => (found & CLOSED == 0).then_some(EffectKind::Close),
         _ => None,
     }
 }
 
 /// What a step on a ring did to the queue.
-fn effect_on_ring(cap: u64, local: BoundedLocal, found: u64) -> Option<EffectKind>
+fn effect_on_ring(cap: u64, local: RingLocal, found: u64) -> Option<EffectKind>
     requires ring { IsRing cap }
     requires fits { FitsRing {B = ℕ} cap local (SpecFound found) }
-    ensures { result ≡ bounded_effect cap local found }
+    ensures { result ≡ ring_effect cap local found }
 {
     match local {
-        BoundedLocal::Claiming(_, tail) => (found == tail).then_some(EffectKind::Append),
-        BoundedLocal::Displacing(tail) => (found + cap == position_of(tail)).then_some(
+        RingLocal::Claiming(_, tail) => (found == tail).then_some(EffectKind::Append),
+        RingLocal::Displacing(tail) => (found + cap == position_of(tail)).then_some(
             EffectKind::Front,
         ),
-        BoundedLocal::Arriving(_) => Some(EffectKind::Arrive),
-        BoundedLocal::ClosingAtLimit(_) => (!is_marked(found)).then_some(EffectKind::SelfClose),
-        BoundedLocal::Taking(head) => (found == head).then_some(EffectKind::Take),
-        BoundedLocal::Closing => (!is_marked(found)).then_some(EffectKind::Close),
+        RingLocal::Arriving(_) => Some(EffectKind::Arrive),
+        RingLocal::ClosingAtLimit(_) => (!is_marked(found)).then_some(EffectKind::SelfClose),
+        RingLocal::Taking(head) => (found == head).then_some(EffectKind::Take),
+        RingLocal::Closing => (!is_marked(found)).then_some(EffectKind::Close),
         _ => None,
     }
 }
 
 /// What a step on a chain of blocks did to the queue.
-fn effect_on_chain(local: UnboundedLocal<usize>, found: u64) -> Option<EffectKind>
-    ensures { result ≡ unbounded_effect local found }
+fn effect_on_chain(local: ChainLocal<usize>, found: u64) -> Option<EffectKind>
+    ensures { result ≡ chain_effect local found }
 {
     match local {
-        UnboundedLocal::Claiming(_, tail, _, _) => (found == tail).then_some(EffectKind::Append),
-        UnboundedLocal::ClosingAtLimit(_, _) => (!is_marked(found)).then_some(
-            EffectKind::SelfClose,
-        ),
-        UnboundedLocal::Taking(head, _) => (found == head).then_some(EffectKind::Take),
-        UnboundedLocal::Closing => (!is_marked(found)).then_some(EffectKind::Close),
+        ChainLocal::Claiming(_, tail, _, _) => (found == tail).then_some(EffectKind::Append),
+        ChainLocal::ClosingAtLimit(_, _) => (!is_marked(found)).then_some(EffectKind::SelfClose),
+        ChainLocal::Taking(head, _) => (found == head).then_some(EffectKind::Take),
+        ChainLocal::Closing => (!is_marked(found)).then_some(EffectKind::Close),
         _ => None,
     }
 }
@@ -71,11 +69,11 @@ pub fn effect(kind: Kind, local: Local<usize>, answer: Answer<usize>) -> Option<
     ensures { result ≡ effect_of kind local answer }
 {
     match (kind, local, answer) {
-        (_, Local::Single(local), Answer::Found(found)) => effect_on_single(local, found),
-        (Kind::Bounded(cap), Local::Bounded(local), Answer::Found(found)) => effect_on_ring(
+        (_, Local::Slot(local), Answer::Found(found)) => effect_on_slot(local, found),
+        (Kind::Bounded(cap), Local::Ring(local), Answer::Found(found)) => effect_on_ring(
             cap as u64, local, found,
         ),
-        (Kind::Unbounded, Local::Unbounded(local), Answer::Found(found)) => effect_on_chain(
+        (Kind::Unbounded, Local::Chain(local), Answer::Found(found)) => effect_on_chain(
             local, found,
         ),
         _ => None,

@@ -6,7 +6,7 @@ use crate::calls::Running;
 use crate::places::{chain_kept, chain_label, ring_kept, ring_label};
 use queue_steps::model::CallKind;
 use queue_steps::steps::{
-    BoundedLocal, CallView, Link, Local, Op, SingleLocal, Touch, UnboundedLocal, Word,
+    CallView, ChainLocal, Link, Local, Op, RingLocal, SlotLocal, Touch, Word,
 };
 
 /// Values that can be told to be the same.
@@ -98,8 +98,8 @@ impl Same for CallKind {
     }
 }
 
-impl Same for SingleLocal {
-    fn same(&self, other: &SingleLocal) -> bool {
+impl Same for SlotLocal {
+    fn same(&self, other: &SlotLocal) -> bool {
         *self == *other
     }
 }
@@ -123,14 +123,14 @@ impl<X: Same, Y: Same, Z: Same> Same for (X, Y, Z) {
 }
 
 // Two calls at steps of one label that remember the same are at the same place.
-impl Same for BoundedLocal {
-    fn same(&self, other: &BoundedLocal) -> bool {
+impl Same for RingLocal {
+    fn same(&self, other: &RingLocal) -> bool {
         ring_label(*self) == ring_label(*other) && ring_kept(*self).same(&ring_kept(*other))
     }
 }
 
-impl Same for UnboundedLocal<usize> {
-    fn same(&self, other: &UnboundedLocal<usize>) -> bool {
+impl Same for ChainLocal<usize> {
+    fn same(&self, other: &ChainLocal<usize>) -> bool {
         chain_label(*self) == chain_label(*other) && chain_kept(*self).same(&chain_kept(*other))
     }
 }
@@ -139,9 +139,9 @@ impl Same for Local<usize> {
     fn same(&self, other: &Local<usize>) -> bool {
         match (self, other) {
             (Local::Begin(this), Local::Begin(other)) => this.same(other),
-            (Local::Single(this), Local::Single(other)) => this.same(other),
-            (Local::Bounded(this), Local::Bounded(other)) => this.same(other),
-            (Local::Unbounded(this), Local::Unbounded(other)) => this.same(other),
+            (Local::Slot(this), Local::Slot(other)) => this.same(other),
+            (Local::Ring(this), Local::Ring(other)) => this.same(other),
+            (Local::Chain(this), Local::Chain(other)) => this.same(other),
             _ => false,
         }
     }

@@ -1,6 +1,6 @@
 pub mod Progress
 pub mod Engine
-pub mod Single
+pub mod Slot
 pub mod Ring
 pub mod Chain
 pub mod Replays

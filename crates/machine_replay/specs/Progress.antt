@@ -1,7 +1,7 @@
 -- Who can make a call wait: where a party stands in a run, and how soon a call replies that nobody hinders.
 use Rattle.std.specs.Prelude.{◌≡◌, ◌≢◌, ℕ, ◌+◌, ◌*◌, ◌<◌, ◌==◌, Bool, true, false, if◌then◌else◌, Option, Some, None, IsSome, List, [], ◌∷◌, count_by}
 use Rattle.machine_replay.specs.Vocabulary.{Reply, Kind, Local, BLOCK_SLOTS, Event, Told, EffectKind, Step, Skipped, Ran, Running}
-use Rattle.queue_steps.specs.declared.steps.unbounded.UnboundedLocal.{UnboundedLocal as chain}
+use Rattle.queue_steps.specs.declared.steps.chain.ChainLocal.{ChainLocal as chain}
 use Rattle.machine_replay.specs.{Conforms.capacity_of, Conforms.party_of, Played.told_of, Played.world_after, Replays.CanReplay, Replays.is_too_large, Within.is_step_of}
 use Rattle.machine_steps.specs.{Left.opening_world, World.World, World.call_at}
 use Rattle.machine_memory.specs.SharedMemory.{Shared}
@@ -50,7 +50,7 @@ IsLeftToIt p (e ∷ es) (t ∷ ts) = (party_of e ≡ p → reply_told t ≡ None
 
 -- a push has installed a chain's first block and not shown it to the poppers, U4b
 abbrev pub IsToShow : Local ℕ → Type 0
-IsToShow (Local.Unbounded (chain.Showing d tail block)) = Unit {0}
+IsToShow (Local.Chain (chain.Showing d tail block)) = Unit {0}
 IsToShow _ = ⊥
 
 -- on a chain, no other party's call is there

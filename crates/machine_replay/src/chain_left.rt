@@ -8,7 +8,7 @@ use machine_memory::blocks::{self, Block, BlockPlace};
 use machine_memory::calls::Running;
 use machine_memory::shared_memory::named_block;
 use queue_steps::sizes::BLOCK_POSITIONS;
-use queue_steps::steps::{Local, READ, Touch, UnboundedLocal};
+use queue_steps::steps::{ChainLocal, Local, READ, Touch};
 use queue_steps::words::position_of;
 use std::alloc::Allocator;
 
@@ -83,7 +83,7 @@ fn reach<T: Drop, A: Allocator>(
 
 /// What a call does that stands here.
 fn settle_at<T: Drop, A: Allocator>(
-    local: UnboundedLocal<usize>,
+    local: ChainLocal<usize>,
     touch: Touch,
     named: Option<usize>,
     item: Option<T>,
@@ -92,14 +92,14 @@ fn settle_at<T: Drop, A: Allocator>(
     ensures { blocks.new.items ≡ settled_at local touch named item blocks.old.items }
 {
     match local {
-        UnboundedLocal::Laying(_, tail, block, fresh) => lay(tail, block, fresh, item, blocks),
-        UnboundedLocal::Opening(_, tail, block, fresh) => lay(tail, block, fresh, item, blocks),
-        UnboundedLocal::Chaining(_, tail, block, fresh) => lay(tail, block, fresh, item, blocks),
-        UnboundedLocal::Following(head, block) => mark(block, slot_of(head), blocks),
-        UnboundedLocal::Peeking(head, block, _) => mark(block, slot_of(head), blocks),
-        UnboundedLocal::Passing(head, block, _) => mark(block, slot_of(head), blocks),
-        UnboundedLocal::Entering(head, block) => mark(block, slot_of(head), blocks),
-        UnboundedLocal::Awaiting(head, block) => mark(block, slot_of(head), blocks),
+        ChainLocal::Laying(_, tail, block, fresh) => lay(tail, block, fresh, item, blocks),
+        ChainLocal::Opening(_, tail, block, fresh) => lay(tail, block, fresh, item, blocks),
+        ChainLocal::Chaining(_, tail, block, fresh) => lay(tail, block, fresh, item, blocks),
+        ChainLocal::Following(head, block) => mark(block, slot_of(head), blocks),
+        ChainLocal::Peeking(head, block, _) => mark(block, slot_of(head), blocks),
+        ChainLocal::Passing(head, block, _) => mark(block, slot_of(head), blocks),
+        ChainLocal::Entering(head, block) => mark(block, slot_of(head), blocks),
+        ChainLocal::Awaiting(head, block) => mark(block, slot_of(head), blocks),
         _ => reach(touch, named, item, blocks),
     }
 }
@@ -114,7 +114,7 @@ fn settle_one<T: Drop, A: Allocator>(running: Running<T>, blocks: &mut Vec<Optio
         op,
         carried,
     } = running;
-    if let Local::Unbounded(local) = local {
+    if let Local::Chain(local) = local {
         settle_at(local, touch, named_block(op), carried, blocks);
     }
 }
@@ -124,7 +124,7 @@ fn front(local: Local<usize>, front: Option<usize>) -> Option<usize>
     ensures { result ≡ front_at local front }
 {
     match local {
-        Local::Unbounded(UnboundedLocal::Showing(_, _, block)) => Some(block),
+        Local::Chain(ChainLocal::Showing(_, _, block)) => Some(block),
         _ => front,
     }
 }

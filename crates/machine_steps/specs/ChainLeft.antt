@@ -1,7 +1,7 @@
 -- The list that a chain of blocks holds: what its calls in progress have claimed is done first.
 use Rattle.std.specs.Prelude.{ℕ, zero, suc, ◌==◌, if◌then◌else◌, Option, Some, None, List, [], ◌∷◌, ◌++◌, length, bit_and}
 use Rattle.std.specs.Option.{option_to_list}
-use Rattle.queue_steps.specs.{ChainWords.offset_of, declared.steps.types.Local.Local, declared.steps.types.Local.Local as local, declared.steps.types.Op.Op, declared.steps.types.Touch.Touch, declared.steps.types.Touch.Touch as touch, declared.steps.unbounded.TheConstants.READ, declared.steps.unbounded.UnboundedLocal.UnboundedLocal, declared.steps.unbounded.UnboundedLocal.UnboundedLocal as chain}
+use Rattle.queue_steps.specs.{ChainWords.offset_of, declared.steps.types.Local.Local, declared.steps.types.Local.Local as local, declared.steps.types.Op.Op, declared.steps.types.Touch.Touch, declared.steps.types.Touch.Touch as touch, declared.steps.chain.TheConstants.READ, declared.steps.chain.ChainLocal.ChainLocal, declared.steps.chain.ChainLocal.ChainLocal as chain}
 use Rattle.machine_memory.specs.{declared.blocks.BlockPlace.BlockPlace, declared.calls.Running.Running, Blocks.Block, Blocks.block_of, Blocks.places_in, Blocks.behind, Blocks.put_state, Blocks.put_item, Blocks.put_next, Blocks.without, SharedMemory.block_touched}
 
 -- a push that claimed the last slot of a block writes it, and links the block that it lays
@@ -19,7 +19,7 @@ reached (touch.Take i) (Some b) v bs = marked b i bs
 reached _ _ v bs = bs
 
 -- the blocks once a call that stands here has done what it has claimed; its next operation names a state of this block, if of any
-abbrev pub settled_at : {T : Type 0} → UnboundedLocal ℕ → Touch → Option ℕ → Option T → List (Option (Block T)) → List (Option (Block T))
+abbrev pub settled_at : {T : Type 0} → ChainLocal ℕ → Touch → Option ℕ → Option T → List (Option (Block T)) → List (Option (Block T))
 settled_at (chain.Laying p tail block fresh) t b v bs = laid tail block fresh v bs
 settled_at (chain.Opening p tail block fresh) t b v bs = laid tail block fresh v bs
 settled_at (chain.Chaining p tail block fresh) t b v bs = laid tail block fresh v bs
@@ -31,7 +31,7 @@ settled_at (chain.Awaiting head block) t b v bs = marked block (offset_of head) 
 settled_at _ t b v bs = reached t b v bs
 
 abbrev pub settled_by : {T : Type 0} → Local ℕ → Touch → Op ℕ → Option T → List (Option (Block T)) → List (Option (Block T))
-settled_by (local.Unbounded l) t o v bs = settled_at l t (block_touched o) v bs
+settled_by (local.Chain l) t o v bs = settled_at l t (block_touched o) v bs
 settled_by _ t o v bs = bs
 
 -- the blocks once every call in progress has done what it has claimed
@@ -42,7 +42,7 @@ settled_blocks (Some r ∷ calls) bs = settled_blocks calls (settled_by r.local 
 
 -- the poppers' block once a call that stands here has shown the first block
 abbrev pub front_at : Local ℕ → Option ℕ → Option ℕ
-front_at (local.Unbounded (chain.Showing p tail block)) front = Some block
+front_at (local.Chain (chain.Showing p tail block)) front = Some block
 front_at _ front = front
 
 abbrev pub settled_front : {T : Type 0} → List (Option (Running T)) → Option ℕ → Option ℕ

@@ -1,7 +1,7 @@
 -- How a machine begins, and the list that it holds.
 use Rattle.std.specs.Prelude.{ℕ, zero, suc, ◌+◌, ◌-◌, ◌<◌, if◌then◌else◌, Option, Some, None, List, [], ◌∷◌, ◌++◌, slice_index_or, slice_set, replicate}
 use Rattle.std.specs.Option.{option_to_list}
-use Rattle.queue_steps.specs.{SingleNext.is_pushed, Words.position_of, Words.slot_at, declared.steps.types.Kind.Kind, declared.steps.types.Kind.Kind as kind, declared.steps.types.Touch.Touch, declared.steps.types.Touch.Touch as touch}
+use Rattle.queue_steps.specs.{SlotNext.is_pushed, Words.position_of, Words.slot_at, declared.steps.types.Kind.Kind, declared.steps.types.Kind.Kind as kind, declared.steps.types.Touch.Touch, declared.steps.types.Touch.Touch as touch}
 use Rattle.machine_memory.specs.{declared.calls.Running.Running, SharedMemory.Shared, Opening.opening_shared}
 use Rattle.machine_steps.specs.{World.World, ChainLeft.chain_left}
 

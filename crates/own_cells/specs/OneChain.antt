@@ -1,6 +1,6 @@
 pub mod OwnChainCells
 pub mod OwnChainOwned
-pub mod LinkedBlocks
+pub mod OwnChain
 pub mod ChainMemory
 pub mod ItemsLeft
 pub mod Laws

@@ -1,3 +1,3 @@
 pub mod ComputedSteps
-pub mod SingleCells
+pub mod OwnSlotCells
 pub mod Laws

@@ -2,5 +2,5 @@
 
 mod opening;
 mod operations;
+pub mod own_chain;
 pub mod reading;
-pub mod unbounded;

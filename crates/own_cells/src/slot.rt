@@ -1,5 +1,5 @@
 //! A queue of one slot with one owner, as cells of the driver.
 
-pub mod single;
+pub mod own_slot;
 
-pub use single::Single;
+pub use own_slot::OwnSlot;

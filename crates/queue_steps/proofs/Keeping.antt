@@ -1,7 +1,7 @@
 -- What the effects keep, and what the one-owner table keeps.
 use Rattle.std.specs.Prelude.{◌≡◌, ◌⊎◌, ℕ, ◌+◌, ◌-◌, ◌≤◌, Bool, true, false, not, ◌&&◌, ◌==◌, List, [], ◌∷◌, ◌++◌, length, Option, Some, None, if◌then◌else◌, nat_eq}
 use Rattle.std.proofs.Common.{refl, inl, inr, ap, ◌∙◌, arith, length-append}
-use Rattle.queue_steps.specs.{declared.sizes.TheConstants.LIMIT, declared.model.Effect.Effect, declared.model.Effect.Effect as effect, declared.model.Call.Call, declared.model.Call.Call as call, State.State, State.start, State.is_single_cap, State.fills, State.is_full, Effect.Fits, Effect.made, Effect.rest, Effect.with_coming, Effect.Runs, Effect.after_from, Laws.StaysClosed, Laws.StaysWithin, Legal.IsSound, Legal.IsWithin, Legal.KeepsSound}
+use Rattle.queue_steps.specs.{declared.sizes.TheConstants.LIMIT, declared.model.Effect.Effect, declared.model.Effect.Effect as effect, declared.model.Call.Call, declared.model.Call.Call as call, State.State, State.start, State.is_slot_cap, State.fills, State.is_full, Effect.Fits, Effect.made, Effect.rest, Effect.with_coming, Effect.Runs, Effect.after_from, Laws.StaysClosed, Laws.StaysWithin, Legal.IsSound, Legal.IsWithin, Legal.KeepsSound}
 use Rattle.queue_steps.proofs.TableCases.{table_cases}
 use Rattle.queue_steps.specs.Sequential.{Owned, HoldsBlocks, moved, spanned, blocks_of, sequential_state, is_spent, shut, appended, displaced}
 
@@ -95,10 +95,10 @@ shut-sound : {T : Type 0} (Q : State T) → IsSound Q → IsSound (shut Q)
 shut-sound Q s = record { none_coming = s.none_coming; within = s.within; counted = s.counted }
 
 appended-sound : {T : Type 0} (Q : State T) (v : T) → IsSound Q → is_spent Q ≡ false → is_full Q ≡ false → IsSound (appended Q v)
-appended-sound Q v s e2 e3 = record { none_coming = s.none_coming; within = within-append Q.cap Q.items v e3 s.within; counted = counted-up (is_single_cap Q.cap) Q.accepted e2 s.counted }
+appended-sound Q v s e2 e3 = record { none_coming = s.none_coming; within = within-append Q.cap Q.items v e3 s.within; counted = counted-up (is_slot_cap Q.cap) Q.accepted e2 s.counted }
 
 displaced-sound : {T : Type 0} (Q : State T) (v : T) → IsSound Q → is_spent Q ≡ false → is_full Q ≡ true → IsSound (displaced Q v)
-displaced-sound Q v s e2 e3 = record { none_coming = s.none_coming; within = within-displace Q.cap Q.items v e3 s.within; counted = counted-up (is_single_cap Q.cap) Q.accepted e2 s.counted }
+displaced-sound Q v s e2 e3 = record { none_coming = s.none_coming; within = within-displace Q.cap Q.items v e3 s.within; counted = counted-up (is_slot_cap Q.cap) Q.accepted e2 s.counted }
 
 sound-state : {T : Type 0} (Q : State T) (c : Call T) → IsSound Q → IsSound (sequential_state Q c)
 sound-state Q (call.Push v) s = table_cases (λ l. IsSound l.1) Q _ _ _ _ (λ e1. s) (λ e1 e2. shut-sound Q s) (λ e1 e2 e3. s) (λ e1 e2 e3. appended-sound Q v s e2 e3)
@@ -130,9 +130,9 @@ counted-zero false n e = omega arith
 -- a queue that has accepted nothing had accepted nothing before the call
 zero-sequential : {T : Type 0} (Q : State T) (c : Call T) → (sequential_state Q c).accepted ≡ 0 → Q.accepted ≡ 0
 zero-sequential Q (call.Push v) e =
-    table_cases (λ l. l.1.accepted ≡ 0 → Q.accepted ≡ 0) Q _ _ _ _ (λ e1 e. e) (λ e1 e2 e. e) (λ e1 e2 e3 e. e) (λ e1 e2 e3. counted-zero (is_single_cap Q.cap) Q.accepted) e
+    table_cases (λ l. l.1.accepted ≡ 0 → Q.accepted ≡ 0) Q _ _ _ _ (λ e1 e. e) (λ e1 e2 e. e) (λ e1 e2 e3 e. e) (λ e1 e2 e3. counted-zero (is_slot_cap Q.cap) Q.accepted) e
 zero-sequential Q (call.ForcePush v) e =
-    table_cases (λ l. l.1.accepted ≡ 0 → Q.accepted ≡ 0) Q _ _ _ _ (λ e1 e. e) (λ e1 e2 e. e) (λ e1 e2 e3. counted-zero (is_single_cap Q.cap) Q.accepted) (λ e1 e2 e3. counted-zero (is_single_cap Q.cap) Q.accepted) e
+    table_cases (λ l. l.1.accepted ≡ 0 → Q.accepted ≡ 0) Q _ _ _ _ (λ e1 e. e) (λ e1 e2 e. e) (λ e1 e2 e3. counted-zero (is_slot_cap Q.cap) Q.accepted) (λ e1 e2 e3. counted-zero (is_slot_cap Q.cap) Q.accepted) e
 zero-sequential Q c e = e
 
 -- while nothing was accepted, the span does not depend on the list

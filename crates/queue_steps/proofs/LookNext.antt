@@ -1,7 +1,7 @@
 -- A call that changes nothing takes such steps alone.
 use Rattle.std.specs.Prelude.{ℕ, ◌-◌, ◌==◌, Bool, true, false, refl, Some, None, if◌then◌else◌}
-use Rattle.queue_steps.specs.{declared.model.Call.Call, declared.model.Call.Call as call, declared.steps.types.Answer.Answer, declared.steps.types.Answer.Answer as answer, declared.steps.types.Kind.Kind, declared.steps.types.Kind.Kind as kind, declared.steps.types.Local.Local, declared.steps.types.Local.Local as local, declared.steps.single.SingleLocal.SingleLocal as slot, declared.steps.bounded.BoundedLocal.BoundedLocal as ring, declared.steps.bounded.BoundedLocal.BoundedLocal, declared.steps.types.Word.Word as word, declared.model.Reply.Reply, declared.steps.looks.Look.Look, declared.steps.unbounded.UnboundedLocal.UnboundedLocal, declared.steps.unbounded.UnboundedLocal.UnboundedLocal as chain, Words.position_of, Words.is_shut, ChainWords.items_before, UnboundedNext.unbounded_next, UnboundedNext.FitsChain, BoundedNext.ends, BoundedNext.loads, BoundedNext.bounded_next, BoundedNext.FitsRing, Looks.IsLook, Looks.reply_of_look, Next.CanNext, Next.next_of, Next.first_local, LookNext.IsLookLocal, LookNext.IsLookNext}
-use Rattle.queue_steps.specs.UnboundedNext as unbounded
+use Rattle.queue_steps.specs.{declared.model.Call.Call, declared.model.Call.Call as call, declared.steps.types.Answer.Answer, declared.steps.types.Answer.Answer as answer, declared.steps.types.Kind.Kind, declared.steps.types.Kind.Kind as kind, declared.steps.types.Local.Local, declared.steps.types.Local.Local as local, declared.steps.slot.SlotLocal.SlotLocal as slot, declared.steps.ring.RingLocal.RingLocal as ring, declared.steps.ring.RingLocal.RingLocal, declared.steps.types.Word.Word as word, declared.model.Reply.Reply, declared.steps.looks.Look.Look, declared.steps.chain.ChainLocal.ChainLocal, declared.steps.chain.ChainLocal.ChainLocal as chain, Words.position_of, Words.is_shut, ChainWords.items_before, ChainNext.chain_next, ChainNext.FitsChain, RingNext.ends, RingNext.loads, RingNext.ring_next, RingNext.FitsRing, Looks.IsLook, Looks.reply_of_look, Next.CanNext, Next.next_of, Next.first_local, LookNext.IsLookLocal, LookNext.IsLookNext}
+use Rattle.queue_steps.specs.ChainNext as unbounded
 
 pub look_next-first : (B : Type 0) (k : Kind) (c : Call Unit) → IsLook c → IsLookNext (next_of {B = B} k (first_local c) answer.Start)
 look_next-first B k (call.Push v) h = absurd h
@@ -17,7 +17,7 @@ look_again : (B : Type 0) (b : Bool) (r : Reply Unit) (g : Look) → IsLookNext 
 look_again B true r g = refl
 look_again B false r g = (refl, tt, refl)
 
-look_next-ring : {B : Type 0} (n : ℕ) (l : BoundedLocal) (a : Answer B) → FitsRing n l a → IsLookLocal {B = B} (local.Bounded l) → IsLookNext (bounded_next n l a)
+look_next-ring : {B : Type 0} (n : ℕ) (l : RingLocal) (a : Answer B) → FitsRing n l a → IsLookLocal {B = B} (local.Ring l) → IsLookNext (ring_next n l a)
 look_next-ring n ring.Closing a fits is = absurd is
 look_next-ring {B} n (ring.CountAgain g t h) (answer.Found found) fits is = look_again B (found == t) (reply_of_look (Some n) (position_of t - h) (is_shut t) g) g
 look_next-ring n l (answer.Found found) fits is = first_of (assumption, cc)
@@ -27,7 +27,7 @@ look_again-chain : (B : Type 0) (b : Bool) (r : Reply Unit) (g : Look) → IsLoo
 look_again-chain B true r g = refl
 look_again-chain B false r g = (refl, tt, refl)
 
-look_next-chain : {B : Type 0} (l : UnboundedLocal B) (a : Answer B) → FitsChain l a → IsLookLocal {B = B} (local.Unbounded l) → IsLookNext (unbounded_next l a)
+look_next-chain : {B : Type 0} (l : ChainLocal B) (a : Answer B) → FitsChain l a → IsLookLocal {B = B} (local.Chain l) → IsLookNext (chain_next l a)
 look_next-chain chain.Closing a fits is = absurd is
 look_next-chain {B} (chain.CountAgain g t h) (answer.Found found) fits is = look_again-chain B (found == t) (reply_of_look None (items_before (position_of t) - items_before (position_of h)) (is_shut t) g) g
 look_next-chain l (answer.Found found) fits is = first_of (assumption, cc)
@@ -35,8 +35,8 @@ look_next-chain l _ fits is = cc
 
 pub look_next : {B : Type 0} (k : Kind) (l : Local B) (a : Answer B) → CanNext k l a → IsLookLocal l → IsLookNext (next_of k l a)
 look_next k (local.Begin c) a can h = absurd h
-look_next kind.Single (local.Single (slot.Looking l)) (answer.Found word) can h = refl
-look_next kind.Single (local.Single l) (answer.Found word) can h = absurd h
-look_next (kind.Bounded n) (local.Bounded l) a can h = look_next-ring n l a can.1 h
-look_next kind.Unbounded (local.Unbounded l) a can h = look_next-chain l a can h
+look_next kind.Single (local.Slot (slot.Looking l)) (answer.Found word) can h = refl
+look_next kind.Single (local.Slot l) (answer.Found word) can h = absurd h
+look_next (kind.Bounded n) (local.Ring l) a can h = look_next-ring n l a can.1 h
+look_next kind.Unbounded (local.Chain l) a can h = look_next-chain l a can h
 look_next k l a can h = absurd can

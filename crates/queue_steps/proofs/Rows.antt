@@ -1,11 +1,11 @@
 -- A call whose effects stand one after another, with nothing of another call between them, is a call of the one-owner table.
 use Rattle.std.proofs.Common.{◌≡◌, ◌⊎◌, ℕ, ◌+◌, ◌==◌, ◌&&◌, true, false, not, if◌then◌else◌, Some, None, Ok, Err, List, [], ◌∷◌, refl, sym, ap, subst, ⊎_elim, arith, inl, inr}
-use Rattle.queue_steps.specs.{declared.sizes.TheConstants.LIMIT, State.State, State.is_full, State.is_single_cap, State.IsBelow, Effect.Runs, Effect.after_from, Legal.IsShown, Replies.IsRightAt, Replies.LacksMemory, Replies.Allows, Replies.Tells, Sequential.owner_table, Sequential.is_spent, Sequential.counted, declared.model.Call.Call, declared.model.Call.Call as call, declared.model.Reply.Reply, declared.model.Reply.Reply as reply, declared.model.Effect.Effect, declared.model.Effect.Effect as effect, declared.errors.PopError.PopError as pop, declared.errors.PushError.PushError as push, declared.errors.ForcePushError.ForcePushError as force}
+use Rattle.queue_steps.specs.{declared.sizes.TheConstants.LIMIT, State.State, State.is_full, State.is_slot_cap, State.IsBelow, Effect.Runs, Effect.after_from, Legal.IsShown, Replies.IsRightAt, Replies.LacksMemory, Replies.Allows, Replies.Tells, Sequential.owner_table, Sequential.is_spent, Sequential.counted, declared.model.Call.Call, declared.model.Call.Call as call, declared.model.Reply.Reply, declared.model.Reply.Reply as reply, declared.model.Effect.Effect, declared.model.Effect.Effect as effect, declared.errors.PopError.PopError as pop, declared.errors.PushError.PushError as push, declared.errors.ForcePushError.ForcePushError as force}
 use Rattle.queue_steps.proofs.{TableCases.at_shut, TableCases.at_spent, TableCases.at_full, TableCases.at_room, LookLaws.look_tells, LookLaws.look_right}
 
 -- the count agrees, but for a queue of one slot
 abbrev pub Same : {T : Type 0} → State T → ℕ → Type 0
-Same Q a = (is_single_cap Q.cap ≡ true) ⊎ (a ≡ Q.accepted)
+Same Q a = (is_slot_cap Q.cap ≡ true) ⊎ (a ≡ Q.accepted)
 
 -- the state with this count
 abbrev pub with_count : {T : Type 0} → State T → ℕ → State T
@@ -20,15 +20,15 @@ not_spent Q a same (inl single) = rw single refl
 not_spent Q a (inl single) (inr below) = rw single refl
 not_spent Q a (inr e) (inr below) =
     let no : (Q.accepted == LIMIT) ≡ false = grind arith in
-    rw (e, no) (elim (is_single_cap Q.cap) as (λ b. (not b && false) ≡ false) [ true ↦ refl | false ↦ refl ])
+    rw (e, no) (elim (is_slot_cap Q.cap) as (λ b. (not b && false) ≡ false) [ true ↦ refl | false ↦ refl ])
 
-spent : {T : Type 0} (Q : State T) (a : ℕ) → Same Q a → is_single_cap Q.cap ≡ false → Q.accepted ≡ LIMIT → is_spent (with_count Q a) ≡ true
+spent : {T : Type 0} (Q : State T) (a : ℕ) → Same Q a → is_slot_cap Q.cap ≡ false → Q.accepted ≡ LIMIT → is_spent (with_count Q a) ≡ true
 spent Q a (inl single) many at = let b = single in let c = many in cc
 spent Q a (inr e) many at = rw (many, e, at) refl
 
-one_more : {T : Type 0} (Q : State T) (a : ℕ) → Same Q a → (is_single_cap Q.cap ≡ true) ⊎ (counted (with_count Q a) ≡ Q.accepted + 1)
+one_more : {T : Type 0} (Q : State T) (a : ℕ) → Same Q a → (is_slot_cap Q.cap ≡ true) ⊎ (counted (with_count Q a) ≡ Q.accepted + 1)
 one_more Q a (inl single) = inl single
-one_more Q a (inr e) = elim (is_single_cap Q.cap) as (λ b. (b ≡ true) ⊎ ((if b then a else a + 1) ≡ Q.accepted + 1)) [ true ↦ inl refl | false ↦ inr (ap (λ n. n + 1) e) ]
+one_more Q a (inr e) = elim (is_slot_cap Q.cap) as (λ b. (b ≡ true) ⊎ ((if b then a else a + 1) ≡ Q.accepted + 1)) [ true ↦ inl refl | false ↦ inr (ap (λ n. n + 1) e) ]
 
 module _ {T : Type 0} (Q : State T) (a : ℕ) (same : Same Q a) where
   -- the reply is that of the line, and the effects lead to its state
@@ -63,7 +63,7 @@ module _ {T : Type 0} (Q : State T) (a : ℕ) (same : Same Q a) where
       (refl, record { items = refl; cap = refl; closed = refl; coming = refl; accepted = one_more Q a same }))
   row (call.ForcePush v) (reply.ForcePush (Ok (Some old))) es (inl tells) runs right opened =
       let fits = (subst (Runs Q) tells runs).0 in
-      let single : is_single_cap Q.cap ≡ true = rw fits.0 refl in
+      let single : is_slot_cap Q.cap ≡ true = rw fits.0 refl in
       let full : is_full Q ≡ true = rw (fits.0, fits.2) refl in
       rw tells (at_full (Shows (reply.ForcePush (Ok (Some old))) (effect.Replace old v ∷ [])) (with_count Q a) _ _ _ _ fits.1 (not_spent Q a same (inl single)) full
       (rw fits.2 refl, record { items = rw fits.2 refl; cap = refl; closed = refl; coming = refl; accepted = inl single }))

@@ -1,7 +1,7 @@
 -- Each line of the one-owner table stands in a history.
 use Rattle.std.specs.Prelude.{◌≡◌, ◌⊎◌, ℕ, ◌+◌, ◌<◌, ◌≤◌, Bool, true, false, not, ◌&&◌, ◌==◌, List, [], ◌∷◌, ◌++◌, length, Option, Some, None, Ok, Err, if◌then◌else◌}
 use Rattle.std.proofs.Common.{refl, sym, inl, inr, ap, ◌∙◌, arith}
-use Rattle.queue_steps.specs.{declared.sizes.TheConstants.LIMIT, declared.model.Effect.Effect as effect, State.State, State.is_single_cap, State.fills, State.is_full, Effect.rest, Replies.Allows, Replies.LacksMemory, Replies.Tells, Looks.look_reply, Sequential.owner_table, Sequential.is_spent, Sequential.shut, Sequential.appended, Sequential.displaced, Sequential.front, Sequential.pop_result, declared.errors.PushError.PushError as push, declared.errors.ForcePushError.ForcePushError as force, Legal.IsSound, Legal.IsWithin, Legal.Stands, Legal.SequentialStands, declared.model.Call.Call, declared.model.Call.Call as call, declared.model.Reply.Reply, declared.model.Reply.Reply as reply}
+use Rattle.queue_steps.specs.{declared.sizes.TheConstants.LIMIT, declared.model.Effect.Effect as effect, State.State, State.is_slot_cap, State.fills, State.is_full, Effect.rest, Replies.Allows, Replies.LacksMemory, Replies.Tells, Looks.look_reply, Sequential.owner_table, Sequential.is_spent, Sequential.shut, Sequential.appended, Sequential.displaced, Sequential.front, Sequential.pop_result, declared.errors.PushError.PushError as push, declared.errors.ForcePushError.ForcePushError as force, Legal.IsSound, Legal.IsWithin, Legal.Stands, Legal.SequentialStands, declared.model.Call.Call, declared.model.Call.Call as call, declared.model.Reply.Reply, declared.model.Reply.Reply as reply}
 use Rattle.queue_steps.proofs.TableCases.{table_cases}
 
 abbrev RowStands : {T : Type 0} → State T → Call T → Reply T × State T → Type 0
@@ -27,7 +27,7 @@ counts true n = inl refl
 counts false n = inr refl
 
 -- a capacity of one slot is one
-one : (c : Option ℕ) → is_single_cap c ≡ true → c ≡ Some 1
+one : (c : Option ℕ) → is_slot_cap c ≡ true → c ≡ Some 1
 one None e = cc
 one (Some c) e = let h : c ≡ 1 = grind arith in rw h refl
 
@@ -40,7 +40,7 @@ has_front (Some c) (x ∷ xs) w e = (x, (xs, refl))
 -- a spent queue closes itself
 closes : {T : Type 0} (Q : State T) (c : Call T) (r : Reply T) → Tells c r (effect.SelfClose ∷ []) → Q.closed ≡ false → is_spent Q ≡ true → Stands Q c r (shut Q)
 closes Q c r tells e1 e2 =
-    let h = spent (is_single_cap Q.cap) Q.accepted e2 in
+    let h = spent (is_slot_cap Q.cap) Q.accepted e2 in
     record {
       effects = effect.SelfClose ∷ [];
       tells = tells;
@@ -56,8 +56,8 @@ appends Q c r v s tells e1 e2 e3 =
     record {
       effects = effect.Append v ∷ [];
       tells = tells;
-      runs = ((e1, s.none_coming, e3, below (is_single_cap Q.cap) Q.accepted e2 s.counted), tt);
-      shows = record { items = refl; cap = refl; closed = refl; coming = refl; accepted = counts (is_single_cap Q.cap) Q.accepted };
+      runs = ((e1, s.none_coming, e3, below (is_slot_cap Q.cap) Q.accepted e2 s.counted), tt);
+      shows = record { items = refl; cap = refl; closed = refl; coming = refl; accepted = counts (is_slot_cap Q.cap) Q.accepted };
       right = λ e. cc;
     }
 
@@ -65,11 +65,11 @@ push-line : {T : Type 0} (Q : State T) (v : T) → IsSound Q → RowStands Q (ca
 push-line Q v s =
     table_cases (RowStands Q (call.Push v)) Q _ _ _ _ (λ e1. quiet Q (call.Push v) (reply.Push (Err (push.Closed v))) (refl, inr refl) (inl (refl, e1)))
     (λ e1 e2. closes Q (call.Push v) (reply.Push (Err (push.Closed v))) (refl, inl refl) e1 e2)
-    (λ e1 e2 e3. quiet Q (call.Push v) (reply.Push (Err (push.Full v))) (refl, refl) (inl (refl, e1, e3, below (is_single_cap Q.cap) Q.accepted e2 s.counted)))
+    (λ e1 e2 e3. quiet Q (call.Push v) (reply.Push (Err (push.Full v))) (refl, refl) (inl (refl, e1, e3, below (is_slot_cap Q.cap) Q.accepted e2 s.counted)))
     (λ e1 e2 e3. appends Q (call.Push v) (reply.Push (Ok tt)) v s refl e1 e2 e3)
 
 -- the list of a full queue of one slot has one item
-alone : {T : Type 0} (c : Option ℕ) (x : T) (xs : List T) → is_single_cap c ≡ true → fills c (length (x ∷ xs)) ≡ true → xs ≡ []
+alone : {T : Type 0} (c : Option ℕ) (x : T) (xs : List T) → is_slot_cap c ≡ true → fills c (length (x ∷ xs)) ≡ true → xs ≡ []
 alone None x xs one full = cc
 alone (Some c) x [] one full = refl
 alone (Some c) x (y ∷ ys) one full = grind arith
@@ -77,9 +77,9 @@ alone (Some c) x (y ∷ ys) one full = grind arith
 -- the front of a full queue gives way
 displaces : {T : Type 0} (Q : State T) (v : T) → IsSound Q → Q.closed ≡ false → is_spent Q ≡ false → is_full Q ≡ true
     → RowStands Q (call.ForcePush v) (reply.ForcePush (Ok (front Q.items)), displaced Q v)
-displaces {T} Q v s e1 e2 e3 = go Q.items (is_single_cap Q.cap) refl refl
+displaces {T} Q v s e1 e2 e3 = go Q.items (is_slot_cap Q.cap) refl refl
   where
-    go : (xs : List T) (single : Bool) → Q.items ≡ xs → is_single_cap Q.cap ≡ single → RowStands Q (call.ForcePush v) (reply.ForcePush (Ok (front xs)), displaced Q v)
+    go : (xs : List T) (single : Bool) → Q.items ≡ xs → is_slot_cap Q.cap ≡ single → RowStands Q (call.ForcePush v) (reply.ForcePush (Ok (front xs)), displaced Q v)
     go [] single e4 e5 =
         let h = has_front Q.cap Q.items s.within e3 in
         let none : h.0 ∷ h.1.0 ≡ [] = sym h.1.1 ∙ e4 in
@@ -99,8 +99,8 @@ displaces {T} Q v s e1 e2 e3 = go Q.items (is_single_cap Q.cap) refl refl
         record {
           effects = effect.Front x v ∷ effect.Arrive ∷ [];
           tells = inr refl;
-          runs = ((e5, e3, s.none_coming, below (is_single_cap Q.cap) Q.accepted e2 s.counted, (xs, e4)), ((v, refl), tt));
-          shows = record { items = refl; cap = refl; closed = refl; coming = s.none_coming; accepted = counts (is_single_cap Q.cap) Q.accepted };
+          runs = ((e5, e3, s.none_coming, below (is_slot_cap Q.cap) Q.accepted e2 s.counted, (xs, e4)), ((v, refl), tt));
+          shows = record { items = refl; cap = refl; closed = refl; coming = s.none_coming; accepted = counts (is_slot_cap Q.cap) Q.accepted };
           right = λ e. cc;
         }
 

@@ -1,6 +1,6 @@
 -- What a queue goes through: where each effect may stand, and the state that it leaves.
 use Rattle.std.specs.Prelude.{◌≡◌, ℕ, ◌+◌, true, false, List, [], ◌∷◌, ◌++◌, Option, Some, None}
-use Rattle.queue_steps.specs.{declared.sizes.TheConstants.LIMIT, declared.model.Effect.Effect, declared.model.Effect.Effect as effect, State.State, State.start, State.is_full, State.is_single_cap, State.IsBelow}
+use Rattle.queue_steps.specs.{declared.sizes.TheConstants.LIMIT, declared.model.Effect.Effect, declared.model.Effect.Effect as effect, State.State, State.start, State.is_full, State.is_slot_cap, State.IsBelow}
 
 -- the list without its front
 abbrev pub rest : {T : Type 0} → List T → List T
@@ -17,10 +17,10 @@ abbrev pub Fits : {T : Type 0} → Effect T → State T → Type 0
 Fits (effect.Append v) Q = (Q.closed ≡ false) × (Q.coming ≡ None) × (is_full Q ≡ false) × IsBelow Q
 Fits {T} (effect.Take v) Q = (others : List T) × (Q.items ≡ v ∷ others)
 Fits (effect.Replace old v) Q = (Q.cap ≡ Some 1) × (Q.closed ≡ false) × (Q.items ≡ old ∷ [])
-Fits {T} (effect.Front old v) Q = (is_single_cap Q.cap ≡ false) × (is_full Q ≡ true) × (Q.coming ≡ None) × IsBelow Q × ((others : List T) × (Q.items ≡ old ∷ others))
+Fits {T} (effect.Front old v) Q = (is_slot_cap Q.cap ≡ false) × (is_full Q ≡ true) × (Q.coming ≡ None) × IsBelow Q × ((others : List T) × (Q.items ≡ old ∷ others))
 Fits {T} effect.Arrive Q = (v : T) × (Q.coming ≡ Some v)
 Fits effect.Close Q = Q.closed ≡ false
-Fits effect.SelfClose Q = (Q.closed ≡ false) × (is_single_cap Q.cap ≡ false) × (Q.accepted ≡ LIMIT)
+Fits effect.SelfClose Q = (Q.closed ≡ false) × (is_slot_cap Q.cap ≡ false) × (Q.accepted ≡ LIMIT)
 
 -- the state that the effect leaves
 abbrev pub made : {T : Type 0} → Effect T → State T → State T

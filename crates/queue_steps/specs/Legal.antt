@@ -1,6 +1,6 @@
 -- The one-owner table and the effects agree: each call of the table stands in a history, with a reply that is right there.
 use Rattle.std.specs.Prelude.{◌≡◌, ◌⊎◌, ℕ, ◌<◌, ◌≤◌, true, List, [], length, Option, Some, None}
-use Rattle.queue_steps.specs.{declared.sizes.TheConstants.LIMIT, State.State, State.is_single_cap, declared.model.Effect.Effect, Effect.Runs, Effect.after_from, Replies.Allows, Replies.Tells, Sequential.Owned, Sequential.HoldsBlocks, Sequential.Sequential, declared.model.Call.Call, declared.model.Reply.Reply}
+use Rattle.queue_steps.specs.{declared.sizes.TheConstants.LIMIT, State.State, State.is_slot_cap, declared.model.Effect.Effect, Effect.Runs, Effect.after_from, Replies.Allows, Replies.Tells, Sequential.Owned, Sequential.HoldsBlocks, Sequential.Sequential, declared.model.Call.Call, declared.model.Reply.Reply}
 
 -- n items fit into a queue of this capacity, which has a slot at least
 abbrev pub IsWithin : Option ℕ → ℕ → Type 0
@@ -11,7 +11,7 @@ IsWithin (Some c) n = (0 < c) × (n ≤ c)
 pub record IsSound {T : Type 0} (Q : State T) : Type 0 where
   pub none_coming : Q.coming ≡ None
   pub within : IsWithin Q.cap (length Q.items)
-  pub counted : (is_single_cap Q.cap ≡ true) ⊎ (Q.accepted ≤ LIMIT)
+  pub counted : (is_slot_cap Q.cap ≡ true) ⊎ (Q.accepted ≤ LIMIT)
 
 -- the same state, but for the count of a queue of one slot
 pub record IsShown {T : Type 0} (R P : State T) : Type 0 where
@@ -19,7 +19,7 @@ pub record IsShown {T : Type 0} (R P : State T) : Type 0 where
   pub cap : R.cap ≡ P.cap
   pub closed : R.closed ≡ P.closed
   pub coming : R.coming ≡ P.coming
-  pub accepted : (is_single_cap R.cap ≡ true) ⊎ (R.accepted ≡ P.accepted)
+  pub accepted : (is_slot_cap R.cap ≡ true) ⊎ (R.accepted ≡ P.accepted)
 
 -- the call has effects that may stand at Q, which its reply stands for and which lead to R; without effects Q allows the reply
 pub record Stands {T : Type 0} (Q : State T) (c : Call T) (r : Reply T) (R : State T) : Type 0 where

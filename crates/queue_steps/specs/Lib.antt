@@ -7,11 +7,11 @@ pub mod Sequential
 pub mod Legal
 pub mod Laws
 pub mod Kinds
-pub mod SingleNext
+pub mod SlotNext
 pub mod Words
-pub mod BoundedNext
+pub mod RingNext
 pub mod ChainWords
-pub mod UnboundedNext
+pub mod ChainNext
 pub mod Next
 pub mod ShownWords
 pub mod CommonNext

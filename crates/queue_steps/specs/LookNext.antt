@@ -1,6 +1,6 @@
 -- The steps of the calls that change nothing: they load words and touch no slot.
 use Rattle.std.specs.Prelude.{◌≡◌, true, None}
-use Rattle.queue_steps.specs.{declared.steps.types.Local.Local, declared.steps.types.Local.Local as local, declared.steps.types.Next.Next, declared.steps.types.Next.Next as next, declared.steps.types.Op.Op, declared.steps.types.Op.Op as op, declared.steps.types.Touch.Touch as touch, declared.steps.single.SingleLocal.SingleLocal as slot, declared.steps.bounded.BoundedLocal.BoundedLocal as ring, declared.steps.types.Word.Word as word, declared.steps.unbounded.UnboundedLocal.UnboundedLocal as chain, CallAt.is_ring_rest, CallAt.is_chain_rest}
+use Rattle.queue_steps.specs.{declared.steps.types.Local.Local, declared.steps.types.Local.Local as local, declared.steps.types.Next.Next, declared.steps.types.Next.Next as next, declared.steps.types.Op.Op, declared.steps.types.Op.Op as op, declared.steps.types.Touch.Touch as touch, declared.steps.slot.SlotLocal.SlotLocal as slot, declared.steps.ring.RingLocal.RingLocal as ring, declared.steps.types.Word.Word as word, declared.steps.chain.ChainLocal.ChainLocal as chain, CallAt.is_ring_rest, CallAt.is_chain_rest}
 
 -- a load of a word that is in no block
 abbrev pub IsLoad : {B : Type 0} → Op B → Type 0
@@ -10,11 +10,11 @@ IsLoad _ = ⊥
 
 -- where a call that changes nothing may stand: at no place of a push, of a pop or of a close
 abbrev pub IsLookLocal : {B : Type 0} → Local B → Type 0
-IsLookLocal (local.Single (slot.Looking l)) = Unit {0}
-IsLookLocal (local.Bounded ring.Closing) = ⊥
-IsLookLocal (local.Bounded l) = is_ring_rest l ≡ true
-IsLookLocal (local.Unbounded chain.Closing) = ⊥
-IsLookLocal (local.Unbounded l) = is_chain_rest l ≡ true
+IsLookLocal (local.Slot (slot.Looking l)) = Unit {0}
+IsLookLocal (local.Ring ring.Closing) = ⊥
+IsLookLocal (local.Ring l) = is_ring_rest l ≡ true
+IsLookLocal (local.Chain chain.Closing) = ⊥
+IsLookLocal (local.Chain l) = is_chain_rest l ≡ true
 IsLookLocal _ = ⊥
 
 -- the next step changes nothing, and a reply gives nothing up

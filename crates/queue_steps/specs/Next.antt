@@ -1,6 +1,6 @@
 -- What a call does next, from where it stands and the answer to its last step.
 use Rattle.std.specs.Prelude.{ℕ, Option, Some, None}
-use Rattle.queue_steps.specs.{declared.model.Call.Call, declared.model.Reply.Reply as reply, declared.steps.types.Kind.Kind, declared.steps.types.Kind.Kind as kind, declared.steps.types.Answer.Answer, declared.steps.types.Answer.Answer as answer, declared.steps.types.Local.Local, declared.steps.types.Local.Local as local, declared.steps.types.Next.Next, declared.steps.types.Next.Next as next, Words.IsRing, SingleNext.single_begin, SingleNext.single_next, BoundedNext.bounded_begin, BoundedNext.bounded_next, BoundedNext.FitsRing, UnboundedNext.unbounded_begin, UnboundedNext.unbounded_next, UnboundedNext.FitsChain}
+use Rattle.queue_steps.specs.{declared.model.Call.Call, declared.model.Reply.Reply as reply, declared.steps.types.Kind.Kind, declared.steps.types.Kind.Kind as kind, declared.steps.types.Answer.Answer, declared.steps.types.Answer.Answer as answer, declared.steps.types.Local.Local, declared.steps.types.Local.Local as local, declared.steps.types.Next.Next, declared.steps.types.Next.Next as next, Words.IsRing, SlotNext.slot_begin, SlotNext.slot_next, RingNext.ring_begin, RingNext.ring_next, RingNext.FitsRing, ChainNext.chain_begin, ChainNext.chain_next, ChainNext.FitsChain}
 
 -- the capacity of a queue of this kind
 abbrev pub capacity_of : Kind → Option ℕ
@@ -14,19 +14,19 @@ first_local c = local.Begin c
 -- the answer fits what was asked, in a call on a queue of this kind
 abbrev pub CanNext : {B : Type 0} → Kind → Local B → Answer B → Type 0
 CanNext kind.Single (local.Begin c) answer.Start = Unit {0}
-CanNext kind.Single (local.Single l) (answer.Found word) = Unit {0}
+CanNext kind.Single (local.Slot l) (answer.Found word) = Unit {0}
 CanNext (kind.Bounded cap) (local.Begin c) answer.Start = IsRing cap
-CanNext (kind.Bounded cap) (local.Bounded l) a = IsRing cap × FitsRing cap l a
+CanNext (kind.Bounded cap) (local.Ring l) a = IsRing cap × FitsRing cap l a
 CanNext kind.Unbounded (local.Begin c) answer.Start = Unit {0}
-CanNext kind.Unbounded (local.Unbounded l) a = FitsChain l a
+CanNext kind.Unbounded (local.Chain l) a = FitsChain l a
 CanNext _ _ _ = ⊥
 
 -- the last line stands for what `CanNext` excludes
 abbrev pub next_of : {B : Type 0} → Kind → Local B → Answer B → Next B
-next_of kind.Single (local.Begin c) answer.Start = single_begin c
-next_of kind.Single (local.Single l) (answer.Found word) = single_next l word
-next_of (kind.Bounded cap) (local.Begin c) answer.Start = bounded_begin cap c
-next_of (kind.Bounded cap) (local.Bounded l) a = bounded_next cap l a
-next_of kind.Unbounded (local.Begin c) answer.Start = unbounded_begin c
-next_of kind.Unbounded (local.Unbounded l) a = unbounded_next l a
+next_of kind.Single (local.Begin c) answer.Start = slot_begin c
+next_of kind.Single (local.Slot l) (answer.Found word) = slot_next l word
+next_of (kind.Bounded cap) (local.Begin c) answer.Start = ring_begin cap c
+next_of (kind.Bounded cap) (local.Ring l) a = ring_next cap l a
+next_of kind.Unbounded (local.Begin c) answer.Start = chain_begin c
+next_of kind.Unbounded (local.Chain l) a = chain_next l a
 next_of _ _ _ = next.Reply (reply.Capacity None) None

@@ -1,14 +1,14 @@
 -- What each call of a queue with one owner answers, and what it leaves: the first line that fits decides.
 use Rattle.std.specs.Prelude.{◌≡◌, ◌⊎◌, ℕ, ◌+◌, ◌-◌, ◌/◌, Bool, true, not, ◌&&◌, ◌==◌, if◌then◌else◌, List, [], ◌∷◌, ◌++◌, length, Option, Some, None, Result, Ok, Err}
-use Rattle.queue_steps.specs.{declared.sizes.TheConstants.LIMIT, declared.sizes.TheConstants.BLOCK_SLOTS, State.State, State.start, State.is_full, State.is_single_cap, Effect.rest, Replies.LacksMemory, Looks.look_reply, declared.model.Call.Call, declared.model.Reply.Reply, declared.model.Call.Call as call, declared.model.Reply.Reply as reply, declared.errors.PopError.PopError, declared.errors.PopError.PopError as pop, declared.errors.PushError.PushError as push, declared.errors.ForcePushError.ForcePushError as force}
+use Rattle.queue_steps.specs.{declared.sizes.TheConstants.LIMIT, declared.sizes.TheConstants.BLOCK_SLOTS, State.State, State.start, State.is_full, State.is_slot_cap, Effect.rest, Replies.LacksMemory, Looks.look_reply, declared.model.Call.Call, declared.model.Reply.Reply, declared.model.Call.Call as call, declared.model.Reply.Reply as reply, declared.errors.PopError.PopError, declared.errors.PopError.PopError as pop, declared.errors.PushError.PushError as push, declared.errors.ForcePushError.ForcePushError as force}
 
 -- the queue has accepted all that it ever will
 abbrev pub is_spent : {T : Type 0} → State T → Bool
-is_spent Q = not (is_single_cap Q.cap) && (Q.accepted == LIMIT)
+is_spent Q = not (is_slot_cap Q.cap) && (Q.accepted == LIMIT)
 
 -- one more accepted item. A queue of one slot with one owner keeps no count
 abbrev pub counted : {T : Type 0} → State T → ℕ
-counted Q = if is_single_cap Q.cap then Q.accepted else Q.accepted + 1
+counted Q = if is_slot_cap Q.cap then Q.accepted else Q.accepted + 1
 
 -- with v at its end
 abbrev pub appended : {T : Type 0} → State T → T → State T

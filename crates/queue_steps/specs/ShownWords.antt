@@ -1,6 +1,6 @@
 -- What the words of a queue show to who only loads them. The tail is loaded before the head, so the head may have passed it. One slot has one word, which stands for its tail.
 use Rattle.std.specs.Prelude.{ℕ, ◌-◌, Bool, if◌then◌else◌}
-use Rattle.queue_steps.specs.{declared.steps.types.Kind.Kind, declared.steps.types.Kind.Kind as kind, SingleNext.is_marked, SingleNext.is_pushed, Words.position_of, Words.is_shut, ChainWords.items_before}
+use Rattle.queue_steps.specs.{declared.steps.types.Kind.Kind, declared.steps.types.Kind.Kind as kind, SlotNext.is_marked, SlotNext.is_pushed, Words.position_of, Words.is_shut, ChainWords.items_before}
 
 -- how many items there are between the head and the tail
 abbrev pub shown_len : Kind → ℕ → ℕ → ℕ

@@ -23,10 +23,10 @@ abbrev pub is_full : {T : Type 0} → State T → Bool
 is_full Q = fills Q.cap (length Q.items)
 
 -- the capacity is one: a queue of one slot
-abbrev pub is_single_cap : Option ℕ → Bool
-is_single_cap None = false
-is_single_cap (Some c) = nat_eq c 1
+abbrev pub is_slot_cap : Option ℕ → Bool
+is_slot_cap None = false
+is_slot_cap (Some c) = nat_eq c 1
 
 -- the queue may accept one item more: a queue of one slot always, any other until it has accepted LIMIT items
 abbrev pub IsBelow : {T : Type 0} → State T → Type 0
-IsBelow Q = (is_single_cap Q.cap ≡ true) ⊎ (Q.accepted < LIMIT)
+IsBelow Q = (is_slot_cap Q.cap ≡ true) ⊎ (Q.accepted < LIMIT)

@@ -7,22 +7,22 @@ ghost use Rattle.queue_steps.specs.Next.{CanNext, first_local, next_of};
 use crate::model::CallKind;
 
 pub mod blocks;
-mod bounded;
+mod chain;
 mod kinds;
 mod looks;
+mod ring;
 mod shown;
-mod single;
+mod slot;
 pub mod stages;
 mod types;
-mod unbounded;
 
-pub use bounded::{BoundedLocal, MARK, PushKind, TAIL_STEP};
+pub use chain::{ChainLocal, DESTROY, READ, WRITE};
 pub use kinds::{ChainSteps, KindSteps, RingSteps, SlotSteps};
 pub use looks::{CallView, Look};
+pub use ring::{MARK, PushKind, RingLocal, TAIL_STEP};
 pub use shown::{shown_len, shows_closed};
-pub use single::{CLOSED, LOCKED, PUSHED, SingleLocal, UNLOCKED, UNPUSHED};
+pub use slot::{CLOSED, LOCKED, PUSHED, SlotLocal, UNLOCKED, UNPUSHED};
 pub use types::{Answer, Kind, Link, Local, Next, Op, Touch, Word};
-pub use unbounded::{DESTROY, READ, UnboundedLocal, WRITE};
 
 /// The local state of a call that begins.
 #[inline(always)]

@@ -2,7 +2,7 @@
 use Rattle.std.proofs.Common.{◌≡◌, ℕ, true, List, Option, refl, sym, ap, subst, ◌∙◌}
 use Rattle.atomic_table.specs.declared.shared.Seat.{Seat}
 use Rattle.mem_blocks.specs.declared.block.BlockPtr.{BlockPtr as Link}
-use Rattle.queue_laws.specs.{Common.Vocabulary.Kind, Common.Vocabulary.Op, Common.Vocabulary.Touch, Common.Vocabulary.Local, Common.Vocabulary.Next, Common.Vocabulary.UnboundedLocal, Chain.ChainPasses.spare_in, Chain.ChainPasses.spare_of as named_spare}
+use Rattle.queue_laws.specs.{Common.Vocabulary.Kind, Common.Vocabulary.Op, Common.Vocabulary.Touch, Common.Vocabulary.Local, Common.Vocabulary.Next, Common.Vocabulary.ChainLocal, Chain.ChainPasses.spare_in, Chain.ChainPasses.spare_of as named_spare}
 use Rattle.queue_steps.specs.Next.{next_of}
 use Rattle.queue_laws.specs.Chain.ChainEarly as chain
 use Rattle.shared_parties.specs.{declared.known.CallState.CallState, declared.known.InCall.InCall, declared.known.Work.Work as work, Called.call_of_work, Called.nothing_called, Quitting.its_call}
@@ -13,26 +13,26 @@ use Rattle.shared_calls.specs.{declared.chain.Asking.Asking, declared.left.Left.
 
 -- what is early on any queue is so on the one that the place is on
 early_at : (l : Local ℕ) → is_early l ≡ true → IsEarly l
-early_at (Local.Single l) is = (is, tt)
-early_at (Local.Bounded l) is = (tt, is)
+early_at (Local.Slot l) is = (is, tt)
+early_at (Local.Ring l) is = (tt, is)
 early_at l is = (tt, tt)
 
 early_in : (l : Local ℕ) → is_early l ≡ true → chain.IsEarly l
-early_in (Local.Unbounded l) is = is
+early_in (Local.Chain l) is = is
 early_in l is = tt
 
 module _ {B : Type 0} where
   -- whatever the blocks are named by
-  chain_named : (f : ℕ → B) (l : UnboundedLocal ℕ) → (chain.is_early (chain_map f l) ≡ chain.is_early l) × (spare_of (chain_map f l) ≡ name_map f (named_spare l)) × (chain.is_bound (chain_map f l) ≡ chain.is_bound l)
-  chain_named f (UnboundedLocal.PushTail d s) = (refl, refl, refl)
+  chain_named : (f : ℕ → B) (l : ChainLocal ℕ) → (chain.is_early (chain_map f l) ≡ chain.is_early l) × (spare_of (chain_map f l) ≡ name_map f (named_spare l)) × (chain.is_bound (chain_map f l) ≡ chain.is_bound l)
+  chain_named f (ChainLocal.PushTail d s) = (refl, refl, refl)
   chain_named f l = (refl, refl, refl)
 
   named : (f : ℕ → B) (l : Local ℕ) → (is_early (local_map f l) ≡ is_early l) × (spare_at (local_map f l) ≡ name_map f (spare_in l))
-  named f (Local.Unbounded l) = let h = chain_named f l in (h.0, h.1)
+  named f (Local.Chain l) = let h = chain_named f l in (h.0, h.1)
   named f l = (refl, refl)
 
   pub bound_named : (f : ℕ → B) (l : Local ℕ) → chain.IsBound (local_map f l) → chain.IsBound l
-  bound_named f (Local.Unbounded l) h = sym (chain_named f l).2 ∙ h
+  bound_named f (Local.Chain l) h = sym (chain_named f l).2 ∙ h
   bound_named f l h = h
 
 module _ {T : Type 0} where

@@ -2,7 +2,7 @@
 ghost use Rattle.std.specs.Prelude.{◌≡◌};
 ghost use Rattle.shared_calls.specs.Early.{is_early, spare_at};
 
-use queue_steps::steps::{BoundedLocal, Local, SingleLocal, UnboundedLocal};
+use queue_steps::steps::{ChainLocal, Local, RingLocal, SlotLocal};
 
 /// Whether the call that stands there has had no effect, and its party has no part of the queue but a spare block.
 pub fn is_early<B: Copy>(local: &Local<B>) -> bool
@@ -10,31 +10,31 @@ pub fn is_early<B: Copy>(local: &Local<B>) -> bool
 {
     match local {
         Local::Begin(_) => true,
-        Local::Single(local) => match local {
-            SingleLocal::Pushed | SingleLocal::Forced(_) | SingleLocal::Popped => false,
+        Local::Slot(local) => match local {
+            SlotLocal::Pushed | SlotLocal::Forced(_) | SlotLocal::Popped => false,
             _ => true,
         },
-        Local::Bounded(local) => match local {
-            BoundedLocal::Filling(_)
-            | BoundedLocal::Arriving(_)
-            | BoundedLocal::Swapping
-            | BoundedLocal::Emptying => false,
+        Local::Ring(local) => match local {
+            RingLocal::Filling(_)
+            | RingLocal::Arriving(_)
+            | RingLocal::Swapping
+            | RingLocal::Emptying => false,
             _ => true,
         },
-        Local::Unbounded(local) => match local {
-            UnboundedLocal::Showing(_, _, _)
-            | UnboundedLocal::Laying(_, _, _, _)
-            | UnboundedLocal::Opening(_, _, _, _)
-            | UnboundedLocal::Chaining(_, _, _, _)
-            | UnboundedLocal::Writing(_, _)
-            | UnboundedLocal::Following(_, _)
-            | UnboundedLocal::Peeking(_, _, _)
-            | UnboundedLocal::Passing(_, _, _)
-            | UnboundedLocal::Entering(_, _)
-            | UnboundedLocal::Awaiting(_, _)
-            | UnboundedLocal::Reading(_, _)
-            | UnboundedLocal::Walking(_, _)
-            | UnboundedLocal::Destroying(_, _) => false,
+        Local::Chain(local) => match local {
+            ChainLocal::Showing(_, _, _)
+            | ChainLocal::Laying(_, _, _, _)
+            | ChainLocal::Opening(_, _, _, _)
+            | ChainLocal::Chaining(_, _, _, _)
+            | ChainLocal::Writing(_, _)
+            | ChainLocal::Following(_, _)
+            | ChainLocal::Peeking(_, _, _)
+            | ChainLocal::Passing(_, _, _)
+            | ChainLocal::Entering(_, _)
+            | ChainLocal::Awaiting(_, _)
+            | ChainLocal::Reading(_, _)
+            | ChainLocal::Walking(_, _)
+            | ChainLocal::Destroying(_, _) => false,
             _ => true,
         },
     }
@@ -45,14 +45,14 @@ pub fn spare_at<B: Copy>(local: &Local<B>) -> Option<B>
     ensures { result ≡ spare_at local.now }
 {
     match local {
-        Local::Unbounded(local) => match local {
-            UnboundedLocal::PushTail(_, spare)
-            | UnboundedLocal::PushBlock(_, _, spare)
-            | UnboundedLocal::Claiming(_, _, _, spare)
-            | UnboundedLocal::Writing(_, spare)
-            | UnboundedLocal::ClosingAtLimit(_, spare) => *spare,
-            UnboundedLocal::Installing(_, _, block) => Some(*block),
-            UnboundedLocal::Laying(_, _, _, block) => Some(*block),
+        Local::Chain(local) => match local {
+            ChainLocal::PushTail(_, spare)
+            | ChainLocal::PushBlock(_, _, spare)
+            | ChainLocal::Claiming(_, _, _, spare)
+            | ChainLocal::Writing(_, spare)
+            | ChainLocal::ClosingAtLimit(_, spare) => *spare,
+            ChainLocal::Installing(_, _, block) => Some(*block),
+            ChainLocal::Laying(_, _, _, block) => Some(*block),
             _ => None,
         },
         _ => None,

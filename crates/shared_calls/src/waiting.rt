@@ -12,7 +12,7 @@ use call_driver::progress::Progress;
 use call_driver::retry::{End, retry};
 use call_driver::site::Site;
 use queue_steps::model::{Call, CallKind, Reply, ReplyKind};
-use queue_steps::steps::{BoundedLocal, Kind, Local, UnboundedLocal};
+use queue_steps::steps::{ChainLocal, Kind, Local, RingLocal};
 use std::ops::ControlFlow;
 use std::sync::Wait;
 use std::thread::yield_now;
@@ -22,16 +22,16 @@ use std::thread::yield_now;
 #[inline(always)]
 pub fn must_give_way<B: Copy>(before: &Local<B>, after: &Local<B>) -> bool {
     match (before, after) {
-        (Local::Bounded(before), Local::Bounded(after)) => match (before, after) {
-            (BoundedLocal::PushStamp(_, _), BoundedLocal::PushTail(_)) => true,
-            (BoundedLocal::PopStamp(_), BoundedLocal::PopHead) => true,
+        (Local::Ring(before), Local::Ring(after)) => match (before, after) {
+            (RingLocal::PushStamp(_, _), RingLocal::PushTail(_)) => true,
+            (RingLocal::PopStamp(_), RingLocal::PopHead) => true,
             _ => false,
         },
-        (Local::Unbounded(before), Local::Unbounded(after)) => match (before, after) {
-            (UnboundedLocal::PushTail(_, _), UnboundedLocal::PushTail(_, _)) => true,
-            (UnboundedLocal::PopHead, UnboundedLocal::PopHead) => true,
-            (UnboundedLocal::Following(_, _), UnboundedLocal::Following(_, _)) => true,
-            (UnboundedLocal::Awaiting(_, _), UnboundedLocal::Awaiting(_, _)) => true,
+        (Local::Chain(before), Local::Chain(after)) => match (before, after) {
+            (ChainLocal::PushTail(_, _), ChainLocal::PushTail(_, _)) => true,
+            (ChainLocal::PopHead, ChainLocal::PopHead) => true,
+            (ChainLocal::Following(_, _), ChainLocal::Following(_, _)) => true,
+            (ChainLocal::Awaiting(_, _), ChainLocal::Awaiting(_, _)) => true,
             _ => false,
         },
         _ => false,

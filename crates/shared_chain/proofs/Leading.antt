@@ -1,7 +1,7 @@
 -- The laws of a party's driver on a shared chain: what a step told leads on, and so does what a call does first.
 use Rattle.std.proofs.Common.{ℕ, ◌≡◌, ◌∙◌, Option, Some, None, List, [], refl, sym, ap, subst, inl, inr}
 use Rattle.queue_laws.specs.Common.Vocabulary.{Call, Reply, Kind, Op, Touch, Word, Answer, Local, Next}
-use Rattle.queue_steps.specs.{Effect.after, Kinds.call_kind, Kinds.call_value, Kinds.filled, Next.CanNext, Next.next_of, Next.first_local, Parties.View, Parties.SharedCall, UnboundedNext.unbounded_begin, Replies.Tells, Replies.IsRightAt, State.State}
+use Rattle.queue_steps.specs.{Effect.after, Kinds.call_kind, Kinds.call_value, Kinds.filled, Next.CanNext, Next.next_of, Next.first_local, Parties.View, Parties.SharedCall, ChainNext.chain_begin, Replies.Tells, Replies.IsRightAt, State.State}
 use Rattle.queue_laws.proofs.{Common.Runs.cap_after, Chain.ChainStart.Begins, Chain.ChainStart.OnPosition, Chain.ChainStart.at_begun}
 use Rattle.queue_laws.specs.Chain.ChainPasses.{spare_in}
 use Rattle.mem_blocks.specs.{Web.Sitter, Web.sitter, Seats.Sits, declared.block.BlockPtr.BlockPtr as Place, declared.web.Seat.Seat}
@@ -9,7 +9,7 @@ use Rattle.shared_parties.specs.{declared.known.CallState.CallState, declared.kn
 use Rattle.shared_parties.proofs.{Called.whole, Histories.prefix_self, SharedCalls.quiet}
 use Rattle.shared_chain.specs.{declared.web.ChainWeb.ChainWeb, Names.link_of, Names.name_map, Names.local_map, Names.op_map, Names.next_map, Steps.HoldsBy, Steps.HoldsFor, Steps.MayDo, Steps.MayStep, Steps.After, Steps.carried_by}
 use Rattle.shared_chain.specs.Turning.{unnamed, call_at, CanDo, Operated, Carries, IsFree, ChainStands, ChainRests, ChainEnded, GaveUp, ChainLeads}
-use Rattle.shared_chain.proofs.{Steps.Turns.sits_still, Frames.Renamed.can_next_map, Frames.Renamed.next_of_map, Frames.Renamed.unbounded_begin_map}
+use Rattle.shared_chain.proofs.{Steps.Turns.sits_still, Frames.Renamed.can_next_map, Frames.Renamed.next_of_map, Frames.Renamed.chain_begin_map}
 
 module _ {T A : Type 0} (w : ChainWeb T A) where
   -- a block that a reply gives up is carried by its place too
@@ -128,6 +128,6 @@ module _ {T A : Type 0} (w : ChainWeb T A) where
   pub chain_begins : (p : Seat T (CallState T) A) (c : Call T) → ChainRests w p
       → CanNext Kind.Unbounded (first_local {B = Place T} (call_kind c)) Answer.Start × ChainLeads w p c (next_of Kind.Unbounded (first_local (call_kind c)) Answer.Start) p (call_value c)
   chain_begins p c rests =
-      let named : unbounded_begin (call_kind c) ≡ next_map (link_of {T = T}) (unbounded_begin (call_kind c)) = unbounded_begin_map link_of (call_kind c) in
-      let same = sym (unbounded_begin_map unnamed (call_kind c) ∙ ap (next_map unnamed) named) in
-      (tt, subst (λ n. ChainLeads w p c n p (call_value c)) (sym named) (begins_so p c (unbounded_begin (call_kind c)) rests (at_begun c) same refl))
+      let named : chain_begin (call_kind c) ≡ next_map (link_of {T = T}) (chain_begin (call_kind c)) = chain_begin_map link_of (call_kind c) in
+      let same = sym (chain_begin_map unnamed (call_kind c) ∙ ap (next_map unnamed) named) in
+      (tt, subst (λ n. ChainLeads w p c n p (call_value c)) (sym named) (begins_so p c (chain_begin (call_kind c)) rests (at_begun c) same refl))

@@ -1,7 +1,7 @@
 -- A chain that parties share, as a kind of queue.
 use Rattle.std.specs.Prelude.{◌≡◌, ◌≢◌, ◌⊎◌, ℕ, ◌%◌, Bool, true, false, List, [], ◌∷◌, Option, Some, None}
 use Rattle.queue_laws.specs.{Common.Vocabulary.Kind, Common.Vocabulary.Local, Common.Vocabulary.BLOCK_SLOTS, Common.Stand.Stand, Chain.ChainCells.Wrote, Chain.ChainCells.Reading, Chain.ChainCells.Chain, Chain.ChainCells.queue_of, Chain.ChainCells.ChainOk, Chain.ChainCells.HoldsOnly, Chain.ChainCells.Nothing, Chain.ChainCells.writer_of, Chain.ChainPasses.Passes, Chain.ChainPasses.Spares, Chain.ChainPasses.spare_in, Chain.ChainAt.At}
-use Rattle.queue_steps.specs.{declared.steps.unbounded.UnboundedLocal.UnboundedLocal as chain, State.State}
+use Rattle.queue_steps.specs.{declared.steps.chain.ChainLocal.ChainLocal as chain, State.State}
 use Rattle.shared_parties.specs.Calling.{CallsOf}
 
 -- a chain, and of which items the reader has the slot
@@ -11,8 +11,8 @@ pub record OutChain (T : Type 0) : Type 0 where
 
 -- the call has the slot of the item that it reads
 abbrev pub has_slot : Local ℕ → Bool
-has_slot (Local.Unbounded (chain.Reading name slot)) = true
-has_slot (Local.Unbounded (chain.Walking name slot)) = true
+has_slot (Local.Chain (chain.Reading name slot)) = true
+has_slot (Local.Chain (chain.Walking name slot)) = true
 has_slot _ = false
 
 -- the party has the slot of the item n: it is to write it, or it reads it

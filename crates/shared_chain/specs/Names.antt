@@ -1,7 +1,7 @@
 -- At run time a name is the place of its block. What the steps of calls say is the same with other names.
 use Rattle.std.specs.Prelude.{ℕ, ◌==◌, ◌||◌, Bool, false, Option, Some, None}
-use Rattle.queue_laws.specs.Common.Vocabulary.{Word, Link, Op, Answer, Local, Next, UnboundedLocal, WRITE, READ}
-use Rattle.queue_steps.specs.declared.steps.unbounded.UnboundedLocal.{UnboundedLocal as chain}
+use Rattle.queue_laws.specs.Common.Vocabulary.{Word, Link, Op, Answer, Local, Next, ChainLocal, WRITE, READ}
+use Rattle.queue_steps.specs.declared.steps.chain.ChainLocal.{ChainLocal as chain}
 use Rattle.mem_blocks.specs.declared.block.BlockPtr.{BlockPtr as Place}
 use Rattle.shared_chain.specs.Spots.{spot}
 
@@ -46,7 +46,7 @@ module _ {B C : Type 0} (f : B → C) where
   answer_map Answer.Refused = Answer.Refused
   answer_map Answer.Done = Answer.Done
 
-  abbrev pub chain_map : UnboundedLocal B → UnboundedLocal C
+  abbrev pub chain_map : ChainLocal B → ChainLocal C
   chain_map (chain.PushTail d s) = chain.PushTail d (name_map s)
   chain_map (chain.PushBlock d t s) = chain.PushBlock d t (name_map s)
   chain_map (chain.Asking d t b) = chain.Asking d t (name_map b)
@@ -80,9 +80,9 @@ module _ {B C : Type 0} (f : B → C) where
 
   abbrev pub local_map : Local B → Local C
   local_map (Local.Begin k) = Local.Begin k
-  local_map (Local.Single l) = Local.Single l
-  local_map (Local.Bounded l) = Local.Bounded l
-  local_map (Local.Unbounded l) = Local.Unbounded (chain_map l)
+  local_map (Local.Slot l) = Local.Slot l
+  local_map (Local.Ring l) = Local.Ring l
+  local_map (Local.Chain l) = Local.Chain (chain_map l)
 
   abbrev pub next_map : Next B → Next C
   next_map (Next.Step l t o) = Next.Step (local_map l) t (op_map o)

@@ -2,7 +2,7 @@
 use Rattle.std.specs.Prelude.{◌≡◌, ◌≢◌, ℕ, ◌+◌, ◌-◌, ◌<◌, Bool, true, false, List, [], ◌∷◌, replicate, length, Option, Some, None}
 use denote.RawPtr.{Ptr, null_ptr}
 use Rattle.queue_laws.specs.Common.Vocabulary.{Kind, Word, Link, Op, Touch, Answer, Local, Next, BLOCK_SLOTS}
-use Rattle.queue_steps.specs.{declared.steps.unbounded.UnboundedLocal.UnboundedLocal as chain, Next.CanNext, Next.next_of, State.State, UnboundedNext.unbounded_next}
+use Rattle.queue_steps.specs.{declared.steps.chain.ChainLocal.ChainLocal as chain, Next.CanNext, Next.next_of, State.State, ChainNext.chain_next}
 use Rattle.queue_laws.specs.{Common.Stand.Stand, Chain.ChainCells.Reading, Chain.ChainCells.Chain, Chain.ChainAt.At, Chain.ChainAnswers.Answers, Chain.ChainAnswers.last_of, Chain.ChainAnswers.shown_of, Chain.ChainAnswers.linked_of, Chain.ChainPasses.spare_in, Chain.ChainAfter.left_by, Chain.ChainAfter.chain_of, Chain.ChainAfter.after_of, Common.Operations.op_word, Common.Operations.op_makes, Common.Operations.answer_for}
 use Rattle.mem_blocks.specs.Web.{Block, Hand, Sitter, Act, block, Lives, word_of, with_word, with_next, if_unset, alive_at, vacant, AllVacant, Mays, blocks_after, sitter_after}
 use Rattle.shared_parties.specs.{declared.known.CallState.CallState, declared.known.InCall.InCall, Calling.handed_by, CallsAt.Told}
@@ -19,12 +19,12 @@ carried_by (Some f) = Some (fresh_at (spot f))
 
 -- the block whose slot a call has, by where it stands
 abbrev pub slot_block : Local ℕ → Op ℕ → ℕ
-slot_block (Local.Unbounded (chain.Laying d t name f)) o = name
-slot_block (Local.Unbounded (chain.Opening d t name f)) o = name
-slot_block (Local.Unbounded (chain.Chaining d t name f)) o = name
-slot_block (Local.Unbounded (chain.Writing d f)) (Op.Or (Word.State name i) x) = name
-slot_block (Local.Unbounded (chain.Reading name i)) o = name
-slot_block (Local.Unbounded (chain.Walking name i)) o = name
+slot_block (Local.Chain (chain.Laying d t name f)) o = name
+slot_block (Local.Chain (chain.Opening d t name f)) o = name
+slot_block (Local.Chain (chain.Chaining d t name f)) o = name
+slot_block (Local.Chain (chain.Writing d f)) (Op.Or (Word.State name i) x) = name
+slot_block (Local.Chain (chain.Reading name i)) o = name
+slot_block (Local.Chain (chain.Walking name i)) o = name
 slot_block _ o = 0
 
 -- the slot that a seat has in hand, by those that its call has
@@ -108,7 +108,7 @@ LeadsThere c bs _ k = Unit {0}
 
 -- the chain after the step that was answered so, and a block given up with it
 abbrev pub chain_then : {T : Type 0} {c : Chain T} {who : ℕ} {ms : List (State T)} {k : Stand T} → At c who ms k → Answer ℕ → Chain T
-chain_then {k = k} here a = left_by (after_of here a) (unbounded_next (chain_of k.local) a)
+chain_then {k = k} here a = left_by (after_of here a) (chain_next (chain_of k.local) a)
 
 -- the readers of the party have their slot exactly where the call that goes on says so
 abbrev pub SlotsFor : {T : Type 0} → OutChain T → ℕ → Next ℕ → Type 0
@@ -127,10 +127,10 @@ pub record BlockStep {T : Type 0} (tail_end head_end : Ptr) (g : OutChain T) (wh
   pub mays : Mays (blocks_made k.op number bs) m acts
   pub codes : Codes tail_end head_end (record { chain = chain_then here (answered g.chain bs k.op number); out = out }) (blocks_after (blocks_made k.op number bs) acts)
   pub others : (j : ℕ) → j ≢ who → (n : ℕ) → g.chain.readers n ≡ Reading j → out n ≡ g.out n
-  pub slots : SlotsFor (record { chain = chain_then here (answered g.chain bs k.op number); out = out }) who (unbounded_next (chain_of k.local) (answered g.chain bs k.op number))
+  pub slots : SlotsFor (record { chain = chain_then here (answered g.chain bs k.op number); out = out }) who (chain_next (chain_of k.local) (answered g.chain bs k.op number))
   pub lends : List (ℕ × Option T)
   pub lent : ChainLent (record { chain = chain_then here (answered g.chain bs k.op number); out = out }) who lends
-  pub holds : HoldsFor lends (unbounded_next (chain_of k.local) (answered g.chain bs k.op number)) (sitter_after (blocks_made k.op number bs) m acts)
+  pub holds : HoldsFor lends (chain_next (chain_of k.local) (answered g.chain bs k.op number)) (sitter_after (blocks_made k.op number bs) m acts)
 
 -- the words that a chain has
 abbrev pub HasWord : Word ℕ → Type 0

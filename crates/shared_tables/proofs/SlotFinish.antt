@@ -3,12 +3,12 @@ use Rattle.std.proofs.Common.{◌≡◌, ℕ, ◌==◌, Bool, true, false, List,
 use mathlib.Core.Option.{some, some-injective, some-ne-none}
 use lib.ListN.{get_elem?}
 use Rattle.atomic_table.specs.Table.{Final, Seen, opening}
-use Rattle.queue_steps.specs.{Effect.after, Legal.IsShown, Parties.IsWhole, Shares.entire, SingleNext.is_marked, State.State}
+use Rattle.queue_steps.specs.{Effect.after, Legal.IsShown, Parties.IsWhole, Shares.entire, SlotNext.is_marked, State.State}
 use Rattle.queue_laws.specs.Slot.{SlotHolder.SlotHolder, SlotHolder.Nobody, SlotRows.Codes, SlotRows.free_empty, SlotRows.free_full, SlotRows.single, SlotCells.Slot, SlotCells.queue_of, SlotCells.lent_by}
 use Rattle.queue_laws.proofs.Slot.SlotCells.{all_nobody}
 use Rattle.shared_parties.specs.{declared.known.CallState.CallState, Known.party, Known.view_of, CallStates.idle, CallStates.is_busy, CallStates.IsLoneSeat}
 use Rattle.shared_tables.specs.{Seats.count_of, TableRule.Rule, SlotTable.home_under, SlotTable.slot_table}
-use Rattle.own_cells.specs.OneSlot.SingleCells.{state_of, word_for}
+use Rattle.own_cells.specs.OneSlot.OwnSlotCells.{state_of, word_for}
 use Rattle.shared_parties.proofs.FirstParty.{first_rests, first_kept}
 use Rattle.shared_tables.proofs.TableRests.{table_ends}
 

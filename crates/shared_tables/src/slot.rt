@@ -6,11 +6,11 @@ ghost use Rattle.queue_steps.specs.Parties.{IsWhole};
 ghost use Rattle.queue_steps.specs.Shares.{entire};
 ghost use Rattle.shared_parties.specs.Known.{party, view_of};
 ghost use Rattle.shared_parties.specs.CallStates.{idle, IsLoneSeat};
-ghost use Rattle.own_cells.specs.OneSlot.SingleCells.{IsIdle, single_owned};
+ghost use Rattle.own_cells.specs.OneSlot.OwnSlotCells.{IsIdle, slot_owned};
 
 use crate::table::{SharedTable, Sizes, TableKind, TableSteps};
 use atomic_table::{Seat, Table};
-use own_cells::slot::Single;
+use own_cells::slot::OwnSlot;
 use queue_steps::steps::{Kind, SlotSteps, Word};
 use shared_parties::known::CallState;
 use std::alloc::{AllocError, Allocator};
@@ -70,17 +70,17 @@ pub fn open_slot<T, A: Allocator + Clone>(
 pub fn end_slot<T, A: Allocator>(
     slot: SharedTable<T, Slots, A>,
     seat: Seat<Option<T>, CallState<T>>,
-) -> Single<T>
+) -> OwnSlot<T>
     requires table { seat.table_id ≡ slot.table.shared.table_id }
     requires alone { IsLoneSeat seat.me.0 }
-    ensures { IsIdle result × IsShown (single_owned result).queue (after (Some 1) seat.me.0.known.seen) × IsWhole (view_of seat.me.0.known) }
+    ensures { IsIdle result × IsShown (slot_owned result).queue (after (Some 1) seat.me.0.known.seen) × IsWhole (view_of seat.me.0.known) }
 {
     let SharedTable { table, slots: _ } = slot;
     let mut closed = table.close_with(seat);
     let lock = closed.word(LOCK);
     let item = closed.take(0);
     closed.free();
-    Single { lock, item }
+    OwnSlot { lock, item }
 }
 
 /// The word, by a load without a seat, which tells nothing of the history.

@@ -2,7 +2,7 @@
 use Rattle.std.proofs.Common.{◌≡◌, ℕ, ◌+◌, ◌<◌, ◌≤◌, true, false, List, [], ◌∷◌, ◌++◌, length, Option, Some, None, Result, Err, refl, ap, sym, subst, ◌∙◌, inl, inr, arith, length-append, append-nil, append_assoc, add-zero}
 use Rattle.std.specs.Prelude.{◌⊎◌, IfSome}
 use Rattle.std.specs.Option.{option_to_list, unwrap_or}
-use Rattle.queue_steps.specs.{declared.sizes.TheConstants.LIMIT, State.State, State.is_single_cap, Errors.force_push_error_value, Legal.IsSound, Legal.IsSoundOwned, Legal.IsWithin, Sequential.Owned, Sequential.counted, declared.errors.ForcePushError.ForcePushError, declared.errors.ForcePushError.ForcePushError as force}
+use Rattle.queue_steps.specs.{declared.sizes.TheConstants.LIMIT, State.State, State.is_slot_cap, Errors.force_push_error_value, Legal.IsSound, Legal.IsSoundOwned, Legal.IsWithin, Sequential.Owned, Sequential.counted, declared.errors.ForcePushError.ForcePushError, declared.errors.ForcePushError.ForcePushError as force}
 use Rattle.use_owner.specs.{Log.Held, Log.newest, Log.with_all, Log.Appends, LogRings.capacity_of, LogRings.held_by, LogRings.IsLog}
 use Rattle.use_owner.proofs.Newest.{newest_all, newest_on, newest_one}
 
@@ -36,7 +36,7 @@ module _ {T : Type 0} where
   -- a capacity of two or more is not one
   counts : (P : Owned T) → IsLog P → counted P.queue ≡ P.queue.accepted + 1
   counts P log =
-      let single : is_single_cap P.queue.cap ≡ false = rw log.capped (let many = log.many in grind arith) in
+      let single : is_slot_cap P.queue.cap ≡ false = rw log.capped (let many = log.many in grind arith) in
       rw single refl
 
   -- the ring as a call leaves it keeps a log too

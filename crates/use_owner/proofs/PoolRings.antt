@@ -3,7 +3,7 @@ use Rattle.std.proofs.Common.{◌≡◌, ℕ, zero, suc, ◌+◌, ◌<◌, ◌�
 use Rattle.std.specs.Prelude.{◌⊎◌, IfOk}
 use Rattle.std.specs.{Option.unwrap_or, Result.result_ok, List.All}
 use Rattle.std.proofs.lemmas.List.Elements.{All-push, All-tail}
-use Rattle.queue_steps.specs.{declared.sizes.TheConstants.LIMIT, declared.sizes.TheConstants.MAX_CAPACITY, State.State, State.is_single_cap, Errors.push_error_value, Sequential.Owned, Sequential.counted, declared.errors.PopError.PopError, declared.errors.PopError.PopError as pop, declared.errors.PushError.PushError, declared.errors.PushError.PushError as push}
+use Rattle.queue_steps.specs.{declared.sizes.TheConstants.LIMIT, declared.sizes.TheConstants.MAX_CAPACITY, State.State, State.is_slot_cap, Errors.push_error_value, Sequential.Owned, Sequential.counted, declared.errors.PopError.PopError, declared.errors.PopError.PopError as pop, declared.errors.PushError.PushError, declared.errors.PushError.PushError as push}
 use Rattle.queue_laws.proofs.History.Numbers.{AreDistinct}
 use Rattle.use_owner.specs.{Pool.numbers, Pool.IsOut, Pool.TakesOne, Pool.Takes, Pool.GivesBack, PoolRings.count_of, PoolRings.places_of, PoolRings.IsPool}
 use Rattle.use_owner.proofs.Places.{numbers_below, numbers_once, once_more, once_less, fits, takes_first, gives_last}
@@ -55,7 +55,7 @@ takes P R (Ok place) pool ok empty closed =
 pub gives_back : (P R : Owned ℕ) (v : ℕ) → IsPool P → IsOut (places_of P) v → R.queue.cap ≡ P.queue.cap → (R.queue.items ≡ P.queue.items ++ v ∷ []) × (R.queue.accepted ≡ counted P.queue) × (R.queue.closed ≡ false)
     → IsPool R × GivesBack (places_of P) v (places_of R)
 gives_back P R v pool out cap ok =
-    let single : is_single_cap P.queue.cap ≡ false = rw pool.capped (let many = pool.many in grind arith) in
+    let single : is_slot_cap P.queue.cap ≡ false = rw pool.capped (let many = pool.many in grind arith) in
     let counts : counted P.queue ≡ P.queue.accepted + 1 = rw single refl in
     let low = subst (All (λ p. p < count_of P)) (sym ok.0) (All-push (λ p. p < count_of P) P.queue.items v pool.places out.0) in
     let stays = kept P R pool cap low (subst AreDistinct (sym ok.0) (once_more P.queue.items v pool.once out.1)) (λ e. absurd (let still = ok.2 in cc)) in

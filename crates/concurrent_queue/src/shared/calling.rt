@@ -35,7 +35,7 @@ impl<T, A: Allocator> Form<T, A> {
         ensures { IsHeld place.new × Calls (party_view_of place.old) (V.call run) result (party_view_of place.new) }
     {
         match (self, place) {
-            (Form::Single(slot), SeatPlace::Table(seat)) => {
+            (Form::Slot(slot), SeatPlace::Table(seat)) => {
                 run.run::<SharedTable<T, Slots, A>, OnSlot>(OnSlot, slot, seat)
             }
             (Form::Ring(ring), SeatPlace::Table(seat)) => {

@@ -15,7 +15,7 @@ impl<T, A: Allocator> PartyCount<T, SeatPlace<T>> for Form<T, A> {
 
     fn act<M: CountAct<T>>(&self, place: &mut SeatPlace<T>) -> u64 {
         match (self, place) {
-            (Form::Single(slot), SeatPlace::Table(seat)) => slot.act::<M>(seat),
+            (Form::Slot(slot), SeatPlace::Table(seat)) => slot.act::<M>(seat),
             (Form::Ring(ring), SeatPlace::Table(seat)) => ring.act::<M>(seat),
             (Form::Chain(queue), SeatPlace::Web(rested)) => queue.chain.act::<M>(rested),
             _ => unreachable!(),
@@ -24,7 +24,7 @@ impl<T, A: Allocator> PartyCount<T, SeatPlace<T>> for Form<T, A> {
 
     fn part(&self, place: SeatPlace<T>) -> (SeatPlace<T>, SeatPlace<T>) {
         match (self, place) {
-            (Form::Single(slot), SeatPlace::Table(seat)) => {
+            (Form::Slot(slot), SeatPlace::Table(seat)) => {
                 let (first, second) = slot.part(seat);
                 (SeatPlace::Table(first), SeatPlace::Table(second))
             }
@@ -42,7 +42,7 @@ impl<T, A: Allocator> PartyCount<T, SeatPlace<T>> for Form<T, A> {
 
     fn pair(&self, first: SeatPlace<T>, second: SeatPlace<T>) -> SeatPlace<T> {
         match (self, first, second) {
-            (Form::Single(slot), SeatPlace::Table(first), SeatPlace::Table(second)) => {
+            (Form::Slot(slot), SeatPlace::Table(first), SeatPlace::Table(second)) => {
                 SeatPlace::Table(slot.pair(first, second))
             }
             (Form::Ring(ring), SeatPlace::Table(first), SeatPlace::Table(second)) => {

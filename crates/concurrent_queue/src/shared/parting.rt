@@ -65,8 +65,8 @@ impl<T, A: Allocator> ConcurrentQueue<T, A> {
             return Err((ConcurrentQueue { form }, Party::at(place)));
         }
         match (form, place) {
-            (Form::Single(slot), SeatPlace::Table(seat)) => {
-                Ok(Exclusive::of_single(end_slot(slot, seat)))
+            (Form::Slot(slot), SeatPlace::Table(seat)) => {
+                Ok(Exclusive::of_slot(end_slot(slot, seat)))
             }
             (Form::Ring(ring), SeatPlace::Table(seat)) => Ok(end_ring(ring, seat)),
             (Form::Chain(queue), SeatPlace::Web(mut rested)) => {

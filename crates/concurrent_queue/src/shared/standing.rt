@@ -51,7 +51,7 @@ impl<T, A: Allocator> Form<T, A> {
         ensures { IsSeatOf self.now place result }
     {
         match (self, place) {
-            (Form::Single(slot), SeatPlace::Table(seat)) => Seated::Slot(slot, seat),
+            (Form::Slot(slot), SeatPlace::Table(seat)) => Seated::Slot(slot, seat),
             (Form::Ring(ring), SeatPlace::Table(seat)) => Seated::Ring(ring, seat),
             (Form::Chain(queue), SeatPlace::Web(rested)) => Seated::Chain(queue, rested),
             _ => unreachable!(),
@@ -67,7 +67,7 @@ impl<T, A: Allocator> ConcurrentQueue<T, A> {
         ensures { StandsAs result pending }
     {
         match (&self.form, pending.into_place()) {
-            (Form::Single(slot), CallPlace::Slot(seat, left)) => Standing::Slot(slot, seat, left),
+            (Form::Slot(slot), CallPlace::Slot(seat, left)) => Standing::Slot(slot, seat, left),
             (Form::Ring(ring), CallPlace::Ring(seat, left)) => Standing::Ring(ring, seat, left),
             (Form::Chain(queue), CallPlace::Chain(asking, left)) => {
                 Standing::Chain(queue, asking, left)

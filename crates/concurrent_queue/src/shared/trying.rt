@@ -210,7 +210,7 @@ impl<T, A: NullTestable> ConcurrentQueue<T, A> {
         ensures { W.tells party.old given result party.new }
     {
         match (&self.form, &mut party.place) {
-            (Form::Single(slot), SeatPlace::Table(seat)) => {
+            (Form::Slot(slot), SeatPlace::Table(seat)) => {
                 attempt_at::<T, Slots, A, OnSlot, W>(OnSlot, slot, seat, given)
             }
             (Form::Ring(ring), SeatPlace::Table(seat)) => {

@@ -3,20 +3,20 @@ ghost use Rattle.std.specs.Prelude.{◌≡◌};
 ghost use Rattle.call_driver.specs.Apart.{FitsCall, SequentialApart};
 
 use crate::calls::sealed::Sealed;
-use own_cells::chain::unbounded::LinkedBlocks;
-use own_cells::ring::bounded::Ring;
-use own_cells::slot::single::Single;
+use own_cells::chain::own_chain::OwnChain;
+use own_cells::ring::own_ring::OwnRing;
+use own_cells::slot::own_slot::OwnSlot;
 use queue_steps::model::{CallKind, ReplyKind};
 use std::alloc::Allocator;
 
 /// How a queue with one owner keeps its items.
 pub(crate) enum Form<T, A: Allocator> {
     /// One slot.
-    Single(Single<T>),
+    Slot(OwnSlot<T>),
     /// A ring of slots.
-    Bounded(Ring<T, A>),
+    Ring(OwnRing<T, A>),
     /// A chain of blocks.
-    Unbounded(LinkedBlocks<T, A>),
+    Chain(OwnChain<T, A>),
 }
 
 impl<T, A: Allocator> Form<T, A> {
@@ -34,9 +34,9 @@ impl<T, A: Allocator> Form<T, A> {
     {
         // the compiler tests last for what stands first: one slot, which has the fewest steps, is to be found by one test
         match self {
-            Form::Bounded(ring) => ring.settle::<W>(call, carried),
-            Form::Unbounded(blocks) => blocks.settle::<W>(call, carried),
-            Form::Single(single) => single.settle::<W>(call, carried),
+            Form::Ring(ring) => ring.settle::<W>(call, carried),
+            Form::Chain(blocks) => blocks.settle::<W>(call, carried),
+            Form::Slot(single) => single.settle::<W>(call, carried),
         }
     }
 
@@ -48,9 +48,9 @@ impl<T, A: Allocator> Form<T, A> {
         ensures { result ≡ look_reply (form_owned self.now).queue call }
     {
         match self {
-            Form::Single(single) => single.look(call),
-            Form::Bounded(ring) => ring.look(call),
-            Form::Unbounded(blocks) => blocks.look(call),
+            Form::Slot(single) => single.look(call),
+            Form::Ring(ring) => ring.look(call),
+            Form::Chain(blocks) => blocks.look(call),
         }
     }
 }

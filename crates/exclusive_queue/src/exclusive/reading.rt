@@ -15,11 +15,11 @@ use std::marker::Model;
 #[derive(Drop)]
 enum Left<'a, T, A: Allocator> {
     /// The item of a slot.
-    Single(Option<&'a T>),
+    Slot(Option<&'a T>),
     /// Those of a ring.
-    Bounded(RingItems<'a, T, A>),
+    Ring(RingItems<'a, T, A>),
     /// Those of a chain of blocks.
-    Unbounded(BlockItems<'a, T, A>),
+    Chain(BlockItems<'a, T, A>),
 }
 
 impl<'a, T, A: Allocator> Left<'a, T, A> {
@@ -29,9 +29,9 @@ impl<'a, T, A: Allocator> Left<'a, T, A> {
         ensures { TakesFirst deref (list_of self.old) result (list_of self.new) }
     {
         match self {
-            Left::Single(item) => item.take(),
-            Left::Bounded(items) => items.next(),
-            Left::Unbounded(items) => items.next(),
+            Left::Slot(item) => item.take(),
+            Left::Ring(items) => items.next(),
+            Left::Chain(items) => items.next(),
         }
     }
 }
@@ -74,9 +74,9 @@ impl<T, A: Allocator> Exclusive<T, A> {
         ensures runs { ShowsInOrder (deref {X = T}) }
     {
         let left = match &self.form {
-            Form::Single(single) => Left::Single(single.item.as_ref()),
-            Form::Bounded(ring) => Left::Bounded(ring.items()),
-            Form::Unbounded(blocks) => Left::Unbounded(blocks.items()),
+            Form::Slot(single) => Left::Slot(single.item.as_ref()),
+            Form::Ring(ring) => Left::Ring(ring.items()),
+            Form::Chain(blocks) => Left::Chain(blocks.items()),
         };
         Iter { left }
     }

@@ -1,6 +1,6 @@
 -- A chain: a call that has appended replies by its fourth step, whatever the other parties do.
 use Rattle.std.proofs.Common.{ℕ, ◌<◌, ◌≤◌, ◌≡◌, Bool, Option, Some, List, subst, arith}
-use Rattle.queue_steps.specs.{State.State, declared.steps.unbounded.UnboundedLocal.UnboundedLocal as chain}
+use Rattle.queue_steps.specs.{State.State, declared.steps.chain.ChainLocal.ChainLocal as chain}
 use Rattle.machine_replay.specs.{Vocabulary.Kind, Vocabulary.Op, Vocabulary.Touch, Vocabulary.Local, Vocabulary.Running, Progress.AppendsReplyWithin}
 use Rattle.queue_laws.specs.{Common.Stand.Stand, Chain.ChainCells.Chain, Chain.ChainAt.At, Chain.ChainAt.laying, Chain.ChainAt.opening, Chain.ChainAt.chaining, Chain.ChainAt.writing}
 use Rattle.machine_replay.proofs.{Engine.StandOf.running_of, Progress.Appended.HasAppend, Progress.Appended.appends_reply, Chain.Stretch.chain_rules}
@@ -9,9 +9,9 @@ use Rattle.machine_steps.specs.Steps.{step_of}
 
 -- how many steps a call has before it that has appended
 to_write : Local ℕ → ℕ
-to_write (Local.Unbounded (chain.Laying d tail block fresh)) = 4
-to_write (Local.Unbounded (chain.Opening d tail block fresh)) = 3
-to_write (Local.Unbounded (chain.Chaining d tail block fresh)) = 2
+to_write (Local.Chain (chain.Laying d tail block fresh)) = 4
+to_write (Local.Chain (chain.Opening d tail block fresh)) = 3
+to_write (Local.Chain (chain.Chaining d tail block fresh)) = 2
 to_write _ = 1
 
 append_within : {A : Type 0} {c : Chain A} {who : ℕ} {ms : List (State A)} {k : Stand A} → At c who ms k → HasAppend k.effects → (0 < to_write k.local) × (to_write k.local ≤ 4)

@@ -1,6 +1,6 @@
 -- What is owed of the shared memory at each step of a call on a chain.
 use Rattle.std.proofs.Common.{ℕ, ◌≡◌, Bool, List}
-use Rattle.queue_steps.specs.{State.State, UnboundedNext.unbounded_next}
+use Rattle.queue_steps.specs.{State.State, ChainNext.chain_next}
 use Rattle.machine_replay.specs.Vocabulary.{Kind}
 use Rattle.queue_laws.specs.{Common.Stand.Stand, Chain.ChainCells.Chain, Chain.ChainCells.ChainOk, Chain.ChainAt.At, Chain.ChainAnswers.Answers, Chain.ChainAfter.chain_of, Chain.ChainAfter.carried_of, Chain.ChainAfter.after_of, Chain.ChainAfter.left_by}
 use Rattle.machine_replay.proofs.{Engine.StandOf.running_of, Chain.Names.Codes}
@@ -18,5 +18,5 @@ pub record Coded {A : Type 0} (c : Chain A) (who : ℕ) (ms : List (State A)) {k
   pub operates : CanOperate (after_touch s (running_of k)) k.op
   pub answers : Answers c k.op (answer_to granted s (running_of k))
   pub carried : carried_then s (running_of k) ≡ carried_of at
-  pub codes : ChainOk (after_of at (answer_to granted s (running_of k))) → Gives (after_of at (answer_to granted s (running_of k))) who (unbounded_next (chain_of k.local) (answer_to granted s (running_of k)))
-      → CodesShared (shared_then Kind.Unbounded granted s (running_of k)) (left_by (after_of at (answer_to granted s (running_of k))) (unbounded_next (chain_of k.local) (answer_to granted s (running_of k))))
+  pub codes : ChainOk (after_of at (answer_to granted s (running_of k))) → Gives (after_of at (answer_to granted s (running_of k))) who (chain_next (chain_of k.local) (answer_to granted s (running_of k)))
+      → CodesShared (shared_then Kind.Unbounded granted s (running_of k)) (left_by (after_of at (answer_to granted s (running_of k))) (chain_next (chain_of k.local) (answer_to granted s (running_of k))))

@@ -2,7 +2,7 @@
 use Rattle.std.proofs.Common.{ℕ, ◌+◌, ◌*◌, ◌/◌, ◌<◌, ◌≤◌, ◌≡◌, ◌≢◌, ◌==◌, ◌∙◌, ◌⊎◌, inl, inr, Bool, true, false, if◌then◌else◌, Option, IsSome, List, refl, sym, ap, subst, arith, None}
 use Rattle.std.proofs.lemmas.Bool.Decides.{eqb_tells}
 use Rattle.machine_replay.specs.Vocabulary.{Answer, BLOCK_SLOTS, TAIL_STEP, Look}
-use Rattle.queue_steps.specs.{State.State, Looks.IsCount, Words.IsWord, Words.position_of, ChainWords.offset_of, ChainWords.items_before, UnboundedNext.unbounded_next, declared.steps.unbounded.UnboundedLocal.UnboundedLocal as chain}
+use Rattle.queue_steps.specs.{State.State, Looks.IsCount, Words.IsWord, Words.position_of, ChainWords.offset_of, ChainWords.items_before, ChainNext.chain_next, declared.steps.chain.ChainLocal.ChainLocal as chain}
 use Rattle.queue_laws.specs.{Common.Moments.HeadWas, Common.Moments.SeenIn, Chain.ChainAnswers.head_word, Chain.ChainAnswers.linked_of, Chain.ChainTransitions.taken, Chain.ChainAfter.taken_if, Chain.ChainAfter.if_taken}
 use Rattle.queue_laws.specs.Chain.ChainFacts.{place, head_of, HeadIs, IsNamed, HeadBlockIs, HeadBlockRead, IsMore, Got, SawEmpty}
 use Rattle.queue_laws.specs.Chain.ChainCells.{Writer, Writing, Wrote, Reader, Reading, Done, Stands as Rested, Passing, Entering, GivenUp, Chain, FrontOk, ChainOk, Read, Head, HoldsOnly, Nothing, item_at, Free, ItemOk}
@@ -20,7 +20,7 @@ module _ {A : Type 0} (c : Chain A) (who : ℕ) (ms : List (State A)) (ok : Bool
     operates = tt;
     answers = ap (λ w. Answer.Found w) codes.head_is;
     carried = refl;
-    codes = λ fine gives. codes_left who (unbounded_next chain.PopHead (Answer.Found s.head)) fine gives codes;
+    codes = λ fine gives. codes_left who (chain_next chain.PopHead (Answer.Found s.head)) fine gives codes;
   }
 
   -- V2: the poppers' block is read
@@ -31,7 +31,7 @@ module _ {A : Type 0} (c : Chain A) (who : ℕ) (ms : List (State A)) (ok : Bool
     operates = tt;
     answers = ap (λ w. Answer.Linked w) codes.front_is;
     carried = refl;
-    codes = λ fine gives. codes_left who (unbounded_next (chain.PopBlock (head_of n more)) (Answer.Linked s.head_block)) fine gives codes;
+    codes = λ fine gives. codes_left who (chain_next (chain.PopBlock (head_of n more)) (Answer.Linked s.head_block)) fine gives codes;
   }
 
   -- V3: the tail is read after that head
@@ -42,7 +42,7 @@ module _ {A : Type 0} (c : Chain A) (who : ℕ) (ms : List (State A)) (ok : Bool
     operates = tt;
     answers = ap (λ w. Answer.Found w) codes.tail_is;
     carried = refl;
-    codes = λ fine gives. codes_left who (unbounded_next (chain.PopTail (head_of n false) block) (Answer.Found s.tail)) fine gives codes;
+    codes = λ fine gives. codes_left who (chain_next (chain.PopTail (head_of n false) block) (Answer.Found s.tail)) fine gives codes;
   }
 
   -- V4: the head is exchanged, by which the front is taken
@@ -53,7 +53,7 @@ module _ {A : Type 0} (c : Chain A) (who : ℕ) (ms : List (State A)) (ok : Bool
     operates = tt;
     answers = ap (λ w. Answer.Found w) codes.head_is;
     carried = refl;
-    codes = λ fine gives. codes_left who (unbounded_next (chain.Taking (head_of n more) name) (Answer.Found s.head)) fine gives
+    codes = λ fine gives. codes_left who (chain_next (chain.Taking (head_of n more) name) (Answer.Found s.head)) fine gives
         (subst (λ w. CodesShared (moved (w == head_of n more)) (if_taken c who n more new)) (sym codes.head_is) (go (eqb_tells (head_word c) (head_of n more))));
   }
     where
@@ -106,7 +106,7 @@ module _ {A : Type 0} (c : Chain A) (who : ℕ) (ms : List (State A)) (ok : Bool
         operates = links.0;
         answers = links.1;
         carried = refl;
-        codes = λ fine gives. codes_left who (unbounded_next (chain.Following (head_of n more) name) (Answer.Linked (behind s.blocks name))) fine gives codes;
+        codes = λ fine gives. codes_left who (chain_next (chain.Following (head_of n more) name) (Answer.Linked (behind s.blocks name))) fine gives codes;
       }
 
 -- the items behind the head are not read
@@ -134,7 +134,7 @@ module _ {A : Type 0} (c : Chain A) (who : ℕ) (ms : List (State A)) (ok : Bool
         operates = links.0;
         answers = links.1;
         carried = refl;
-        codes = λ fine gives. codes_left who (unbounded_next (chain.Peeking (head_of n more) name after) (Answer.Linked (behind s.blocks after))) fine gives codes;
+        codes = λ fine gives. codes_left who (chain_next (chain.Peeking (head_of n more) name after) (Answer.Linked (behind s.blocks after))) fine gives codes;
       }
 
   -- V7: the next block is shown to the poppers
@@ -149,7 +149,7 @@ module _ {A : Type 0} (c : Chain A) (who : ℕ) (ms : List (State A)) (ok : Bool
         operates = tt;
         answers = refl;
         carried = refl;
-        codes = λ fine gives. codes_left who (unbounded_next (chain.Passing (head_of n more) name further) Answer.Done) fine gives (codes_passed who after right pass.0 (subst (λ b. IsNamed c b after) front_is behind_it.1) codes);
+        codes = λ fine gives. codes_left who (chain_next (chain.Passing (head_of n more) name further) Answer.Done) fine gives (codes_passed who after right pass.0 (subst (λ b. IsNamed c b after) front_is behind_it.1) codes);
       }
 
   -- V8: the head moves on to the next block
@@ -160,7 +160,7 @@ module _ {A : Type 0} (c : Chain A) (who : ℕ) (ms : List (State A)) (ok : Bool
     operates = tt;
     answers = refl;
     carried = refl;
-    codes = λ fine gives. codes_left who (unbounded_next (chain.Entering (head_of n more) name) Answer.Done) fine gives (codes_entered who n more further right enters.0 enters.1 codes);
+    codes = λ fine gives. codes_left who (chain_next (chain.Entering (head_of n more) name) Answer.Done) fine gives (codes_entered who n more further right enters.0 enters.1 codes);
   }
 
   -- V9: the slot's state is read, until its item is written
@@ -178,7 +178,7 @@ module _ {A : Type 0} (c : Chain A) (who : ℕ) (ms : List (State A)) (ok : Bool
         operates = has_place s.blocks (n / BLOCK_SLOTS) name i block.0 block.1 block.2 low;
         answers = state_answers s.blocks (n / BLOCK_SLOTS) name i (state_of s.blocks name i) block.0 right got.named block.2 low (λ last e. unread (ap c.readers (sym at) ∙ e)) (state_is s.blocks name i block.0 block.1);
         carried = refl;
-        codes = λ fine gives. codes_left who (unbounded_next (chain.Awaiting (head_of n more) name) (Answer.Found (state_of s.blocks name i))) fine gives codes;
+        codes = λ fine gives. codes_left who (chain_next (chain.Awaiting (head_of n more) name) (Answer.Found (state_of s.blocks name i))) fine gives codes;
       }
 
   -- the steps of a count
@@ -188,7 +188,7 @@ module _ {A : Type 0} (c : Chain A) (who : ℕ) (ms : List (State A)) (ok : Bool
     operates = tt;
     answers = ap (λ w. Answer.Found w) codes.tail_is;
     carried = refl;
-    codes = λ fine gives. codes_left who (unbounded_next (chain.CountTail l) (Answer.Found s.tail)) fine gives codes;
+    codes = λ fine gives. codes_left who (chain_next (chain.CountTail l) (Answer.Found s.tail)) fine gives codes;
   }
 
   pub coded_count_head : (l : Look) (t : ℕ) (count : IsCount A l) (none : HoldsOnly c who Nothing) (small : IsWord t) (low : items_before (position_of t) ≤ c.tail) → ChainOk c → CodesShared s c → Coded c who ms ok s (count_head l t count none small low)
@@ -197,7 +197,7 @@ module _ {A : Type 0} (c : Chain A) (who : ℕ) (ms : List (State A)) (ok : Bool
     operates = tt;
     answers = ap (λ w. Answer.Found w) codes.head_is;
     carried = refl;
-    codes = λ fine gives. codes_left who (unbounded_next (chain.CountHead l t) (Answer.Found s.head)) fine gives codes;
+    codes = λ fine gives. codes_left who (chain_next (chain.CountHead l t) (Answer.Found s.head)) fine gives codes;
   }
 
   pub coded_count_again : (l : Look) (t h : ℕ) (count : IsCount A l) (none : HoldsOnly c who Nothing) (small : IsWord t × IsWord h) (seen : SeenIn ms (HeadWas None (items_before (position_of h)) (items_before (position_of t)) c.tail)) → ChainOk c → CodesShared s c → Coded c who ms ok s (count_again l t h count none small seen)
@@ -206,7 +206,7 @@ module _ {A : Type 0} (c : Chain A) (who : ℕ) (ms : List (State A)) (ok : Bool
     operates = tt;
     answers = ap (λ w. Answer.Found w) codes.tail_is;
     carried = refl;
-    codes = λ fine gives. codes_left who (unbounded_next (chain.CountAgain l t h) (Answer.Found s.tail)) fine gives codes;
+    codes = λ fine gives. codes_left who (chain_next (chain.CountAgain l t h) (Answer.Found s.tail)) fine gives codes;
   }
 
   -- the steps of is_empty, close and is_closed
@@ -216,7 +216,7 @@ module _ {A : Type 0} (c : Chain A) (who : ℕ) (ms : List (State A)) (ok : Bool
     operates = tt;
     answers = ap (λ w. Answer.Found w) codes.head_is;
     carried = refl;
-    codes = λ fine gives. codes_left who (unbounded_next chain.EmptyHead (Answer.Found s.head)) fine gives codes;
+    codes = λ fine gives. codes_left who (chain_next chain.EmptyHead (Answer.Found s.head)) fine gives codes;
   }
 
   pub coded_empty_tail : (h : ℕ) (none : HoldsOnly c who Nothing) (small : IsWord h) (saw : SawEmpty (items_before (position_of h)) c ms) → ChainOk c → CodesShared s c → Coded c who ms ok s (empty_tail h none small saw)
@@ -225,7 +225,7 @@ module _ {A : Type 0} (c : Chain A) (who : ℕ) (ms : List (State A)) (ok : Bool
     operates = tt;
     answers = ap (λ w. Answer.Found w) codes.tail_is;
     carried = refl;
-    codes = λ fine gives. codes_left who (unbounded_next (chain.EmptyTail h) (Answer.Found s.tail)) fine gives codes;
+    codes = λ fine gives. codes_left who (chain_next (chain.EmptyTail h) (Answer.Found s.tail)) fine gives codes;
   }
 
   pub coded_closing : (none : HoldsOnly c who Nothing) → ChainOk c → CodesShared s c → Coded c who ms ok s (closing none)
@@ -234,7 +234,7 @@ module _ {A : Type 0} (c : Chain A) (who : ℕ) (ms : List (State A)) (ok : Bool
     operates = tt;
     answers = ap (λ w. Answer.Found w) codes.tail_is;
     carried = refl;
-    codes = λ fine gives. codes_left who (unbounded_next chain.Closing (Answer.Found s.tail)) fine gives (codes_marked codes);
+    codes = λ fine gives. codes_left who (chain_next chain.Closing (Answer.Found s.tail)) fine gives (codes_marked codes);
   }
 
   pub coded_closed_tail : (none : HoldsOnly c who Nothing) → ChainOk c → CodesShared s c → Coded c who ms ok s (closed_tail none)
@@ -243,5 +243,5 @@ module _ {A : Type 0} (c : Chain A) (who : ℕ) (ms : List (State A)) (ok : Bool
     operates = tt;
     answers = ap (λ w. Answer.Found w) codes.tail_is;
     carried = refl;
-    codes = λ fine gives. codes_left who (unbounded_next chain.ClosedTail (Answer.Found s.tail)) fine gives codes;
+    codes = λ fine gives. codes_left who (chain_next chain.ClosedTail (Answer.Found s.tail)) fine gives codes;
   }

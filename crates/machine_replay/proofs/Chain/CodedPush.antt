@@ -2,7 +2,7 @@
 use Rattle.std.proofs.Common.{ℕ, ◌+◌, ◌/◌, ◌%◌, ◌<◌, ◌≤◌, ◌≡◌, ◌≢◌, ◌==◌, ◌^◌, ◌∙◌, ◌⊎◌, inl, inr, zero, suc, Bool, true, false, if◌then◌else◌, Option, Some, None, IsSome, List, length, refl, sym, ap, subst, arith, get_or, bit_or}
 use Rattle.std.proofs.lemmas.{List.length-set, Bool.Decides.eqb_tells}
 use Rattle.machine_replay.specs.Vocabulary.{Answer, Next, PushKind, LIMIT, BLOCK_SLOTS, TAIL_STEP, WRITE}
-use Rattle.queue_steps.specs.{State.State, ChainWords.offset_of, UnboundedNext.unbounded_next, UnboundedNext.chain_tail_found, declared.steps.unbounded.UnboundedLocal.UnboundedLocal as chain}
+use Rattle.queue_steps.specs.{State.State, ChainWords.offset_of, ChainNext.chain_next, ChainNext.chain_tail_found, declared.steps.chain.ChainLocal.ChainLocal as chain}
 use Rattle.queue_laws.specs.Chain.ChainCells.{Done, Rests, Laying, Opening, Linking, Showing, Spare, Chain, ChainOk, Write, Tail, Next as Behind, First, HoldsOnly, Nothing, item_at}
 use Rattle.queue_laws.specs.Chain.{ChainFacts.open_tail_of, ChainFacts.IsNamed, ChainFacts.TailBlockIs, ChainFacts.HasSpare, ChainFacts.SawTail, ChainFacts.Claimed, ChainAnswers.tail_word, ChainAnswers.last_of, ChainAnswers.is_done, ChainAfter.left_by, ChainAfter.if_installed, ChainAfter.claimed_if, ChainAfter.if_claimed, ChainTransitions.appended}
 use Rattle.queue_laws.proofs.Chain.{ChainAnswers.tail_small, ChainAnswers.same_tail, ChainRight.Gives, ChainReads.not_given_up}
@@ -33,7 +33,7 @@ module _ {A : Type 0} (c : Chain A) (who : ℕ) (ms : List (State A)) (ok : Bool
     operates = tt;
     answers = ap (λ w. Answer.Linked w) codes.last_is;
     carried = refl;
-    codes = λ fine gives. codes_left who (unbounded_next (chain.PushBlock d (open_tail_of q) spare) (Answer.Linked s.tail_block)) fine gives codes;
+    codes = λ fine gives. codes_left who (chain_next (chain.PushBlock d (open_tail_of q) spare) (Answer.Linked s.tail_block)) fine gives codes;
   }
 
 module _ {A : Type 0} (c : Chain A) (who : ℕ) (ms : List (State A)) where
@@ -45,14 +45,14 @@ module _ {A : Type 0} (c : Chain A) (who : ℕ) (ms : List (State A)) where
     operates = tt;
     answers = inl refl;
     carried = refl;
-    codes = λ fine gives. codes_left who (unbounded_next (chain.Asking d (open_tail_of q) block) Answer.Refused) fine gives codes;
+    codes = λ fine gives. codes_left who (chain_next (chain.Asking d (open_tail_of q) block) Answer.Refused) fine gives codes;
   }
   coded_asking true s d v q block none saw asked right codes = record {
     touches = tt;
     operates = tt;
     answers = inr (length s.blocks, refl, codes.unused (length s.blocks) (omega arith));
     carried = refl;
-    codes = λ fine gives. codes_left who (unbounded_next (chain.Asking d (open_tail_of q) block) (Answer.Granted (length s.blocks))) fine gives (codes_granted who codes);
+    codes = λ fine gives. codes_left who (chain_next (chain.Asking d (open_tail_of q) block) (Answer.Granted (length s.blocks))) fine gives (codes_granted who codes);
   }
 
 module _ {A : Type 0} (c : Chain A) (who : ℕ) (ms : List (State A)) (ok : Bool) (s : Shared A) where
@@ -68,7 +68,7 @@ module _ {A : Type 0} (c : Chain A) (who : ℕ) (ms : List (State A)) (ok : Bool
   }
     where
       n : Next ℕ
-      n = unbounded_next (chain.Installing d (open_tail_of 0) f) (Answer.Linked s.tail_block)
+      n = chain_next (chain.Installing d (open_tail_of 0) f) (Answer.Linked s.tail_block)
 
       go : (b : ℕ) → c.blocks ≡ b → ChainOk (if_installed c who f b) → Gives (if_installed c who f b) who n → Codes (left_by (if_installed c who f b) n) s.head s.tail s.head_block (installed s.tail_block f) (without (spare_in n) s.blocks)
       go zero e fine gives =
@@ -88,7 +88,7 @@ module _ {A : Type 0} (c : Chain A) (who : ℕ) (ms : List (State A)) (ok : Bool
     operates = tt;
     answers = refl;
     carried = refl;
-    codes = λ fine gives. codes_left who (unbounded_next (chain.Showing d (open_tail_of 0) name) Answer.Done) fine gives (codes_displayed who name right is named codes);
+    codes = λ fine gives. codes_left who (chain_next (chain.Showing d (open_tail_of 0) name) Answer.Done) fine gives (codes_displayed who name right is named codes);
   }
 
   -- U5: the tail is exchanged, by which an item is appended
@@ -99,7 +99,7 @@ module _ {A : Type 0} (c : Chain A) (who : ℕ) (ms : List (State A)) (ok : Bool
     operates = tt;
     answers = ap (λ w. Answer.Found w) codes.tail_is;
     carried = refl;
-    codes = λ fine gives. codes_left who (unbounded_next (chain.Claiming d (open_tail_of q) name spare) (Answer.Found s.tail)) fine gives
+    codes = λ fine gives. codes_left who (chain_next (chain.Claiming d (open_tail_of q) name spare) (Answer.Found s.tail)) fine gives
         (subst (λ w. CodesShared (moved (w == open_tail_of q)) (if_claimed c who q v)) (sym codes.tail_is) (go (eqb_tells (tail_word c) (open_tail_of q))));
   }
     where
@@ -131,7 +131,7 @@ module _ {A : Type 0} (c : Chain A) (who : ℕ) (ms : List (State A)) (ok : Bool
     operates = tt;
     answers = refl;
     carried = refl;
-    codes = λ fine gives. codes_left who (unbounded_next (chain.Laying d (open_tail_of n) name f) Answer.Done) fine gives (codes_laid_out who f right lays.0 fresh codes);
+    codes = λ fine gives. codes_left who (chain_next (chain.Laying d (open_tail_of n) name f) Answer.Done) fine gives (codes_laid_out who f right lays.0 fresh codes);
   }
 
   -- U7: the tail moves on to the next block
@@ -142,7 +142,7 @@ module _ {A : Type 0} (c : Chain A) (who : ℕ) (ms : List (State A)) (ok : Bool
     operates = (tt, small);
     answers = ap (λ w. Answer.Found w) codes.tail_is;
     carried = refl;
-    codes = λ fine gives. codes_left who (unbounded_next (chain.Opening d (open_tail_of n) name f) (Answer.Found s.tail)) fine gives (subst (λ t. Codes (moves.opened c) s.head t s.head_block s.tail_block s.blocks) (sym fits) (codes_opened who right opens.0 codes));
+    codes = λ fine gives. codes_left who (chain_next (chain.Opening d (open_tail_of n) name f) (Answer.Found s.tail)) fine gives (subst (λ t. Codes (moves.opened c) s.head t s.head_block s.tail_block s.blocks) (sym fits) (codes_opened who right opens.0 codes));
   }
     where
       small : s.tail + TAIL_STEP < 2 ^ 64
@@ -162,7 +162,7 @@ module _ {A : Type 0} (c : Chain A) (who : ℕ) (ms : List (State A)) (ok : Bool
         operates = subst (λ y. IsSome y) (sym x.1) refl;
         answers = refl;
         carried = refl;
-        codes = λ fine gives. codes_left who (unbounded_next (chain.Chaining d (open_tail_of n) name f) Answer.Done) fine gives (codes_chained (n / BLOCK_SLOTS) name f x.0 right mine.named named on x.2 (next_put s.blocks name (Some f) x.0 x.1) codes);
+        codes = λ fine gives. codes_left who (chain_next (chain.Chaining d (open_tail_of n) name f) Answer.Done) fine gives (codes_chained (n / BLOCK_SLOTS) name f x.0 right mine.named named on x.2 (next_put s.blocks name (Some f) x.0 x.1) codes);
       }
 
   -- U9: the item is written into its slot
@@ -179,7 +179,7 @@ module _ {A : Type 0} (c : Chain A) (who : ℕ) (ms : List (State A)) (ok : Bool
         operates = subst (λ y. i < length (places_in y)) (sym put.here) (subst (λ m. i < m) (sym (length-set x.0.places i (record (place_in x.0 i) { item = Some v }))) wide);
         answers = state_answers s.blocks (n / BLOCK_SLOTS) name i (state_of (put_item s.blocks name i (Some v)) name i) x.0 right mine.named x.2 low (λ last e. unread (ap c.readers (sym at) ∙ e)) word;
         carried = ap (λ y. (get_or (places_in y) i blank).item) x.1 ∙ (x.2.slot i low ∙ empty);
-        codes = λ fine gives. codes_left who (unbounded_next (chain.Writing d spare) (Answer.Found (state_of (put_item s.blocks name i (Some v)) name i))) fine gives
+        codes = λ fine gives. codes_left who (chain_next (chain.Writing d spare) (Answer.Found (state_of (put_item s.blocks name i (Some v)) name i))) fine gives
             (codes_written who n i name v x.0 right mine.mine low at mine.named on x.2
             (subst (λ m. Changed s.blocks (put_state (put_item s.blocks name i (Some v)) name i (bit_or (state_of (put_item s.blocks name i (Some v)) name i) WRITE)) name (Some (placed x.0 i (record { state = bit_or m WRITE; item = Some v })))) word
             (both_put s.blocks name i (bit_or (state_of (put_item s.blocks name i (Some v)) name i) WRITE) (Some v) x.0 x.1 wide))
@@ -216,5 +216,5 @@ module _ {A : Type 0} (c : Chain A) (who : ℕ) (ms : List (State A)) (ok : Bool
     operates = tt;
     answers = ap (λ w. Answer.Found w) codes.tail_is;
     carried = refl;
-    codes = λ fine gives. codes_left who (unbounded_next (chain.ClosingAtLimit d spare) (Answer.Found s.tail)) fine gives (codes_marked codes);
+    codes = λ fine gives. codes_left who (chain_next (chain.ClosingAtLimit d spare) (Answer.Found s.tail)) fine gives (codes_marked codes);
   }

@@ -2,7 +2,7 @@
 use Rattle.std.proofs.Common.{ℕ, ◌+◌, ◌/◌, ◌%◌, ◌<◌, ◌≡◌, ◌≢◌, ◌==◌, ◌∙◌, ◌⊎◌, inl, inr, Bool, true, false, if◌then◌else◌, Option, Some, None, List, length, refl, sym, ap, subst, arith, get_or, bit_or}
 use Rattle.std.proofs.{lemmas.List.length-set, lemmas.Bool.le-ltb, lemmas.Bool.lt-ltb, lemmas.Bool.ne_eqb, Common.not, Common.Ok, Common.bit_and, Common.get_or-set_other}
 use Rattle.machine_replay.specs.Vocabulary.{Reply, Word, Op, Touch, Answer, Next, BLOCK_SLOTS, READ, DESTROY}
-use Rattle.queue_steps.specs.{State.State, ChainWords.offset_of, UnboundedNext.at, UnboundedNext.walks, UnboundedNext.walks_on, declared.steps.unbounded.UnboundedLocal.UnboundedLocal as chain}
+use Rattle.queue_steps.specs.{State.State, ChainWords.offset_of, ChainNext.at, ChainNext.walks, ChainNext.walks_on, declared.steps.chain.ChainLocal.ChainLocal as chain}
 use Rattle.queue_laws.specs.Chain.ChainCells.{Wrote, Reading, Done, Walker, Waits, GivenUp, Chain, ChainOk, Read, Passed, HoldsOnly, item_at, LAST, Walk, Before, Chained, WalkOk}
 use Rattle.queue_laws.specs.Chain.{ChainFacts.head_of, ChainFacts.IsNamed, ChainFacts.Got, ChainAfter.left_by, ChainTransitions.walk_after, ChainTransitions.reads, ChainTransitions.walked, ChainAnswers.is_done, ChainAnswers.waits_at, ChainAnswers.IsState, ChainAnswers.StateAnswers, ChainAt.Only, ChainAt.IsLast, ChainAt.reading, ChainAt.beginning, ChainAt.walking, ChainAt.destroying}
 use Rattle.machine_memory.specs.{Blocks.place_count, Blocks.Block, Blocks.without, Blocks.blank, Blocks.places_in, Blocks.state_of, Blocks.put_item, Blocks.put_state, SharedMemory.Shared, declared.blocks.BlockPlace.BlockPlace}

@@ -1,7 +1,7 @@
 -- What a call on a chain has claimed and is still to do to a block: to put its item, to lay a block behind, or to read.
 use Rattle.std.proofs.Common.{ℕ, ◌+◌, ◌-◌, ◌/◌, ◌%◌, ◌≡◌, ◌∙◌, ◌⊎◌, inl, inr, Bool, Option, Some, None, List, refl, sym, ap, arith}
-use Rattle.machine_replay.specs.Vocabulary.{Op, Touch, Local, UnboundedLocal, BLOCK_SLOTS, READ}
-use Rattle.queue_steps.specs.{ChainWords.offset_of, declared.steps.unbounded.UnboundedLocal.UnboundedLocal as chain}
+use Rattle.machine_replay.specs.Vocabulary.{Op, Touch, Local, ChainLocal, BLOCK_SLOTS, READ}
+use Rattle.queue_steps.specs.{ChainWords.offset_of, declared.steps.chain.ChainLocal.ChainLocal as chain}
 use Rattle.queue_laws.specs.Chain.ChainCells.{Writing, Reading, Laying, Passing, Linking, Showing, Spare, Chain, Part, Write, Read, Tail, Head, Next, First, Passed, writer_of, reader_of, mover_of, passer_of, linker_of, shower_of, HoldsOnly, Nothing}
 use Rattle.queue_laws.specs.Chain.{ChainFacts.head_of, ChainFacts.open_tail_of, ChainFacts.IsNamed, ChainFacts.Claimed, ChainFacts.Got, ChainAt.Only, ChainAt.Either}
 use Rattle.queue_laws.proofs.Chain.ChainAnswers.{head_offset}
@@ -22,7 +22,7 @@ touch_deed (Touch.Take i) (Some b) v = Reads b i
 touch_deed _ _ v = Rest
 
 -- what a call at this local state of a chain is still to do
-abbrev chain_deed : {A : Type 0} → UnboundedLocal ℕ → Touch → Op ℕ → Option A → Deed A
+abbrev chain_deed : {A : Type 0} → ChainLocal ℕ → Touch → Op ℕ → Option A → Deed A
 chain_deed (chain.Laying p tail block fresh) t o v = Lays block (offset_of tail) v fresh
 chain_deed (chain.Opening p tail block fresh) t o v = Lays block (offset_of tail) v fresh
 chain_deed (chain.Chaining p tail block fresh) t o v = Lays block (offset_of tail) v fresh
@@ -35,7 +35,7 @@ chain_deed _ t o v = touch_deed t (block_touched o) v
 
 -- what a call that stands here is still to do
 abbrev pub deed_of : {A : Type 0} → Local ℕ → Touch → Op ℕ → Option A → Deed A
-deed_of (Local.Unbounded l) t o v = chain_deed l t o v
+deed_of (Local.Chain l) t o v = chain_deed l t o v
 deed_of _ t o v = Rest
 
 -- the blocks once it is done
@@ -52,7 +52,7 @@ touch_done (Touch.Take i) None v bs = refl
 touch_done (Touch.Swap i) None v bs = refl
 touch_done t (Some b) v bs = refl
 
-chain_done : {A : Type 0} (l : UnboundedLocal ℕ) (t : Touch) (o : Op ℕ) (v : Option A) (bs : List (Option (Block A))) → settled_at l t (block_touched o) v bs ≡ done (chain_deed l t o v) bs
+chain_done : {A : Type 0} (l : ChainLocal ℕ) (t : Touch) (o : Op ℕ) (v : Option A) (bs : List (Option (Block A))) → settled_at l t (block_touched o) v bs ≡ done (chain_deed l t o v) bs
 chain_done (chain.Laying p tail block fresh) t o v bs = refl
 chain_done (chain.Opening p tail block fresh) t o v bs = refl
 chain_done (chain.Chaining p tail block fresh) t o v bs = refl
@@ -64,7 +64,7 @@ chain_done (chain.Awaiting head block) t o v bs = refl
 chain_done _ t o v bs = touch_done t (block_touched o) v bs
 
 pub deed_done : {A : Type 0} (l : Local ℕ) (t : Touch) (o : Op ℕ) (v : Option A) (bs : List (Option (Block A))) → settled_by l t o v bs ≡ done (deed_of l t o v) bs
-deed_done (Local.Unbounded l) t o v bs = chain_done l t o v bs
+deed_done (Local.Chain l) t o v bs = chain_done l t o v bs
 deed_done _ t o v bs = refl
 
 -- it puts this into this slot

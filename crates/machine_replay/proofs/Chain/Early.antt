@@ -2,7 +2,7 @@
 use Rattle.std.proofs.Common.{ℕ, ◌+◌, ◌-◌, ◌==◌, ◌<◌, ◌≡◌, ◌≢◌, ◌⊎◌, inl, inr, ◌∙◌, Bool, true, false, Option, Some, None, IsSome, List, [], ◌∷◌, refl, sym, ap, subst, arith}
 use Rattle.std.proofs.lemmas.Bool.Decides.{eqb_tells}
 use Rattle.machine_replay.specs.{Vocabulary.Kind, Vocabulary.Answer, Vocabulary.Local, Vocabulary.Next, Vocabulary.BLOCK_SLOTS, Vocabulary.Running, Book.Open, Progress.Standing, Progress.IsToShow, Progress.NobodyShows, Progress.UnhinderedWithin}
-use Rattle.queue_steps.specs.{State.State, Next.next_of, Words.position_of, UnboundedNext.unbounded_next, declared.steps.unbounded.UnboundedLocal.UnboundedLocal as chain}
+use Rattle.queue_steps.specs.{State.State, Next.next_of, Words.position_of, ChainNext.chain_next, declared.steps.chain.ChainLocal.ChainLocal as chain}
 use Rattle.queue_laws.specs.{Common.Effects.with_effect, Common.Stand.Stand, Chain.ChainAfter.after_of, Chain.ChainAfter.chain_of, Chain.ChainAfter.left_by, Chain.ChainAnswers.Answers, Chain.ChainAnswers.tail_word, Chain.ChainAnswers.head_word, Chain.ChainFacts.head_of}
 use Rattle.machine_replay.proofs.{Engine.StandOf.running_of, Chain.Far.one_of_pop, Chain.Far.by_call, Chain.Far.goes_as, Chain.Far.bounded, Chain.Far.seen_is, Chain.Fits.ChainFits, Chain.Holding.ChainHolds, Chain.Laws.StepStands, Chain.Laws.chain_then, Chain.Laws.next_on, Chain.Stands.steps_stand, Chain.Stretch.chain_rules, Chain.Stretch.own_falls, Chain.Stretch.not_empty, Chain.Stretch.ready_on, Chain.Stretch.words_stay, Chain.Waits.holds_at, Chain.Waits.holder, Chain.Waits.other_row, Chain.Waits.unseen_if, Progress.Stretch.Paces, Progress.Stretch.Turns, Progress.Stretch.Here, Progress.Stretch.party-open, Progress.Stretch.unhindered}
 use Rattle.queue_laws.specs.Chain.ChainAt.{At, Only, push_tail, push_block, asking, installing, showing, claiming, spending, pop_head, pop_block, pop_tail, taking, following, peeking, passing, entering, awaiting, reading, beginning, walking, destroying, count_tail, count_head, count_again, empty_head, empty_tail, closing, closed_tail}
@@ -19,9 +19,9 @@ goes_near c (Next.Reply y spare) v m x e less = cc
 
 -- V3: a pop that saw no block replies, where nothing was accepted
 early_ends : {A : Type 0} {c : Chain A} {who : ℕ} {ms : List (State A)} {k : Stand A} (head : ℕ) (u : Option A) (x : Running A) → At c who ms k → (a : Answer ℕ) → ChainOk c → Answers c k.op a
-    → k.local ≡ Local.Unbounded (chain.PopTail head None) → position_of (tail_word c) ≡ 0 → running_after (unbounded_next (chain_of k.local) a) u ≡ Some x → ⊥
+    → k.local ≡ Local.Chain (chain.PopTail head None) → position_of (tail_word c) ≡ 0 → running_after (chain_next (chain_of k.local) a) u ≡ Some x → ⊥
 early_ends {c = c} head u x (pop_tail n b none is front) a ok found at_it first goes =
-    let on = subst (λ z. running_after (unbounded_next (chain.PopTail (head_of n false) b) z) u ≡ Some x) found goes in
+    let on = subst (λ z. running_after (chain_next (chain.PopTail (head_of n false) b) z) u ≡ Some x) found goes in
     let ended = rw (same_place c n ok is first) at on in
     cc
 early_ends head u x _ a ok found at_it first goes = other_row _ _ refl at_it
@@ -70,7 +70,7 @@ has_bare _ e = absurd (not_empty _ _ e)
 -- a call that is to show the first block is no pop
 shows_no_pop : (l : Local ℕ) → IsToShow l → one_of_pop l ≡ 1 → ⊥
 unfolding one_of_pop
-shows_no_pop (Local.Unbounded (chain.Showing d tail block)) such pop = omega (arith, pop)
+shows_no_pop (Local.Chain (chain.Showing d tail block)) such pop = omega (arith, pop)
 shows_no_pop _ such pop = such
 
 not_none : (x : Option ℕ) → x ≡ None → IsSome x → ⊥

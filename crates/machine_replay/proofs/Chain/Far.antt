@@ -2,7 +2,7 @@
 use Rattle.std.proofs.Common.{ℕ, ◌+◌, ◌==◌, ◌%◌, ◌<◌, ◌≤◌, ◌≡◌, inl, inr, ◌∙◌, true, false, Option, Some, None, IsSome, List, refl, sym, ap, subst, arith}
 use Rattle.std.proofs.lemmas.Bool.{ne_eqb, Decides.eqb_tells}
 use Rattle.machine_replay.specs.Vocabulary.{Call, Effect, Local, Next, PushKind, BLOCK_SLOTS, Running, Look}
-use Rattle.queue_steps.specs.{State.State, Looks.call_of_look, ChainWords.offset_of, declared.steps.unbounded.UnboundedLocal.UnboundedLocal as chain}
+use Rattle.queue_steps.specs.{State.State, Looks.call_of_look, ChainWords.offset_of, declared.steps.chain.ChainLocal.ChainLocal as chain}
 use Rattle.queue_laws.specs.{Common.Pushes.pushes, Common.Stand.Stand, Chain.ChainCells.Shown, Chain.ChainCells.Seen, Chain.ChainCells.Chain, Chain.ChainCells.ChainOk, Chain.ChainCells.ShownOk, Chain.ChainCells.LAST, Chain.ChainAnswers.tail_word, Chain.ChainAnswers.head_word, Chain.ChainAnswers.shown_of, Chain.ChainFacts.head_of, Chain.ChainFacts.open_tail_of}
 use Rattle.queue_laws.proofs.{Common.Ranks.either_small, Chain.ChainAnswers.head_offset, Chain.ChainRanks.rank, Chain.ChainRanks.lag, Chain.ChainRanks.walk_rank, Chain.ChainRanks.is_seen, Chain.ChainRanksWalk.last_claimed, Chain.ChainRight.NextOkSpares}
 use Rattle.queue_laws.specs.Chain.ChainAt.{At, push_tail, push_block, asking, installing, showing, claiming, laying, opening, chaining, writing, spending, pop_block, pop_tail, taking, reading, walking, destroying, count_head, count_again, count_tail}
@@ -12,56 +12,56 @@ use Rattle.machine_replay.proofs.Chain.Names.{Codes}
 
 -- how many steps a call has before it once the first block is shown, by the words of the tail and the head
 unfoldable pub far_at : ℕ → ℕ → Local ℕ → ℕ
-far_at t h (Local.Unbounded (chain.PushTail d spare)) = 10
-far_at t h (Local.Unbounded (chain.PushBlock d tail spare)) = 9 + lag t tail 5
-far_at t h (Local.Unbounded (chain.Asking d tail None)) = 13
-far_at t h (Local.Unbounded (chain.Asking d tail (Some block))) = 6 + lag t tail 5
-far_at t h (Local.Unbounded (chain.Installing d tail fresh)) = 12
-far_at t h (Local.Unbounded (chain.Showing d tail block)) = 6 + lag t tail 5
-far_at t h (Local.Unbounded (chain.Claiming d tail block spare)) = 5 + lag t tail 5
-far_at t h (Local.Unbounded (chain.Laying d tail block fresh)) = 4
-far_at t h (Local.Unbounded (chain.Opening d tail block fresh)) = 3
-far_at t h (Local.Unbounded (chain.Chaining d tail block fresh)) = 2
-far_at t h (Local.Unbounded chain.PopHead) = BLOCK_SLOTS + 9
-far_at t h (Local.Unbounded (chain.PopBlock head)) = BLOCK_SLOTS + 8 + lag h head 3
-far_at t h (Local.Unbounded (chain.PopTail head None)) = BLOCK_SLOTS + 10
-far_at t h (Local.Unbounded (chain.PopTail head (Some block))) = BLOCK_SLOTS + 7 + lag h head 3
-far_at t h (Local.Unbounded (chain.Taking head block)) = BLOCK_SLOTS + 6 + lag h head 3
-far_at t h (Local.Unbounded (chain.Following head block)) = BLOCK_SLOTS + 5
-far_at t h (Local.Unbounded (chain.Peeking head block after)) = BLOCK_SLOTS + 4
-far_at t h (Local.Unbounded (chain.Passing head block more)) = BLOCK_SLOTS + 3
-far_at t h (Local.Unbounded (chain.Entering head block)) = BLOCK_SLOTS + 2
-far_at t h (Local.Unbounded (chain.Awaiting head block)) = BLOCK_SLOTS + 1
-far_at t h (Local.Unbounded (chain.Reading block slot)) = walk_rank slot
-far_at t h (Local.Unbounded (chain.Walking block slot)) = walk_rank slot
-far_at t h (Local.Unbounded (chain.Destroying block slot)) = walk_rank slot
-far_at t h (Local.Unbounded (chain.CountTail l)) = 3
-far_at t h (Local.Unbounded (chain.CountHead l tail)) = 2 + lag t tail 3
-far_at t h (Local.Unbounded (chain.CountAgain l tail head)) = 1 + lag t tail 3
-far_at t h (Local.Unbounded chain.EmptyHead) = 2
+far_at t h (Local.Chain (chain.PushTail d spare)) = 10
+far_at t h (Local.Chain (chain.PushBlock d tail spare)) = 9 + lag t tail 5
+far_at t h (Local.Chain (chain.Asking d tail None)) = 13
+far_at t h (Local.Chain (chain.Asking d tail (Some block))) = 6 + lag t tail 5
+far_at t h (Local.Chain (chain.Installing d tail fresh)) = 12
+far_at t h (Local.Chain (chain.Showing d tail block)) = 6 + lag t tail 5
+far_at t h (Local.Chain (chain.Claiming d tail block spare)) = 5 + lag t tail 5
+far_at t h (Local.Chain (chain.Laying d tail block fresh)) = 4
+far_at t h (Local.Chain (chain.Opening d tail block fresh)) = 3
+far_at t h (Local.Chain (chain.Chaining d tail block fresh)) = 2
+far_at t h (Local.Chain chain.PopHead) = BLOCK_SLOTS + 9
+far_at t h (Local.Chain (chain.PopBlock head)) = BLOCK_SLOTS + 8 + lag h head 3
+far_at t h (Local.Chain (chain.PopTail head None)) = BLOCK_SLOTS + 10
+far_at t h (Local.Chain (chain.PopTail head (Some block))) = BLOCK_SLOTS + 7 + lag h head 3
+far_at t h (Local.Chain (chain.Taking head block)) = BLOCK_SLOTS + 6 + lag h head 3
+far_at t h (Local.Chain (chain.Following head block)) = BLOCK_SLOTS + 5
+far_at t h (Local.Chain (chain.Peeking head block after)) = BLOCK_SLOTS + 4
+far_at t h (Local.Chain (chain.Passing head block more)) = BLOCK_SLOTS + 3
+far_at t h (Local.Chain (chain.Entering head block)) = BLOCK_SLOTS + 2
+far_at t h (Local.Chain (chain.Awaiting head block)) = BLOCK_SLOTS + 1
+far_at t h (Local.Chain (chain.Reading block slot)) = walk_rank slot
+far_at t h (Local.Chain (chain.Walking block slot)) = walk_rank slot
+far_at t h (Local.Chain (chain.Destroying block slot)) = walk_rank slot
+far_at t h (Local.Chain (chain.CountTail l)) = 3
+far_at t h (Local.Chain (chain.CountHead l tail)) = 2 + lag t tail 3
+far_at t h (Local.Chain (chain.CountAgain l tail head)) = 1 + lag t tail 3
+far_at t h (Local.Chain chain.EmptyHead) = 2
 far_at t h _ = 1
 
 far_is : {A : Type 0} (c : Chain A) (l : Local ℕ) → (c.blocks == 0) ≡ false → is_seen c.shown ≡ true → rank c l ≡ far_at (tail_word c) (head_word c) l
 unfolding far_at
-far_is c (Local.Unbounded (chain.Asking d tail None)) some seen = rw some refl
-far_is c (Local.Unbounded (chain.Installing d tail fresh)) some seen = rw some refl
-far_is c (Local.Unbounded (chain.PopTail head None)) some seen = rw seen refl
+far_is c (Local.Chain (chain.Asking d tail None)) some seen = rw some refl
+far_is c (Local.Chain (chain.Installing d tail fresh)) some seen = rw some refl
+far_is c (Local.Chain (chain.PopTail head None)) some seen = rw seen refl
 far_is c l some seen = refl
 
 -- one for a pop: a walk never comes to the last slot, so a pop takes a step less than `far_at` says
 unfoldable pub one_of_pop : Local ℕ → ℕ
-one_of_pop (Local.Unbounded chain.PopHead) = 1
-one_of_pop (Local.Unbounded (chain.PopBlock head)) = 1
-one_of_pop (Local.Unbounded (chain.PopTail head block)) = 1
-one_of_pop (Local.Unbounded (chain.Taking head block)) = 1
-one_of_pop (Local.Unbounded (chain.Following head block)) = 1
-one_of_pop (Local.Unbounded (chain.Peeking head block after)) = 1
-one_of_pop (Local.Unbounded (chain.Passing head block more)) = 1
-one_of_pop (Local.Unbounded (chain.Entering head block)) = 1
-one_of_pop (Local.Unbounded (chain.Awaiting head block)) = 1
-one_of_pop (Local.Unbounded (chain.Reading block slot)) = 1
-one_of_pop (Local.Unbounded (chain.Walking block slot)) = 1
-one_of_pop (Local.Unbounded (chain.Destroying block slot)) = 1
+one_of_pop (Local.Chain chain.PopHead) = 1
+one_of_pop (Local.Chain (chain.PopBlock head)) = 1
+one_of_pop (Local.Chain (chain.PopTail head block)) = 1
+one_of_pop (Local.Chain (chain.Taking head block)) = 1
+one_of_pop (Local.Chain (chain.Following head block)) = 1
+one_of_pop (Local.Chain (chain.Peeking head block after)) = 1
+one_of_pop (Local.Chain (chain.Passing head block more)) = 1
+one_of_pop (Local.Chain (chain.Entering head block)) = 1
+one_of_pop (Local.Chain (chain.Awaiting head block)) = 1
+one_of_pop (Local.Chain (chain.Reading block slot)) = 1
+one_of_pop (Local.Chain (chain.Walking block slot)) = 1
+one_of_pop (Local.Chain (chain.Destroying block slot)) = 1
 one_of_pop _ = 0
 
 pub pop_is_one : {A : Type 0} → Call A → ℕ

@@ -1,6 +1,6 @@
 -- Where a call on a chain stands in the machine, by the laws of the chain, and where it stands after each step: nothing here knows a cell.
 use Rattle.std.proofs.Common.{ℕ, ◌≡◌, ◌≢◌, true, Option, None, List, [], ◌∷◌, sym, subst, arith}
-use Rattle.queue_steps.specs.{State.State, Kinds.call_kind, Kinds.call_value, UnboundedNext.unbounded_begin, UnboundedNext.unbounded_next}
+use Rattle.queue_steps.specs.{State.State, Kinds.call_kind, Kinds.call_value, ChainNext.chain_begin, ChainNext.chain_next}
 use Rattle.machine_replay.specs.{Vocabulary.Call, Vocabulary.Reply, Vocabulary.Effect, Vocabulary.Kind, Vocabulary.Answer, Vocabulary.Next, Vocabulary.Running, Book.Open, Book.after_own, Book.begun, Book.is_wait_free, Book.joined, Book.watched}
 use Rattle.queue_laws.specs.{Common.Effects.with_effect, Chain.ChainCells.Chain, Chain.ChainCells.queue_of, Chain.ChainCells.ChainOk, Chain.ChainCells.HoldsOnly, Chain.ChainCells.Nothing, Chain.ChainPasses.Passes, Chain.ChainPasses.Spares, Chain.ChainPasses.spare_in, Chain.ChainAt.At, Chain.ChainAnswers.Answers, Chain.ChainAfter.chain_of, Chain.ChainAfter.after_of, Chain.ChainAfter.carried_of, Chain.ChainAfter.left_by}
 use Rattle.machine_replay.proofs.{Engine.StandOf.stand_of, Progress.FewSteps.FewSteps, Progress.FewSteps.few_begun, Progress.FewSteps.few_joined, Progress.FewSteps.few_watched, Progress.FewSteps.few_own, Progress.FewSteps.few_stays, Chain.Moments.chain_begun, Chain.Moments.allowed_in, Engine.Moments.same_moments}
@@ -46,13 +46,13 @@ module _ {A : Type 0} (Stands : Shared A → State A → Chain A → Type 0) (bu
   -- where a call stands after the step that got this answer
   pub chain_goes : (s t : Shared A) (Q : State A) (g : Chain A) (p : ℕ) (x : Running A) (o : Open A) (a : Answer ℕ)
       → (ok : ChainOk g) (found : Answers g x.op a) (f : ChainFits busy s Q g p x o) → (busy ≡ 1 → (j : ℕ) → j ≢ p → ChainIdle g j)
-      → ChainGoes A Stands busy t (queue_of (left_by (after_of f.here a) (unbounded_next (chain_of x.local) a))) (left_by (after_of f.here a) (unbounded_next (chain_of x.local) a)) p
-      (after_own busy o (queue_of (left_by (after_of f.here a) (unbounded_next (chain_of x.local) a))) (with_effect o.effects (step_right f.here a ok found f.spares).e))
-      (running_after (unbounded_next (chain_of x.local) a) (carried_of f.here)) (reply_after (unbounded_next (chain_of x.local) a) (carried_of f.here))
+      → ChainGoes A Stands busy t (queue_of (left_by (after_of f.here a) (chain_next (chain_of x.local) a))) (left_by (after_of f.here a) (chain_next (chain_of x.local) a)) p
+      (after_own busy o (queue_of (left_by (after_of f.here a) (chain_next (chain_of x.local) a))) (with_effect o.effects (step_right f.here a ok found f.spares).e))
+      (running_after (chain_next (chain_of x.local) a) (carried_of f.here)) (reply_after (chain_next (chain_of x.local) a) (carried_of f.here))
   chain_goes s t Q g p x o a ok found f quiet =
       let right = step_right f.here a ok found f.spares in
       let r = after_of f.here a in
-      let n = unbounded_next (chain_of x.local) a in
+      let n = chain_next (chain_of x.local) a in
       goes_on t (left_by r n) p o n (carried_of f.here) (with_effect o.effects right.e) (rank g x.local) f.few
       (λ one. falls_left r n (rank g x.local) (step_falls f.here a ok found (λ j ne. (quiet one j ne).0)))
       (λ e. falls_left r n (rank g x.local) (wait_free_falls f.here a found e)) right.ends
@@ -84,7 +84,7 @@ fresh s Q g p k x here spares busy = record {
 
 pub chain_begins : {A : Type 0} (Stands : Shared A → State A → Chain A → Type 0) (s : Shared A) (Q : State A) (g : Chain A) (p : ℕ) (k : Call A) → Q.cap ≡ None → ChainIdle g p
     → ChainBegins A Stands s Q g p k (start_of Kind.Unbounded k).call (start_of Kind.Unbounded k).reply
-chain_begins {A} Stands s Q g p k open_ended idle = by (unbounded_begin (call_kind k)) (at_begun k)
+chain_begins {A} Stands s Q g p k open_ended idle = by (chain_begin (call_kind k)) (at_begun k)
   where
     by : (n : Next ℕ) → Begins k n → ChainBegins A Stands s Q g p k (running_after n (call_value k)) (reply_after n (call_value k))
     by (Next.Step l t o) (steps, touch, light, on, here) = (steps, fresh s Q g p k _ (here g p [] idle.0) (subst (λ f. Spares g p f) (sym light) idle.1))

@@ -1,8 +1,8 @@
 -- One turn of each loop that makes the list that a chain of blocks leaves.
 use Rattle.std.proofs.Common.{◌≡◌, ◌∙◌, ℕ, suc, ◌+◌, ◌-◌, ◌<◌, ◌≤◌, Option, Some, None, List, [], ◌∷◌, ◌++◌, length, refl, sym, ap, arith, append_assoc, append-nil, length-append}
 use Rattle.std.proofs.lemmas.List.{length-set}
-use Rattle.queue_steps.specs.{ChainWords.offset_of, declared.steps.unbounded.UnboundedLocal.UnboundedLocal as chain}
-use Rattle.machine_replay.specs.Vocabulary.{Op, Touch, Local, UnboundedLocal, Running}
+use Rattle.queue_steps.specs.{ChainWords.offset_of, declared.steps.chain.ChainLocal.ChainLocal as chain}
+use Rattle.machine_replay.specs.Vocabulary.{Op, Touch, Local, ChainLocal, Running}
 use Rattle.machine_memory.specs.{SharedMemory.block_touched, declared.blocks.BlockPlace.BlockPlace, Blocks.Block, Blocks.put_item, Blocks.without}
 use Rattle.machine_steps.specs.ChainLeft.{laid, marked, reached, settled_at, settled_by, settled_blocks, front_at, settled_front, unread_in, unread, unread_at, behind_at, chained, chain_left}
 
@@ -79,7 +79,7 @@ reached-length t None v bs = nothing t
     nothing Touch.Nothing = refl
     nothing t = refl
 
-at-length : {T : Type 0} (l : UnboundedLocal ℕ) (t : Touch) (b : Option ℕ) (v : Option T) (bs : List (Option (Block T))) → length (settled_at l t b v bs) ≡ length bs
+at-length : {T : Type 0} (l : ChainLocal ℕ) (t : Touch) (b : Option ℕ) (v : Option T) (bs : List (Option (Block T))) → length (settled_at l t b v bs) ≡ length bs
 at-length (chain.Laying p tail block fresh) t b v bs = laid-length tail block fresh v bs
 at-length (chain.Opening p tail block fresh) t b v bs = laid-length tail block fresh v bs
 at-length (chain.Chaining p tail block fresh) t b v bs = laid-length tail block fresh v bs
@@ -91,7 +91,7 @@ at-length (chain.Awaiting head block) t b v bs = marked-length block (offset_of 
 at-length l t b v bs = reached-length t b v bs
 
 by-length : {T : Type 0} (l : Local ℕ) (t : Touch) (o : Op ℕ) (v : Option T) (bs : List (Option (Block T))) → length (settled_by l t o v bs) ≡ length bs
-by-length (Local.Unbounded l) t o v bs = at-length l t (block_touched o) v bs
+by-length (Local.Chain l) t o v bs = at-length l t (block_touched o) v bs
 by-length l t o v bs = refl
 
 pub blocks-length : {T : Type 0} (calls : List (Option (Running T))) (bs : List (Option (Block T))) → length (settled_blocks calls bs) ≡ length bs

@@ -1,6 +1,6 @@
 -- A chain keeps the laws of the engine, where each step of a call leaves words, links and blocks that stand for the chain after it.
 use Rattle.std.proofs.Common.{ℕ, ◌≡◌, ◌≢◌, Bool, Option, None, List, refl, sym, ap, subst}
-use Rattle.queue_steps.specs.{State.State, Next.CanNext, Next.next_of, UnboundedNext.unbounded_next}
+use Rattle.queue_steps.specs.{State.State, Next.CanNext, Next.next_of, ChainNext.chain_next}
 use Rattle.machine_replay.specs.{Vocabulary.Call, Vocabulary.Effect, Vocabulary.Kind, Vocabulary.Next, Vocabulary.Running, Book.Open, Book.Moves, Book.after_own}
 use Rattle.queue_laws.specs.{Common.Effects.with_effect, Chain.ChainCells.Chain, Chain.ChainCells.queue_of, Chain.ChainAt.At, Chain.ChainAnswers.Answers, Chain.ChainAfter.chain_of, Chain.ChainAfter.after_of, Chain.ChainAfter.carried_of, Chain.ChainAfter.left_by, Chain.ChainPasses.Spares, Chain.ChainPasses.spare_in}
 use Rattle.machine_replay.proofs.{Engine.StandOf.stand_of, Engine.KindLaws.LawsOf, Chain.Names.Codes, Chain.Holding.ChainHolds, Chain.Moments.chain_moves, Chain.Fits.ChainIdle, Chain.Fits.ChainFits, Chain.Fits.ChainGoes, Chain.Fits.chain_goes, Chain.Fits.chain_watched, Chain.Fits.chain_idle, Chain.Fits.chain_joins, Chain.Fits.chain_begins}
@@ -11,7 +11,7 @@ use Rattle.machine_replay.proofs.Engine.Events as engine
 
 -- what the call does after its step, by what it found
 abbrev pub next_on : {A : Type 0} → Bool → Shared A → Running A → Next ℕ
-next_on ok s x = unbounded_next (chain_of x.local) (answer_to ok s x)
+next_on ok s x = chain_next (chain_of x.local) (answer_to ok s x)
 
 -- the chain after the step, and after the block that is given up then, if there is one
 abbrev pub chain_then : {A : Type 0} (ok : Bool) (s : Shared A) (g : Chain A) (p : ℕ) (ms : List (State A)) (x : Running A) (k : Call A) (es : List (Effect A)) → At g p ms (stand_of x k es) → Chain A

@@ -1,8 +1,8 @@
 -- What a step of a call on a chain is in the book: its effects begin those of a reply, its effect moves the queue, and its reply is right at a moment.
 use Rattle.std.proofs.Common.{ℕ, ◌≡◌, ◌==◌, Option, Ok, List, [], refl}
 use Rattle.std.specs.List.{Any}
-use Rattle.queue_steps.specs.{State.State, Words.is_shut, declared.steps.unbounded.UnboundedLocal.UnboundedLocal as chain}
-use Rattle.machine_replay.specs.{Vocabulary.Call, Vocabulary.Reply, Vocabulary.Effect, Vocabulary.Kind, Vocabulary.Answer, Vocabulary.Local, Vocabulary.UnboundedLocal, Vocabulary.EffectKind, Book.Open, Book.Moves, Book.Allows, Book.IsBegun}
+use Rattle.queue_steps.specs.{State.State, Words.is_shut, declared.steps.chain.ChainLocal.ChainLocal as chain}
+use Rattle.machine_replay.specs.{Vocabulary.Call, Vocabulary.Reply, Vocabulary.Effect, Vocabulary.Kind, Vocabulary.Answer, Vocabulary.Local, Vocabulary.ChainLocal, Vocabulary.EffectKind, Book.Open, Book.Moves, Book.Allows, Book.IsBegun}
 use Rattle.queue_laws.specs.{Common.Moments.SeenIn, Common.Effects.Leads, Common.Effects.with_effect, Common.Stand.Stand, Chain.ChainCells.Chain, Chain.ChainCells.queue_of}
 use Rattle.queue_laws.specs.Chain.ChainAt.{At, laying, opening, chaining, writing, following, peeking, passing, entering, awaiting, reading, beginning, walking, destroying}
 use Rattle.queue_laws.proofs.Chain.ChainStepOk.{IsEffect}
@@ -30,8 +30,8 @@ pub allowed_in : {A : Type 0} (k : Call A) (y : Reply A) (ms : List (State A)) �
 allowed_in k y ms seen = any_in ms (Allows k y) (Allows k y) (λ m right. right) seen
 
 -- the effect that is told of a step moves the queue
-pub chain_moves : {A : Type 0} (Q : State A) (c s : Chain A) (o : Open A) (l : UnboundedLocal ℕ) (a : Answer ℕ) (e : Option (Effect A)) → Q ≡ queue_of c → IsEffect l a e → Leads (queue_of c) e (queue_of s)
-    → Moves Q o (effect_of Kind.Unbounded (Local.Unbounded l) a) (queue_of s) (with_effect o.effects e)
+pub chain_moves : {A : Type 0} (Q : State A) (c s : Chain A) (o : Open A) (l : ChainLocal ℕ) (a : Answer ℕ) (e : Option (Effect A)) → Q ≡ queue_of c → IsEffect l a e → Leads (queue_of c) e (queue_of s)
+    → Moves Q o (effect_of Kind.Unbounded (Local.Chain l) a) (queue_of s) (with_effect o.effects e)
 chain_moves Q c s o (chain.Claiming d tail name spare) (Answer.Found found) e is h makes = won Q (queue_of c) (queue_of s) o e EffectKind.Append (found == tail) is tt (appends (found == tail) e h) makes
 chain_moves Q c s o (chain.ClosingAtLimit d spare) (Answer.Found found) e is h makes = marked Q (queue_of c) (queue_of s) o e Effect.SelfClose EffectKind.SelfClose (is_shut found) is refl tt h makes
 chain_moves Q c s o (chain.Taking head name) (Answer.Found found) e is h makes = won Q (queue_of c) (queue_of s) o e EffectKind.Take (found == head) is tt (takes (found == head) e h) makes

@@ -2,9 +2,9 @@
 use Rattle.std.proofs.Common.{ℕ, ◌+◌, ◌-◌, ◌/◌, ◌%◌, ◌==◌, if◌then◌else◌, ◌<◌, ◌≤◌, ◌≡◌, ◌≢◌, inl, inr, ◌∙◌, zero, suc, Bool, true, false, Option, Some, None, List, refl, sym, ap, arith}
 use Rattle.std.proofs.lemmas.Bool.{ne_eqb, eq-eqb}
 use Rattle.machine_replay.specs.Vocabulary.{Word, Link, Op, Touch, Answer, Local, Next, PushKind, BLOCK_SLOTS, Look}
-use Rattle.queue_steps.specs.{State.State, Looks.reply_of_look, Words.is_shut, Words.position_of, Words.tail_of, ChainWords.offset_of, ChainWords.items_before, declared.steps.unbounded.UnboundedLocal.UnboundedLocal as chain}
-use Rattle.queue_steps.specs.UnboundedNext as steps
-use Rattle.queue_steps.specs.UnboundedNext.{chain_tail_found, chain_head_found, head_block_found, tail_block_found, asks, claims, lays, writes, ends, loads, is_last_slot, unbounded_next}
+use Rattle.queue_steps.specs.{State.State, Looks.reply_of_look, Words.is_shut, Words.position_of, Words.tail_of, ChainWords.offset_of, ChainWords.items_before, declared.steps.chain.ChainLocal.ChainLocal as chain}
+use Rattle.queue_steps.specs.ChainNext as steps
+use Rattle.queue_steps.specs.ChainNext.{chain_tail_found, chain_head_found, head_block_found, tail_block_found, asks, claims, lays, writes, ends, loads, is_last_slot, chain_next}
 use Rattle.queue_laws.proofs.{Common.Ranks.either_small, Common.Tails.position_tail, Common.Tails.shut_tail, Chain.ChainAnswers.tail_items, Chain.ChainAnswers.resting_word, Chain.ChainPush.tail_ways, Chain.ChainRanks.is_seen, Chain.ChainRanks.lag, Chain.ChainRanks.lag_none, Chain.ChainRanks.Falls, Chain.ChainRanks.rests_if, Chain.ChainRanks.stands_if, Chain.ChainRanksPop.head_falls, Chain.ChainRanksPush.push_tail_falls, Chain.ChainTransitions.no_block}
 use Rattle.queue_laws.specs.{Common.Stand.Stand, Chain.ChainAfter.after_of, Chain.ChainAfter.chain_of, Chain.ChainAfter.claimed_if, Chain.ChainAfter.if_installed, Chain.ChainAnswers.Answers, Chain.ChainAnswers.tail_place, Chain.ChainAnswers.tail_word, Chain.ChainAnswers.head_word, Chain.ChainAnswers.last_of, Chain.ChainAnswers.shown_of, Chain.ChainFacts.place, Chain.ChainFacts.head_of, Chain.ChainFacts.open_tail_of, Chain.ChainFacts.HeadIs, Chain.ChainFacts.TailIs, Chain.ChainFacts.HasSpare, Chain.ChainTransitions.installed}
 use Rattle.queue_laws.specs.Chain.ChainAt.{At, Only, push_tail, push_block, asking, installing, showing, claiming, laying, opening, chaining, writing, spending, pop_head, pop_block, pop_tail, taking, count_tail, count_head, count_again, empty_head, empty_tail, closing, closed_tail}
@@ -17,9 +17,9 @@ early t = if position_of t == 0 then 6 else 0
 
 -- how many steps a call has before it, by the words of the tail and the head. A pop that saw no block replies where there is no item
 pub near_at : ℕ → ℕ → Local ℕ → ℕ
-near_at t h (Local.Unbounded (chain.PushTail d None)) = 10 + early t
-near_at t h (Local.Unbounded (chain.PushBlock d tail None)) = 9 + lag t tail 5 + early t
-near_at t h (Local.Unbounded (chain.PopTail head None)) = if position_of t == 0 then 2 else BLOCK_SLOTS + 10
+near_at t h (Local.Chain (chain.PushTail d None)) = 10 + early t
+near_at t h (Local.Chain (chain.PushBlock d tail None)) = 9 + lag t tail 5 + early t
+near_at t h (Local.Chain (chain.PopTail head None)) = if position_of t == 0 then 2 else BLOCK_SLOTS + 10
 near_at t h l = far_at t h l
 
 early_most : (t : ℕ) → early t ≤ 6
@@ -27,25 +27,25 @@ early_most t = either_small (position_of t == 0) 6 0 6 (omega arith) (omega arit
 
 pub near_within : (t h : ℕ) (l : Local ℕ) → (one_of_pop l < far_at t h l) × (far_at t h l ≤ BLOCK_SLOTS + 10 + one_of_pop l) → (one_of_pop l < near_at t h l) × (near_at t h l ≤ BLOCK_SLOTS + 10 + one_of_pop l)
 unfolding near_at far_at one_of_pop
-near_within t h (Local.Unbounded (chain.PushTail d None)) b = let e = early_most t in (omega arith, omega arith)
-near_within t h (Local.Unbounded (chain.PushBlock d tail None)) b = let e = early_most t in let x = lag_most t tail 5 in (omega arith, omega arith)
-near_within t h (Local.Unbounded (chain.PopTail head None)) b = elim (position_of t == 0) as (λ z. (1 < (if z then 2 else BLOCK_SLOTS + 10)) × ((if z then 2 else BLOCK_SLOTS + 10) ≤ BLOCK_SLOTS + 10 + 1)) [ true ↦ (omega arith, omega arith) | false ↦ (omega arith, omega arith) ]
+near_within t h (Local.Chain (chain.PushTail d None)) b = let e = early_most t in (omega arith, omega arith)
+near_within t h (Local.Chain (chain.PushBlock d tail None)) b = let e = early_most t in let x = lag_most t tail 5 in (omega arith, omega arith)
+near_within t h (Local.Chain (chain.PopTail head None)) b = elim (position_of t == 0) as (λ z. (1 < (if z then 2 else BLOCK_SLOTS + 10)) × ((if z then 2 else BLOCK_SLOTS + 10) ≤ BLOCK_SLOTS + 10 + 1)) [ true ↦ (omega arith, omega arith) | false ↦ (omega arith, omega arith) ]
 near_within t h l b = b
 
 -- for a pop it is no more than by the words alone
 pub near_pop : (t h : ℕ) (l : Local ℕ) → one_of_pop l ≡ 1 → near_at t h l ≤ far_at t h l
 unfolding near_at far_at one_of_pop
-near_pop t h (Local.Unbounded (chain.PushTail d None)) pop = absurd (omega (arith, pop))
-near_pop t h (Local.Unbounded (chain.PushBlock d tail None)) pop = absurd (omega (arith, pop))
-near_pop t h (Local.Unbounded (chain.PopTail head None)) pop = either_small (position_of t == 0) 2 (BLOCK_SLOTS + 10) (BLOCK_SLOTS + 10) (omega arith) (omega arith)
+near_pop t h (Local.Chain (chain.PushTail d None)) pop = absurd (omega (arith, pop))
+near_pop t h (Local.Chain (chain.PushBlock d tail None)) pop = absurd (omega (arith, pop))
+near_pop t h (Local.Chain (chain.PopTail head None)) pop = either_small (position_of t == 0) 2 (BLOCK_SLOTS + 10) (BLOCK_SLOTS + 10) (omega arith) (omega arith)
 near_pop t h l pop = omega arith
 
 -- and as much, but for a pop that replies
-pub near_same : (t h : ℕ) (l : Local ℕ) → one_of_pop l ≡ 1 → ((head : ℕ) → l ≡ Local.Unbounded (chain.PopTail head None) → position_of t ≢ 0) → near_at t h l ≡ far_at t h l
+pub near_same : (t h : ℕ) (l : Local ℕ) → one_of_pop l ≡ 1 → ((head : ℕ) → l ≡ Local.Chain (chain.PopTail head None) → position_of t ≢ 0) → near_at t h l ≡ far_at t h l
 unfolding near_at far_at one_of_pop
-near_same t h (Local.Unbounded (chain.PushTail d None)) pop later = absurd (omega (arith, pop))
-near_same t h (Local.Unbounded (chain.PushBlock d tail None)) pop later = absurd (omega (arith, pop))
-near_same t h (Local.Unbounded (chain.PopTail head None)) pop later = rw (ne_eqb (position_of t) 0 (later head refl)) refl
+near_same t h (Local.Chain (chain.PushTail d None)) pop later = absurd (omega (arith, pop))
+near_same t h (Local.Chain (chain.PushBlock d tail None)) pop later = absurd (omega (arith, pop))
+near_same t h (Local.Chain (chain.PopTail head None)) pop later = rw (ne_eqb (position_of t) 0 (later head refl)) refl
 near_same t h l pop later = refl
 
 -- the call replies, or goes on with fewer steps before it
@@ -69,7 +69,7 @@ moved_on c q (inr (is, rests)) opened other =
     absurd (other (resting_word c rests ∙ (ap (λ b. tail_of (place c.tail) b) unshut ∙ ap open_tail_of is)))
 
 -- U1: the tail is read
-tail_fewer : {A : Type 0} (c : Chain A) (d : PushKind) (spare : Option ℕ) → c.mover ≡ Rests → Fewer (tail_word c) (head_word c) (chain_tail_found d (tail_word c) spare) (near_at (tail_word c) (head_word c) (Local.Unbounded (chain.PushTail d spare)))
+tail_fewer : {A : Type 0} (c : Chain A) (d : PushKind) (spare : Option ℕ) → c.mover ≡ Rests → Fewer (tail_word c) (head_word c) (chain_tail_found d (tail_word c) spare) (near_at (tail_word c) (head_word c) (Local.Chain (chain.PushTail d spare)))
 unfolding near_at far_at
 tail_fewer c d None rest =
     tail_ways d (tail_word c) None (λ n. Falls c n 10 → Fewer (tail_word c) (head_word c) n (10 + early (tail_word c)))
@@ -107,11 +107,11 @@ claim_fewer c who v d q name spare last false e ok is rest = lost_fewer c d q sp
 
 -- U2: the pushers' block is read
 block_fewer : {A : Type 0} (c : Chain A) (who : ℕ) (d : PushKind) (tail : ℕ) (spare : Option ℕ) → ChainOk c → HasSpare c who spare
-    → Fewer (tail_word c) (head_word c) (tail_block_found d tail (last_of c.names c.blocks) spare) (near_at (tail_word c) (head_word c) (Local.Unbounded (chain.PushBlock d tail spare)))
+    → Fewer (tail_word c) (head_word c) (tail_block_found d tail (last_of c.names c.blocks) spare) (near_at (tail_word c) (head_word c) (Local.Chain (chain.PushBlock d tail spare)))
 unfolding near_at far_at
 block_fewer {A} c who d tail spare ok has = go c.blocks spare refl has
   where
-    go : (n : ℕ) (x : Option ℕ) → c.blocks ≡ n → HasSpare c who x → Fewer (tail_word c) (head_word c) (tail_block_found d tail (last_of c.names n) x) (near_at (tail_word c) (head_word c) (Local.Unbounded (chain.PushBlock d tail x)))
+    go : (n : ℕ) (x : Option ℕ) → c.blocks ≡ n → HasSpare c who x → Fewer (tail_word c) (head_word c) (tail_block_found d tail (last_of c.names n) x) (near_at (tail_word c) (head_word c) (Local.Chain (chain.PushBlock d tail x)))
     go zero None none has = let six : early (tail_word c) ≡ 6 = rw (eq-eqb (position_of (tail_word c)) 0 (first_place c ok none)) refl in omega (arith, six)
     go zero (Some f) none has = let some = has.1 in absurd (omega (arith, some, none))
     go (suc b) (Some f) more has = omega arith
@@ -119,7 +119,7 @@ block_fewer {A} c who d tail spare ok has = go c.blocks spare refl has
         elim (is_last_slot tail) as (λ z. Fewer (tail_word c) (head_word c) (if z then asks d tail (Some (c.names b)) else claims d tail (c.names b) None) (9 + lag (tail_word c) tail 5 + early (tail_word c))) [ true ↦ omega arith | false ↦ omega arith ]
 
 -- U3: a block is granted
-granted_fewer : (t h : ℕ) (d : PushKind) (tail : ℕ) (block : Option ℕ) (f : ℕ) → Fewer t h (steps.granted d tail block f) (near_at t h (Local.Unbounded (chain.Asking d tail block)))
+granted_fewer : (t h : ℕ) (d : PushKind) (tail : ℕ) (block : Option ℕ) (f : ℕ) → Fewer t h (steps.granted d tail block f) (near_at t h (Local.Chain (chain.Asking d tail block)))
 unfolding near_at far_at
 granted_fewer t h d tail None f = omega arith
 granted_fewer t h d tail (Some block) f = omega arith
@@ -173,14 +173,14 @@ stands_bare : {A : Type 0} (c : Chain A) (who : ℕ) → IsBare c who → HoldsO
 stands_bare c who bare none = stands_if c.passer (unheld c who Nothing (Only First) Head bare none (λ z. z) (λ z. absurd (cc)))
 
 -- Y3: the tail is read again
-again_fewer : (now head : ℕ) (l : Look) (t h : ℕ) → Fewer now head (unbounded_next (chain.CountAgain l t h) (Answer.Found now)) (1 + lag now t 3)
+again_fewer : (now head : ℕ) (l : Look) (t h : ℕ) → Fewer now head (chain_next (chain.CountAgain l t h) (Answer.Found now)) (1 + lag now t 3)
 unfolding near_at far_at
 again_fewer now head l t h =
     elim (now == t) as (λ b. Fewer now head (if b then ends (reply_of_look None (items_before (position_of t) - items_before (position_of h)) (is_shut t) l) else loads (chain.CountTail l) Word.Tail) (1 + (if b then 0 else 3))) [ true ↦ tt | false ↦ omega arith ]
 
 -- each step of a call leaves fewer steps before it; of a pop, while no block is to be seen and nothing was accepted
 pub fewer : {A : Type 0} {c : Chain A} {who : ℕ} {ms : List (State A)} {k : Stand A} (at : At c who ms k) (a : Answer ℕ) → ChainOk c → Answers c k.op a → IsBare c who
-    → (one_of_pop k.local ≡ 1 → (is_seen c.shown ≡ false) × (position_of (tail_word c) ≡ 0)) → Fewer (tail_word (after_of at a)) (head_word (after_of at a)) (unbounded_next (chain_of k.local) a) (near_at (tail_word c) (head_word c) k.local)
+    → (one_of_pop k.local ≡ 1 → (is_seen c.shown ≡ false) × (position_of (tail_word c) ≡ 0)) → Fewer (tail_word (after_of at a)) (head_word (after_of at a)) (chain_next (chain_of k.local) a) (near_at (tail_word c) (head_word c) k.local)
 unfolding near_at far_at one_of_pop
 fewer {c = c} {who = who} (push_tail d x spare none spare_is) a ok found bare pop = rw found (tail_fewer c d spare (rests_bare c who bare none))
 fewer {c = c} {who = who} (push_block d x spare q none spare_is saw) a ok found bare pop = rw found (block_fewer c who d (open_tail_of q) spare ok spare_is)

@@ -2,7 +2,7 @@
 use Rattle.std.proofs.Common.{ℕ, ◌+◌, ◌-◌, ◌*◌, ◌/◌, ◌%◌, ◌==◌, if◌then◌else◌, ◌<◌, ◌≤◌, ◌≡◌, ◌≢◌, ◌⊎◌, inl, inr, ◌∙◌, nat_lt, not, Bool, true, false, Ok, Option, Some, List, bit_and, refl, sym, ap, subst, arith}
 use Rattle.std.proofs.lemmas.Bool.{cond_both, ltb-true, Decides.eqb_tells}
 use Rattle.machine_replay.specs.Vocabulary.{Reply, Kind, Word, Op, Touch, Answer, Local, Next, BLOCK_SLOTS, WRITE, READ, DESTROY, Running}
-use Rattle.queue_steps.specs.{State.State, Next.next_of, ChainWords.offset_of, UnboundedNext.followed, UnboundedNext.written_found, UnboundedNext.ends, UnboundedNext.walks, UnboundedNext.walks_on, UnboundedNext.unbounded_next, declared.steps.unbounded.UnboundedLocal.UnboundedLocal as chain}
+use Rattle.queue_steps.specs.{State.State, Next.next_of, ChainWords.offset_of, ChainNext.followed, ChainNext.written_found, ChainNext.ends, ChainNext.walks, ChainNext.walks_on, ChainNext.chain_next, declared.steps.chain.ChainLocal.ChainLocal as chain}
 use Rattle.queue_laws.specs.{Common.Stand.Stand, Chain.ChainAfter.chain_of, Chain.ChainAnswers.Answers, Chain.ChainAnswers.IsState, Chain.ChainAnswers.linked_of, Chain.ChainAnswers.is_wrote, Chain.ChainFacts.head_of}
 use Rattle.queue_laws.specs.Chain.ChainCells as cells
 use Rattle.queue_laws.specs.Chain.ChainCells.{Reader, Unread, Reading, Done, Shown, Seen, Chain, ChainOk, ItemOk, ShownOk, Part, Write, Read, Tail, Head, Passed, owner, item_at, LAST, HoldsOnly}
@@ -51,14 +51,14 @@ unheld c who P Q x others holds none never p e = elim (eqb_tells p who) [
 
 -- how many steps a call has before it that has taken
 to_reply : Local ℕ → ℕ
-to_reply (Local.Unbounded (chain.Following head block)) = 2 * LAST + 5
-to_reply (Local.Unbounded (chain.Peeking head block after)) = 2 * LAST + 4
-to_reply (Local.Unbounded (chain.Passing head block more)) = 2 * LAST + 3
-to_reply (Local.Unbounded (chain.Entering head block)) = 2 * LAST + 2
-to_reply (Local.Unbounded (chain.Awaiting head block)) = 2 * LAST + 1
-to_reply (Local.Unbounded (chain.Reading block slot)) = 2 * (LAST - slot)
-to_reply (Local.Unbounded (chain.Walking block slot)) = 2 * (LAST - slot)
-to_reply (Local.Unbounded (chain.Destroying block slot)) = 2 * (LAST - slot) - 1
+to_reply (Local.Chain (chain.Following head block)) = 2 * LAST + 5
+to_reply (Local.Chain (chain.Peeking head block after)) = 2 * LAST + 4
+to_reply (Local.Chain (chain.Passing head block more)) = 2 * LAST + 3
+to_reply (Local.Chain (chain.Entering head block)) = 2 * LAST + 2
+to_reply (Local.Chain (chain.Awaiting head block)) = 2 * LAST + 1
+to_reply (Local.Chain (chain.Reading block slot)) = 2 * (LAST - slot)
+to_reply (Local.Chain (chain.Walking block slot)) = 2 * (LAST - slot)
+to_reply (Local.Chain (chain.Destroying block slot)) = 2 * (LAST - slot) - 1
 to_reply _ = 1
 
 abbrev Nears : Next ℕ → ℕ → Type 0
@@ -76,10 +76,10 @@ maybe_on_nears : (on : Bool) (name slot m : ℕ) → slot < LAST → 2 * (LAST -
 maybe_on_nears true name slot m low le = on_nears name slot m low le
 maybe_on_nears false name slot m low le = tt
 
-walking_nears : (name slot st : ℕ) → slot < LAST → Nears (unbounded_next (chain.Walking name slot) (Answer.Found st)) (2 * (LAST - slot))
+walking_nears : (name slot st : ℕ) → slot < LAST → Nears (chain_next (chain.Walking name slot) (Answer.Found st)) (2 * (LAST - slot))
 unfolding to_reply
 walking_nears name slot st low =
-    elim (bit_and st READ == 0) as (λ b. Nears (if not b then walks_on name slot else Next.Step (Local.Unbounded (chain.Destroying name slot)) Touch.Nothing (Op.Or (Word.State name slot) DESTROY)) (2 * (LAST - slot))) [
+    elim (bit_and st READ == 0) as (λ b. Nears (if not b then walks_on name slot else Next.Step (Local.Chain (chain.Destroying name slot)) Touch.Nothing (Op.Or (Word.State name slot) DESTROY)) (2 * (LAST - slot))) [
       | true ↦ omega arith
       | false ↦ on_nears name slot (2 * (LAST - slot)) low (omega arith)
     ]
@@ -93,7 +93,7 @@ awaiting_nears head name st written = last (eqb_tells (offset_of head + 1) BLOCK
     last (inr e) = rw (written, e.0) (omega arith)
 
 nears : {A : Type 0} {c : Chain A} {who : ℕ} {ms : List (State A)} {k : Stand A} → At c who ms k → HasTake k.effects → (a : Answer ℕ) → ChainOk c → Answers c k.op a → ((j : ℕ) → j ≢ who → Clear c j)
-    → Nears (unbounded_next (chain_of k.local) a) (to_reply k.local)
+    → Nears (chain_next (chain_of k.local) a) (to_reply k.local)
 unfolding to_reply
 nears {c = c} {who = who} (following x n name more holds got pass) had a ok found clear =
     let rest = rests_if c.mover (unheld c who (Either (Read n) Head) IsPops Tail clear holds (λ z. elim z [ inl y ↦ absurd (cc) | inr y ↦ absurd (cc) ]) (λ z. z)) in

@@ -1,7 +1,7 @@
 -- A chain: who waits for whom, step by step.
 use Rattle.std.proofs.Common.{ℕ, ◌+◌, ◌/◌, ◌%◌, ◌≤◌, ◌≡◌, ◌≢◌, ◌==◌, ◌⊎◌, inl, inr, ◌∙◌, not, false, true, Option, Some, None, List, refl, sym, ap, subst, arith}
 use Rattle.machine_replay.specs.Vocabulary.{Call, Effect, Kind, Answer, Local, Next, PushKind, BLOCK_SLOTS, Running}
-use Rattle.queue_steps.specs.{State.State, Next.next_of, ChainWords.offset_of, UnboundedNext.chain_tail_found, UnboundedNext.chain_head_found, UnboundedNext.chain_pop_tail_found, UnboundedNext.followed, UnboundedNext.written_found, UnboundedNext.unbounded_next, declared.steps.unbounded.UnboundedLocal.UnboundedLocal as chain}
+use Rattle.queue_steps.specs.{State.State, Next.next_of, ChainWords.offset_of, ChainNext.chain_tail_found, ChainNext.chain_head_found, ChainNext.chain_pop_tail_found, ChainNext.followed, ChainNext.written_found, ChainNext.chain_next, declared.steps.chain.ChainLocal.ChainLocal as chain}
 use Rattle.queue_laws.specs.{Common.Stand.Stand, Chain.ChainAfter.chain_of, Chain.ChainAnswers.Answers, Chain.ChainAnswers.IsState, Chain.ChainAnswers.tail_word, Chain.ChainAnswers.head_word, Chain.ChainAnswers.shown_of, Chain.ChainAnswers.linked_of, Chain.ChainAnswers.is_wrote, Chain.ChainFacts.head_of, Chain.ChainFacts.open_tail_of}
 use Rattle.machine_replay.proofs.{Engine.StandOf.stand_of, Progress.Beside.apart, Progress.Beside.beside, Progress.Beside.not_back, Chain.Laws.next_on, Chain.Stands.steps_stand, Chain.Stretch.chain_rules, Progress.Stretch.Here, Progress.Stretch.Party, Progress.Stretch.reach, Progress.Stretch.first, Progress.Stretch.party-open}
 use Rattle.queue_laws.specs.Chain.ChainAt.{At, push_tail, showing, laying, opening, chaining, writing, pop_head, pop_tail, following, peeking, passing, entering, awaiting, reading, beginning, walking, destroying}
@@ -30,32 +30,32 @@ moves_head l n x h (inl e) = at_part l (Read n) x e tt
 moves_head l n x h (inr e) = at_part l Head x e h
 
 pub holds_at : {A : Type 0} {c : Chain A} {who : ℕ} {ms : List (State A)} {k : Stand A} (x : Part) → At c who ms k → owner c x ≡ Some who → HolderAt x k.local
-holds_at x (showing d v name first saw is named) e = at_part (Local.Unbounded (chain.Showing d (open_tail_of 0) name)) First x (first x e) tt
+holds_at x (showing d v name first saw is named) e = at_part (Local.Chain (chain.Showing d (open_tail_of 0) name)) First x (first x e) tt
 holds_at x (laying d v n name f holds mine lays fresh) e = elim (holds x e) [
-  | inl y ↦ at_part (Local.Unbounded (chain.Laying d (open_tail_of n) name f)) (Write n) x y tt
-  | inr y ↦ at_part (Local.Unbounded (chain.Laying d (open_tail_of n) name f)) Tail x y tt
+  | inl y ↦ at_part (Local.Chain (chain.Laying d (open_tail_of n) name f)) (Write n) x y tt
+  | inr y ↦ at_part (Local.Chain (chain.Laying d (open_tail_of n) name f)) Tail x y tt
 ]
 holds_at x (opening d v n name f holds mine opens links named) e = elim (holds x e) [
-  | inl y ↦ at_part (Local.Unbounded (chain.Opening d (open_tail_of n) name f)) (Write n) x y tt
+  | inl y ↦ at_part (Local.Chain (chain.Opening d (open_tail_of n) name f)) (Write n) x y tt
   | inr z ↦ elim z [
-    | inl y ↦ at_part (Local.Unbounded (chain.Opening d (open_tail_of n) name f)) Tail x y tt
-    | inr y ↦ at_part (Local.Unbounded (chain.Opening d (open_tail_of n) name f)) (cells.Next (n / BLOCK_SLOTS)) x y tt
+    | inl y ↦ at_part (Local.Chain (chain.Opening d (open_tail_of n) name f)) Tail x y tt
+    | inr y ↦ at_part (Local.Chain (chain.Opening d (open_tail_of n) name f)) (cells.Next (n / BLOCK_SLOTS)) x y tt
   ]
 ]
 holds_at x (chaining d v n name f holds mine links named) e = elim (holds x e) [
-  | inl y ↦ at_part (Local.Unbounded (chain.Chaining d (open_tail_of n) name f)) (Write n) x y tt
-  | inr y ↦ at_part (Local.Unbounded (chain.Chaining d (open_tail_of n) name f)) (cells.Next (n / BLOCK_SLOTS)) x y tt
+  | inl y ↦ at_part (Local.Chain (chain.Chaining d (open_tail_of n) name f)) (Write n) x y tt
+  | inr y ↦ at_part (Local.Chain (chain.Chaining d (open_tail_of n) name f)) (cells.Next (n / BLOCK_SLOTS)) x y tt
 ]
-holds_at x (writing d v n name spare holds mine spare_is) e = at_part (Local.Unbounded (chain.Writing d spare)) (Write n) x (holds x e) tt
-holds_at x (following item n name more holds got pass) e = moves_head (Local.Unbounded (chain.Following (head_of n more) name)) n x tt (holds x e)
-holds_at x (peeking item n name after more holds got pass behind) e = moves_head (Local.Unbounded (chain.Peeking (head_of n more) name after)) n x tt (holds x e)
-holds_at x (passing item n name after more further holds got pass behind room) e = moves_head (Local.Unbounded (chain.Passing (head_of n more) name further)) n x tt (holds x e)
-holds_at x (entering item n name more further holds got enters room) e = moves_head (Local.Unbounded (chain.Entering (head_of n more) name)) n x tt (holds x e)
-holds_at x (awaiting item n name more holds got) e = at_part (Local.Unbounded (chain.Awaiting (head_of n more) name)) (Read n) x (holds x e) tt
-holds_at x (reading item n name more holds got wrote inner) e = at_part (Local.Unbounded (chain.Reading name (offset_of (head_of n more)))) (Read n) x (holds x e) tt
-holds_at x (beginning item n name more holds got wrote last) e = at_part (Local.Unbounded (chain.Walking name 0)) (Read n) x (holds x e) tt
-holds_at x (walking item b name slot holds is named) e = at_part (Local.Unbounded (chain.Walking name slot)) (Passed b) x (holds x e) tt
-holds_at x (destroying item b name slot holds is named) e = at_part (Local.Unbounded (chain.Destroying name slot)) (Passed b) x (holds x e) tt
+holds_at x (writing d v n name spare holds mine spare_is) e = at_part (Local.Chain (chain.Writing d spare)) (Write n) x (holds x e) tt
+holds_at x (following item n name more holds got pass) e = moves_head (Local.Chain (chain.Following (head_of n more) name)) n x tt (holds x e)
+holds_at x (peeking item n name after more holds got pass behind) e = moves_head (Local.Chain (chain.Peeking (head_of n more) name after)) n x tt (holds x e)
+holds_at x (passing item n name after more further holds got pass behind room) e = moves_head (Local.Chain (chain.Passing (head_of n more) name further)) n x tt (holds x e)
+holds_at x (entering item n name more further holds got enters room) e = moves_head (Local.Chain (chain.Entering (head_of n more) name)) n x tt (holds x e)
+holds_at x (awaiting item n name more holds got) e = at_part (Local.Chain (chain.Awaiting (head_of n more) name)) (Read n) x (holds x e) tt
+holds_at x (reading item n name more holds got wrote inner) e = at_part (Local.Chain (chain.Reading name (offset_of (head_of n more)))) (Read n) x (holds x e) tt
+holds_at x (beginning item n name more holds got wrote last) e = at_part (Local.Chain (chain.Walking name 0)) (Read n) x (holds x e) tt
+holds_at x (walking item b name slot holds is named) e = at_part (Local.Chain (chain.Walking name slot)) (Passed b) x (holds x e) tt
+holds_at x (destroying item b name slot holds is named) e = at_part (Local.Chain (chain.Destroying name slot)) (Passed b) x (holds x e) tt
 holds_at x here e = absurd ((early refl here).1 x e)
 
 -- a party holds a part, and its call stands at such a step
@@ -85,17 +85,17 @@ no_fewer c (Next.Step l t o) m most low goes falls = let same : rank c l ≡ ran
 no_fewer c (Next.Reply x spare) m most low goes falls = goes
 
 mover_links : (l : Local ℕ) → IsToMoveTail l → IsToLink l
-mover_links (Local.Unbounded (chain.Laying d tail block fresh)) h = tt
-mover_links (Local.Unbounded (chain.Opening d tail block fresh)) h = tt
+mover_links (Local.Chain (chain.Laying d tail block fresh)) h = tt
+mover_links (Local.Chain (chain.Opening d tail block fresh)) h = tt
 mover_links _ h = absurd h
 
 -- the steps at which a call can go back, told apart by numbers
 abbrev row_of : Local ℕ → ℕ
-row_of (Local.Unbounded (chain.PushTail d spare)) = 1
-row_of (Local.Unbounded chain.PopHead) = 2
-row_of (Local.Unbounded (chain.PopTail head block)) = 3
-row_of (Local.Unbounded (chain.Following head block)) = 4
-row_of (Local.Unbounded (chain.Awaiting head block)) = 5
+row_of (Local.Chain (chain.PushTail d spare)) = 1
+row_of (Local.Chain chain.PopHead) = 2
+row_of (Local.Chain (chain.PopTail head block)) = 3
+row_of (Local.Chain (chain.Following head block)) = 4
+row_of (Local.Chain (chain.Awaiting head block)) = 5
 row_of _ = 0
 
 pub other_row : (l m : Local ℕ) → (row_of l == row_of m) ≡ false → l ≡ m → ⊥
@@ -103,32 +103,32 @@ other_row l m other same = apart row_of l m other same
 
 -- U1: the tail is read
 push_row : {A : Type 0} {c : Chain A} {who : ℕ} {ms : List (State A)} {k : Stand A} (d : PushKind) (spare : Option ℕ) → At c who ms k → (a : Answer ℕ) → Answers c k.op a
-    → k.local ≡ Local.Unbounded (chain.PushTail d spare) → NextAt (unbounded_next (chain_of k.local) a) (Local.Unbounded (chain.PushTail d spare)) → Held c IsToMoveTail
+    → k.local ≡ Local.Chain (chain.PushTail d spare) → NextAt (chain_next (chain_of k.local) a) (Local.Chain (chain.PushTail d spare)) → Held c IsToMoveTail
 push_row {c = c} d spare (push_tail e v own none spare_is) a found is goes =
     held_if c Tail IsToMoveTail
-    (λ free. no_fewer c (chain_tail_found e (tail_word c) own) (Local.Unbounded (chain.PushTail d spare)) 10 (omega arith)
-    (subst (λ b. NextAt (unbounded_next (chain.PushTail e own) b) (Local.Unbounded (chain.PushTail d spare))) found goes) (push_tail_falls c e own (rests_if c.mover free)))
+    (λ free. no_fewer c (chain_tail_found e (tail_word c) own) (Local.Chain (chain.PushTail d spare)) 10 (omega arith)
+    (subst (λ b. NextAt (chain_next (chain.PushTail e own) b) (Local.Chain (chain.PushTail d spare))) found goes) (push_tail_falls c e own (rests_if c.mover free)))
     (λ l h. h)
 push_row d spare _ a found is goes = absurd (other_row _ _ refl is)
 
 -- V1: the head is read
 pop_row : {A : Type 0} {c : Chain A} {who : ℕ} {ms : List (State A)} {k : Stand A} → At c who ms k → (a : Answer ℕ) → Answers c k.op a
-    → k.local ≡ Local.Unbounded chain.PopHead → NextAt (unbounded_next (chain_of k.local) a) (Local.Unbounded chain.PopHead) → Held c IsToMoveHead
+    → k.local ≡ Local.Chain chain.PopHead → NextAt (chain_next (chain_of k.local) a) (Local.Chain chain.PopHead) → Held c IsToMoveHead
 pop_row {c = c} (pop_head none) a found is goes =
     held_if c Head IsToMoveHead
-    (λ free. no_fewer c (chain_head_found (head_word c)) (Local.Unbounded chain.PopHead) (BLOCK_SLOTS + 9) (omega arith)
-    (subst (λ b. NextAt (unbounded_next chain.PopHead b) (Local.Unbounded chain.PopHead)) found goes) (head_falls c (stands_if c.passer free)))
+    (λ free. no_fewer c (chain_head_found (head_word c)) (Local.Chain chain.PopHead) (BLOCK_SLOTS + 9) (omega arith)
+    (subst (λ b. NextAt (chain_next chain.PopHead b) (Local.Chain chain.PopHead)) found goes) (head_falls c (stands_if c.passer free)))
     (λ l h. h)
 pop_row _ a found is goes = absurd (other_row _ _ refl is)
 
 -- V3: the tail is read, after no block was
 first_row : {A : Type 0} {c : Chain A} {who : ℕ} {ms : List (State A)} {k : Stand A} (head : ℕ) → At c who ms k → (a : Answer ℕ) → ChainOk c → Answers c k.op a
-    → is_seen c.shown ≡ false → k.local ≡ Local.Unbounded (chain.PopTail head None) → NextAt (unbounded_next (chain_of k.local) a) (Local.Unbounded chain.PopHead) → Held c IsToShow
+    → is_seen c.shown ≡ false → k.local ≡ Local.Chain (chain.PopTail head None) → NextAt (chain_next (chain_of k.local) a) (Local.Chain chain.PopHead) → Held c IsToShow
 first_row {c = c} head (pop_tail n None none is front) a ok found unseen at goes =
     let one : tail_rank c (head_of n false) None ≡ 1 = rw unseen refl in
     held_if c First IsToShow
-    (λ free. no_fewer c (chain_pop_tail_found (head_of n false) None (tail_word c)) (Local.Unbounded chain.PopHead) (tail_rank c (head_of n false) None) (omega (arith, one))
-    (subst (λ b. NextAt (unbounded_next (chain.PopTail (head_of n false) None) b) (Local.Unbounded chain.PopHead)) found goes) (pop_tail_falls c n None ok free is))
+    (λ free. no_fewer c (chain_pop_tail_found (head_of n false) None (tail_word c)) (Local.Chain chain.PopHead) (tail_rank c (head_of n false) None) (omega (arith, one))
+    (subst (λ b. NextAt (chain_next (chain.PopTail (head_of n false) None) b) (Local.Chain chain.PopHead)) found goes) (pop_tail_falls c n None ok free is))
     (λ l h. h)
 first_row head (pop_tail n (Some block) none is front) a ok found unseen at goes = cc
 first_row head _ a ok found unseen at goes = absurd (other_row _ _ refl at)
@@ -147,21 +147,21 @@ link_held {A} c who n head name m ok pass low goes = go (owner c Tail) refl
         (λ l h. h)
 
 link_row : {A : Type 0} {c : Chain A} {who : ℕ} {ms : List (State A)} {k : Stand A} (head block : ℕ) → At c who ms k → (a : Answer ℕ) → ChainOk c → Answers c k.op a
-    → k.local ≡ Local.Unbounded (chain.Following head block) → NextAt (unbounded_next (chain_of k.local) a) (Local.Unbounded (chain.Following head block)) → Held c IsToLink
+    → k.local ≡ Local.Chain (chain.Following head block) → NextAt (chain_next (chain_of k.local) a) (Local.Chain (chain.Following head block)) → Held c IsToLink
 link_row {c = c} {who = who} head block (following x n name more holds got pass) a ok found is goes =
-    link_held c who n (head_of n more) name (Local.Unbounded (chain.Following head block)) ok pass (omega arith)
-    (subst (λ b. NextAt (unbounded_next (chain.Following (head_of n more) name) b) (Local.Unbounded (chain.Following head block))) (found (n / BLOCK_SLOTS) got.named) goes)
+    link_held c who n (head_of n more) name (Local.Chain (chain.Following head block)) ok pass (omega arith)
+    (subst (λ b. NextAt (chain_next (chain.Following (head_of n more) name) b) (Local.Chain (chain.Following head block))) (found (n / BLOCK_SLOTS) got.named) goes)
 link_row head block _ a ok found is goes = absurd (other_row _ _ refl is)
 
 -- V9: the slot's state is read, which the push of the item has to set
 item_row : {A : Type 0} {c : Chain A} {who : ℕ} {ms : List (State A)} {k : Stand A} (head block : ℕ) → At c who ms k → (a : Answer ℕ) → ChainOk c → Answers c k.op a
-    → k.local ≡ Local.Unbounded (chain.Awaiting head block) → NextAt (unbounded_next (chain_of k.local) a) (Local.Unbounded (chain.Awaiting head block)) → Held c IsToWrite
+    → k.local ≡ Local.Chain (chain.Awaiting head block) → NextAt (chain_next (chain_of k.local) a) (Local.Chain (chain.Awaiting head block)) → Held c IsToWrite
 item_row {c = c} {who = who} head block (awaiting x n name more holds got) a ok found is goes =
     let h = found (n / BLOCK_SLOTS) got.named in
     let state : IsState c (n / BLOCK_SLOTS) (n % BLOCK_SLOTS) h.0 = subst (λ i. IsState c (n / BLOCK_SLOTS) i h.0) (head_offset n more) h.2 in
     held_if c (Write n) IsToWrite
-    (λ free. no_fewer c (written_found (head_of n more) name h.0) (Local.Unbounded (chain.Awaiting head block)) (BLOCK_SLOTS + 1) (omega arith)
-    (subst (λ b. NextAt (unbounded_next (chain.Awaiting (head_of n more) name) b) (Local.Unbounded (chain.Awaiting head block))) h.1 goes)
+    (λ free. no_fewer c (written_found (head_of n more) name h.0) (Local.Chain (chain.Awaiting head block)) (BLOCK_SLOTS + 1) (omega arith)
+    (subst (λ b. NextAt (chain_next (chain.Awaiting (head_of n more) name) b) (Local.Chain (chain.Awaiting head block))) h.1 goes)
     (awaiting_falls c (head_of n more) name h.0 (state.written ∙ (ap (λ m. not (is_wrote (c.writers m))) (own_item n) ∙ ap not (wrote_then c who n ok free got.mine)))))
     (λ l h. h)
 item_row head block _ a ok found is goes = absurd (other_row _ _ refl is)
@@ -185,7 +185,7 @@ module _ {A : Type 0} (parties : ℕ) (w : World (Shared A) (Running A)) (st : �
 
   -- a call that goes on at this step does so by what it finds
   row : (p : ℕ) (r x : Running A) (m : Local ℕ) (Such : Local ℕ → Type 0) → call_at w p ≡ Some r → GoesOn Kind.Unbounded w.shared r x → x.local ≡ m → (Such r.local → ⊥)
-      → ((ms : List (State A)) (k : Call A) (es : List (Effect A)) → At h.sim.g p ms (stand_of r k es) → (a : Answer ℕ) → Answers h.sim.g r.op a → NextAt (unbounded_next (chain_of r.local) a) m → Held h.sim.g Such)
+      → ((ms : List (State A)) (k : Call A) (es : List (Effect A)) → At h.sim.g p ms (stand_of r k es) → (a : Answer ℕ) → Answers h.sim.g r.op a → NextAt (chain_next (chain_of r.local) a) m → Held h.sim.g Such)
       → IsBeside w p Such
   row p r x m Such is goes back never held =
       let o = party-open A Kind.Unbounded (chain_rules A) parties h.b.busy w.shared h.b.queue h.sim.g p (call_at w p) (h.b.open_call p) r (h.sim.each p) is in
@@ -204,14 +204,14 @@ chain_waits A parties p past r x is goes =
     let h = reach A k (chain_rules A) parties (opening_world k parties) (λ q. Between) past (first A k (chain_rules A) parties) in
     let ok = h.sim.holds.ok in
     record {
-      push = λ d spare at_it back. row parties w st h p r x (Local.Unbounded (chain.PushTail d spare)) IsToMoveTail is goes back (λ such. subst IsToMoveTail at_it such)
+      push = λ d spare at_it back. row parties w st h p r x (Local.Chain (chain.PushTail d spare)) IsToMoveTail is goes back (λ such. subst IsToMoveTail at_it such)
           (λ ms c es here a found. push_row d spare here a found at_it);
-      pop = λ at_it back. row parties w st h p r x (Local.Unbounded chain.PopHead) IsToMoveHead is goes back (λ such. subst IsToMoveHead at_it such)
+      pop = λ at_it back. row parties w st h p r x (Local.Chain chain.PopHead) IsToMoveHead is goes back (λ such. subst IsToMoveHead at_it such)
           (λ ms c es here a found. pop_row here a found at_it);
-      first = λ head at_it none back. row parties w st h p r x (Local.Unbounded chain.PopHead) IsToShow is goes back (λ such. subst IsToShow at_it such)
+      first = λ head at_it none back. row parties w st h p r x (Local.Chain chain.PopHead) IsToShow is goes back (λ such. subst IsToShow at_it such)
           (λ ms c es here a found. first_row head here a ok found (unseen_if h.sim.g.shown (h.sim.g.names h.sim.g.front) (sym h.sim.holds.codes.front_is ∙ none)) at_it);
-      link = λ head block at_it back. row parties w st h p r x (Local.Unbounded (chain.Following head block)) IsToLink is goes back (λ such. subst IsToLink at_it such)
+      link = λ head block at_it back. row parties w st h p r x (Local.Chain (chain.Following head block)) IsToLink is goes back (λ such. subst IsToLink at_it such)
           (λ ms c es here a found. link_row head block here a ok found at_it);
-      item = λ head block at_it back. row parties w st h p r x (Local.Unbounded (chain.Awaiting head block)) IsToWrite is goes back (λ such. subst IsToWrite at_it such)
+      item = λ head block at_it back. row parties w st h p r x (Local.Chain (chain.Awaiting head block)) IsToWrite is goes back (λ such. subst IsToWrite at_it such)
           (λ ms c es here a found. item_row head block here a ok found at_it);
     }

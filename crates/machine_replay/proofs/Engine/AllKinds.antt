@@ -5,7 +5,7 @@ use Rattle.queue_steps.specs.Words.{IsRing}
 use Rattle.machine_replay.specs.{Book.opening, Conforms.capacity_of, Replays.CanReplay, Replays.is_too_large, Peaks.opening_peak, Peaks.peaked}
 use Rattle.machine_memory.specs.SharedMemory.{Shared}
 use Rattle.machine_steps.specs.{Steps.CanStart, Left.left_of, Left.opening_world, Left.HasSlot, Machine.event_of, Machine.CanHandle, Machine.Handles, Machine.Passes, Machine.PassesAll, World.World, World.call_at}
-use Rattle.machine_replay.proofs.{Engine.KindLaws.KindLaws, Single.Left.single_laws, Ring.Kind.ring_laws, Chain.Kind.chain_laws, Replays.Peaking.Run-length, Replays.Peaking.peaked-if, Engine.SoFar.SoFar, Engine.SoFar.so_far-first, Engine.SoFar.so_far-more, Engine.SoFar.so_far-can, Engine.SoFar.so_far-grows, Engine.SoFar.so_far-none, Engine.SoFar.so_far-room}
+use Rattle.machine_replay.proofs.{Engine.KindLaws.KindLaws, Slot.Left.slot_laws, Ring.Kind.ring_laws, Chain.Kind.chain_laws, Replays.Peaking.Run-length, Replays.Peaking.peaked-if, Engine.SoFar.SoFar, Engine.SoFar.so_far-first, Engine.SoFar.so_far-more, Engine.SoFar.so_far-can, Engine.SoFar.so_far-grows, Engine.SoFar.so_far-none, Engine.SoFar.so_far-room}
 use Rattle.std.proofs.lemmas.Bool.{ltb-false}
 use Rattle.machine_memory.proofs.Presence.{Sparing}
 use Rattle.machine_steps.proofs.EventPresence.{event-sparing}
@@ -16,7 +16,7 @@ HasMachine (Kind.Bounded n) = IsRing n
 HasMachine x = Unit {0}
 
 pub laws_of : (T : Type 0) (k : Kind) → HasMachine k → KindLaws T k
-laws_of T Kind.Single has = single_laws T
+laws_of T Kind.Single has = slot_laws T
 laws_of T (Kind.Bounded n) has = ring_laws T n has
 laws_of T Kind.Unbounded has = chain_laws T
 

@@ -1,11 +1,11 @@
 -- A call of `len` waits for nobody: while the tail is as it is, it replies by its fifth step.
 use Rattle.std.proofs.Common.{◌≡◌, ◌≢◌, ◌∙◌, ℕ, ◌+◌, ◌<◌, ◌≤◌, ◌==◌, if◌then◌else◌, Bool, true, false, Option, Some, None, List, [], ◌∷◌, count_by, inl, inr, refl, sym, ap, subst, arith}
 use Rattle.std.proofs.lemmas.Bool.{eq-eqb, ltb-false, Decides.eqb_tells}
-use Rattle.queue_steps.specs.{State.State, declared.steps.single.SingleLocal.TheVariants.Looking, declared.steps.unbounded.UnboundedLocal.UnboundedLocal as chain}
-use Rattle.machine_replay.specs.{Vocabulary.Kind, Vocabulary.Local, Vocabulary.Next, Vocabulary.BoundedLocal, Vocabulary.MAX_CAPACITY, Vocabulary.Event, Vocabulary.Running, Book.Open, Played.told_of, Played.world_after, Progress.Standing, Progress.Between, Progress.stands_by, Progress.stands_then, Progress.IsNotAnswered, Waits.IsOfLen, Waits.IsTailKept, Waits.LenWaitsForNobody, Within.is_step_of}
+use Rattle.queue_steps.specs.{State.State, declared.steps.slot.SlotLocal.TheVariants.Looking, declared.steps.chain.ChainLocal.ChainLocal as chain}
+use Rattle.machine_replay.specs.{Vocabulary.Kind, Vocabulary.Local, Vocabulary.Next, Vocabulary.RingLocal, Vocabulary.MAX_CAPACITY, Vocabulary.Event, Vocabulary.Running, Book.Open, Played.told_of, Played.world_after, Progress.Standing, Progress.Between, Progress.stands_by, Progress.stands_then, Progress.IsNotAnswered, Waits.IsOfLen, Waits.IsTailKept, Waits.LenWaitsForNobody, Within.is_step_of}
 use Rattle.queue_laws.specs.{Slot.SlotHolder.SlotHolder, Common.Stand.Stand, Ring.RingCells.Ring, Chain.ChainCells.Chain}
 use Rattle.queue_laws.specs.Slot.SlotRows as slot
-use Rattle.machine_replay.proofs.{Engine.StandOf.running_of, Progress.Beside.same_call, Chain.Stretch.chain_rules, Progress.Had.nearer, Ring.Stretch.ring_rules, Single.Stretch.single_rules, Progress.Standings.Agrees, Progress.Standings.in_call-next}
+use Rattle.machine_replay.proofs.{Engine.StandOf.running_of, Progress.Beside.same_call, Chain.Stretch.chain_rules, Progress.Had.nearer, Ring.Stretch.ring_rules, Slot.Stretch.slot_rules, Progress.Standings.Agrees, Progress.Standings.in_call-next}
 use Rattle.queue_laws.specs.Ring.RingAt as ring
 use Rattle.queue_laws.specs.Chain.ChainAt as links
 use Rattle.machine_steps.specs.{Left.opening_world, Machine.event_of, Steps.step_of, Steps.running_after, World.World, World.call_at}
@@ -29,35 +29,35 @@ late_most t u = elim (eqb_tells t u) [ inl e ↦ let z : late t u ≡ 0 = ap (λ
 
 -- how many steps a call of `len` has before it, and more than any has at the steps of other calls
 before : ℕ → Local ℕ → ℕ
-before t (Local.Single (Looking l)) = 1
-before t (Local.Bounded (BoundedLocal.CountTail l)) = 3
-before t (Local.Bounded (BoundedLocal.CountHead l u)) = 2 + late t u
-before t (Local.Bounded (BoundedLocal.CountAgain l u h)) = 1 + late t u
-before t (Local.Unbounded (chain.CountTail l)) = 3
-before t (Local.Unbounded (chain.CountHead l u)) = 2 + late t u
-before t (Local.Unbounded (chain.CountAgain l u h)) = 1 + late t u
+before t (Local.Slot (Looking l)) = 1
+before t (Local.Ring (RingLocal.CountTail l)) = 3
+before t (Local.Ring (RingLocal.CountHead l u)) = 2 + late t u
+before t (Local.Ring (RingLocal.CountAgain l u h)) = 1 + late t u
+before t (Local.Chain (chain.CountTail l)) = 3
+before t (Local.Chain (chain.CountHead l u)) = 2 + late t u
+before t (Local.Chain (chain.CountAgain l u h)) = 1 + late t u
 before t _ = 9
 
 within : (t : ℕ) (l : Local ℕ) → IsOfLen l → (0 < before t l) × (before t l ≤ 5)
 unfolding before
-within t (Local.Single (Looking l)) is = (omega arith, omega arith)
-within t (Local.Bounded (BoundedLocal.CountTail l)) is = (omega arith, omega arith)
-within t (Local.Bounded (BoundedLocal.CountHead l u)) is = let z = late_most t u in (omega arith, omega (arith, z))
-within t (Local.Bounded (BoundedLocal.CountAgain l u h)) is = let z = late_most t u in (omega arith, omega (arith, z))
-within t (Local.Unbounded (chain.CountTail l)) is = (omega arith, omega arith)
-within t (Local.Unbounded (chain.CountHead l u)) is = let z = late_most t u in (omega arith, omega (arith, z))
-within t (Local.Unbounded (chain.CountAgain l u h)) is = let z = late_most t u in (omega arith, omega (arith, z))
+within t (Local.Slot (Looking l)) is = (omega arith, omega arith)
+within t (Local.Ring (RingLocal.CountTail l)) is = (omega arith, omega arith)
+within t (Local.Ring (RingLocal.CountHead l u)) is = let z = late_most t u in (omega arith, omega (arith, z))
+within t (Local.Ring (RingLocal.CountAgain l u h)) is = let z = late_most t u in (omega arith, omega (arith, z))
+within t (Local.Chain (chain.CountTail l)) is = (omega arith, omega arith)
+within t (Local.Chain (chain.CountHead l u)) is = let z = late_most t u in (omega arith, omega (arith, z))
+within t (Local.Chain (chain.CountAgain l u h)) is = let z = late_most t u in (omega arith, omega (arith, z))
 within t _ is = absurd is
 
 is_of_len : (t : ℕ) (l : Local ℕ) → before t l ≤ 5 → IsOfLen l
 unfolding before
-is_of_len t (Local.Single (Looking l)) low = tt
-is_of_len t (Local.Bounded (BoundedLocal.CountTail l)) low = tt
-is_of_len t (Local.Bounded (BoundedLocal.CountHead l u)) low = tt
-is_of_len t (Local.Bounded (BoundedLocal.CountAgain l u h)) low = tt
-is_of_len t (Local.Unbounded (chain.CountTail l)) low = tt
-is_of_len t (Local.Unbounded (chain.CountHead l u)) low = tt
-is_of_len t (Local.Unbounded (chain.CountAgain l u h)) low = tt
+is_of_len t (Local.Slot (Looking l)) low = tt
+is_of_len t (Local.Ring (RingLocal.CountTail l)) low = tt
+is_of_len t (Local.Ring (RingLocal.CountHead l u)) low = tt
+is_of_len t (Local.Ring (RingLocal.CountAgain l u h)) low = tt
+is_of_len t (Local.Chain (chain.CountTail l)) low = tt
+is_of_len t (Local.Chain (chain.CountHead l u)) low = tt
+is_of_len t (Local.Chain (chain.CountAgain l u h)) low = tt
 is_of_len t _ low = absurd (omega (arith, low))
 
 -- what a kind of queue owes: a step of `len` brings it nearer to its reply, where it leaves the tail
@@ -125,6 +125,6 @@ chain_looks ok s x (links.count_again l t h count none small seen) is goes = aga
 chain_looks ok s x _ is goes = absurd is
 
 pub len_waits : (T : Type 0) → LenWaitsForNobody T
-len_waits T Kind.Single can small parties = few T Kind.Single (single_rules T) parties (λ busy ok s Q g p r x o f is goes. slot_looks ok s x f.here is goes)
+len_waits T Kind.Single can small parties = few T Kind.Single (slot_rules T) parties (λ busy ok s Q g p r x o f is goes. slot_looks ok s x f.here is goes)
 len_waits T (Kind.Bounded n) can small parties = few T (Kind.Bounded n) (ring_rules n (can, ltb-false MAX_CAPACITY n small)) parties (λ busy ok s Q g p r x o f is goes. ring_looks ok s x f.here is goes)
 len_waits T Kind.Unbounded can small parties = few T Kind.Unbounded (chain_rules T) parties (λ busy ok s Q g p r x o f is goes. chain_looks ok s x f.here is goes)

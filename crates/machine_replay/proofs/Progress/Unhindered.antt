@@ -2,15 +2,15 @@
 use Rattle.std.proofs.Common.{◌≡◌, ℕ, false, IsSome, List, ◌∷◌}
 use Rattle.std.proofs.lemmas.Bool.{ltb-false}
 use Rattle.machine_replay.specs.{Vocabulary.Kind, Vocabulary.MAX_CAPACITY, Vocabulary.Event, Vocabulary.Told, Conforms.capacity_of, Replays.CanReplay, Replays.is_too_large, Progress.AppendsReply, Progress.HalfDoneNeverWaits, Progress.HalfDoneTakesNone, Progress.TakesReply, Progress.IsLeftToIt, Progress.IsSilent, Progress.SilenceIsShort, Progress.UnhinderedCallsReply, Waits.CallsWait}
-use Rattle.machine_replay.proofs.{Chain.Waits.chain_waits, Ring.Waits.ring_waits, Single.Waits.slot_waits, Single.Stretch.single_appends, Single.Stretch.single_takes, Single.Stretch.single_never_waits, Single.Stretch.single_takes_none, Single.Stretch.single_unhindered, Ring.Stretch.ring_appends, Ring.Stretch.ring_takes, Ring.Stretch.ring_never_waits, Ring.Stretch.ring_takes_none, Ring.Stretch.ring_unhindered, Chain.Taken.chain_takes, Chain.Appended.chain_appends, Chain.Early.chain_unhindered}
+use Rattle.machine_replay.proofs.{Chain.Waits.chain_waits, Ring.Waits.ring_waits, Slot.Waits.slot_waits, Slot.Stretch.slot_appends, Slot.Stretch.slot_takes, Slot.Stretch.slot_never_waits, Slot.Stretch.slot_takes_none, Slot.Stretch.slot_unhindered, Ring.Stretch.ring_appends, Ring.Stretch.ring_takes, Ring.Stretch.ring_never_waits, Ring.Stretch.ring_takes_none, Ring.Stretch.ring_unhindered, Chain.Taken.chain_takes, Chain.Appended.chain_appends, Chain.Early.chain_unhindered}
 
 pub unhindered_calls : {T : Type 0} → UnhinderedCallsReply T
-unhindered_calls {T} Kind.Single can small = single_unhindered T
+unhindered_calls {T} Kind.Single can small = slot_unhindered T
 unhindered_calls (Kind.Bounded n) can small = ring_unhindered n (can, ltb-false MAX_CAPACITY n small)
 unhindered_calls {T} Kind.Unbounded can small = chain_unhindered T
 
 pub half_done_calls : (T : Type 0) → HalfDoneNeverWaits T
-half_done_calls T Kind.Single can small capped = single_never_waits T
+half_done_calls T Kind.Single can small capped = slot_never_waits T
 half_done_calls T (Kind.Bounded n) can small capped = ring_never_waits T n (can, ltb-false MAX_CAPACITY n small)
 half_done_calls T Kind.Unbounded can small capped = cc
 
@@ -19,7 +19,7 @@ left_alone p (e ∷ es) (t ∷ ts) silent = (λ own. silent.1, λ other. silent.
 left_alone p es ts silent = tt
 
 takes_none : (T : Type 0) (k : Kind) → CanReplay k → is_too_large k ≡ false → IsSome (capacity_of k) → HalfDoneTakesNone T k
-takes_none T Kind.Single can small capped = single_takes_none T
+takes_none T Kind.Single can small capped = slot_takes_none T
 takes_none T (Kind.Bounded n) can small capped = ring_takes_none T n (can, ltb-false MAX_CAPACITY n small)
 takes_none T Kind.Unbounded can small capped = cc
 
@@ -30,12 +30,12 @@ silence_is_short T = record {
 }
 
 pub appends_reply : (T : Type 0) → AppendsReply T
-appends_reply T Kind.Single can small = single_appends T
+appends_reply T Kind.Single can small = slot_appends T
 appends_reply T (Kind.Bounded n) can small = ring_appends T n (can, ltb-false MAX_CAPACITY n small)
 appends_reply T Kind.Unbounded can small = chain_appends T
 
 pub takes_reply : (T : Type 0) → TakesReply T
-takes_reply T Kind.Single can small = single_takes T
+takes_reply T Kind.Single can small = slot_takes T
 takes_reply T (Kind.Bounded n) can small = ring_takes T n (can, ltb-false MAX_CAPACITY n small)
 takes_reply T Kind.Unbounded can small = chain_takes T
 

@@ -1,7 +1,7 @@
 -- What a run told is what its events make, where the steps that tell of want of memory were refused their request.
 use Rattle.std.proofs.Common.{◌≡◌, ◌∙◌, ◌&&◌, not, ℕ, Bool, true, false, Option, Some, None, List, [], ◌∷◌, ◌++◌, length, refl, sym, ap, subst}
-use Rattle.queue_steps.specs.{BoundedNext.FitsRing, Next.CanNext, Next.next_of, declared.steps.bounded.BoundedLocal.BoundedLocal as ring, declared.steps.unbounded.UnboundedLocal.UnboundedLocal as chain}
-use Rattle.machine_replay.specs.Vocabulary.{Kind, Op, Answer, Local, PushKind, BoundedLocal, Event, Told, EffectKind, Peak, Begin, Step, Ran, Running}
+use Rattle.queue_steps.specs.{RingNext.FitsRing, Next.CanNext, Next.next_of, declared.steps.ring.RingLocal.RingLocal as ring, declared.steps.chain.ChainLocal.ChainLocal as chain}
+use Rattle.machine_replay.specs.Vocabulary.{Kind, Op, Answer, Local, PushKind, RingLocal, Event, Told, EffectKind, Peak, Begin, Step, Ran, Running}
 use Rattle.machine_replay.specs.{declared.machine_run.MachineRun.MachineRun, MachineRuns.Comes, MachineRuns.IsMachineRun, Peaks.opening_peak, Peaks.peak_after, Peaks.peaked, Played.as_told, Played.asks, Played.event_told, Played.is_request, Played.lacks_memory, Played.told_of, Played.world_after}
 use Rattle.machine_steps.specs.{Left.opening_world, Machine.CanHandle, Machine.event_of, Machine.world_of, Steps.CanReply, Steps.CanStep, Steps.after_touch, Steps.answer_to, Steps.carried_then, Steps.reply_after, Steps.step_of, World.World, World.call_at, World.stepped, World.stepped_if}
 use Rattle.machine_memory.specs.SharedMemory.{Shared, answered, asked, operated}
@@ -31,29 +31,29 @@ is_ask : (o : Op ℕ) → is_request o ≡ true → o ≡ Op.Ask
 is_ask Op.Ask e = refl
 is_ask o e = cc
 
-ring_granted : (n : ℕ) (l : BoundedLocal) (f : ℕ) → FitsRing n l (Answer.Granted f) → ⊥
+ring_granted : (n : ℕ) (l : RingLocal) (f : ℕ) → FitsRing n l (Answer.Granted f) → ⊥
 ring_granted n ring.Closing f fits = absurd fits
 ring_granted n l f fits = absurd fits
 
-ring_refused : (n : ℕ) (l : BoundedLocal) → (let a : Answer ℕ = Answer.Refused in FitsRing n l a) → ⊥
+ring_refused : (n : ℕ) (l : RingLocal) → (let a : Answer ℕ = Answer.Refused in FitsRing n l a) → ⊥
 ring_refused n ring.Closing fits = absurd fits
 ring_refused n l fits = absurd fits
 
 -- a call whose request is granted goes on
 granted_told : {T : Type 0} (k : Kind) (l : Local ℕ) (f : ℕ) (v : Option T) (e : Option EffectKind) → CanNext k l (Answer.Granted f) → lacks_memory (Ran e (reply_after (next_of k l (Answer.Granted f)) v)) ≡ false
-granted_told Kind.Unbounded (Local.Unbounded (chain.Asking p tail (Some block))) f v e can = refl
-granted_told Kind.Unbounded (Local.Unbounded (chain.Asking p tail None)) f v e can = refl
-granted_told (Kind.Bounded n) (Local.Bounded l) f v e can = absurd (ring_granted n l f can.1)
+granted_told Kind.Unbounded (Local.Chain (chain.Asking p tail (Some block))) f v e can = refl
+granted_told Kind.Unbounded (Local.Chain (chain.Asking p tail None)) f v e can = refl
+granted_told (Kind.Bounded n) (Local.Ring l) f v e can = absurd (ring_granted n l f can.1)
 granted_told Kind.Single (Local.Begin c) f v e can = absurd can
 granted_told _ _ f v e can = absurd can
 
 -- one whose request is refused ends with want of memory
 refused_told : {T : Type 0} (k : Kind) (l : Local ℕ) (v : Option T) (e : Option EffectKind) → CanNext k l Answer.Refused → CanReply (next_of k l Answer.Refused) v → lacks_memory (Ran e (reply_after (next_of k l Answer.Refused) v)) ≡ true
-refused_told Kind.Unbounded (Local.Unbounded (chain.Asking PushKind.Push tail block)) (Some v) e can replies = refl
-refused_told Kind.Unbounded (Local.Unbounded (chain.Asking PushKind.Force tail block)) (Some v) e can replies = refl
-refused_told Kind.Unbounded (Local.Unbounded (chain.Asking PushKind.Push tail block)) None e can replies = cc
-refused_told Kind.Unbounded (Local.Unbounded (chain.Asking PushKind.Force tail block)) None e can replies = cc
-refused_told (Kind.Bounded n) (Local.Bounded l) v e can replies = absurd (ring_refused n l can.1)
+refused_told Kind.Unbounded (Local.Chain (chain.Asking PushKind.Push tail block)) (Some v) e can replies = refl
+refused_told Kind.Unbounded (Local.Chain (chain.Asking PushKind.Force tail block)) (Some v) e can replies = refl
+refused_told Kind.Unbounded (Local.Chain (chain.Asking PushKind.Push tail block)) None e can replies = cc
+refused_told Kind.Unbounded (Local.Chain (chain.Asking PushKind.Force tail block)) None e can replies = cc
+refused_told (Kind.Bounded n) (Local.Ring l) v e can replies = absurd (ring_refused n l can.1)
 refused_told Kind.Single (Local.Begin c) v e can replies = absurd can
 refused_told _ _ v e can replies = absurd can
 

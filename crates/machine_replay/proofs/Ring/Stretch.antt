@@ -1,8 +1,8 @@
 -- A ring: a call that nobody hinders replies by its sixth step.
 use Rattle.std.proofs.Common.{ℕ, ◌+◌, ◌%◌, ◌<◌, ◌≤◌, ◌≡◌, ◌≢◌, ◌==◌, ◌||◌, ◌⊎◌, inl, inr, if◌then◌else◌, min, not, ◌∙◌, Bool, true, false, Option, Some, None, List, [], ◌∷◌, length, refl, sym, ap, subst, arith}
 use Rattle.std.proofs.{Math.Nat.min-eq_left, Math.Nat.min-eq_right, lemmas.Bool.ne_eqb, lemmas.Bool.Decides.eqb_tells, lemmas.Option.none-some}
-use Rattle.queue_steps.specs.{State.State, BoundedNext.lap_found, BoundedNext.loads, BoundedNext.push_stamp_found, Words.IsRing, Words.position_of, Words.is_shut, Words.slot_at, Words.stamp_filled, Words.stamp_free, Words.tail_of, Next.next_of}
-use Rattle.machine_replay.specs.Vocabulary.{Call, Effect, Kind, Word, Op, Touch, Local, Next, PushKind, BoundedLocal, TAIL_STEP, Running}
+use Rattle.queue_steps.specs.{State.State, RingNext.lap_found, RingNext.loads, RingNext.push_stamp_found, Words.IsRing, Words.position_of, Words.is_shut, Words.slot_at, Words.stamp_filled, Words.stamp_free, Words.tail_of, Next.next_of}
+use Rattle.machine_replay.specs.Vocabulary.{Call, Effect, Kind, Word, Op, Touch, Local, Next, PushKind, RingLocal, TAIL_STEP, Running}
 use Rattle.queue_laws.specs.{Common.Effects.with_effect, Common.Stand.Stand, Ring.RingOpening.opening_ring, Ring.RingWords.Codes, Ring.RingWords.stamp_in}
 use Rattle.queue_laws.proofs.{Common.Ranks.either_small, Common.Tails.position_tail, Common.Tails.shut_tail, Ring.RingStart.holds_none, Ring.RingStepOk.NextOk, Ring.RingStepOk.IsQuiet, Ring.RingRanks.rank, Ring.RingRanks.rank_some, Ring.RingSlots.nobody, Ring.RingTransitions.in_ring, Ring.RingStep.step_good}
 use Rattle.machine_replay.proofs.{Engine.StandOf.running_of, Engine.Plain.plain-step, Ring.Coded.part, Ring.Coded.same_step, Ring.Laws.RingHolds, Ring.Laws.RingIdle, Ring.Laws.RingFits, Ring.Laws.ring_steps, Ring.Opening.ring_opens, Ring.Opening.ring_all_idle, Progress.Appended.HasAppend, Progress.Appended.appends_reply, Progress.Taken.HasTake, Progress.Taken.takes_reply, Progress.Stretch.Rules, Progress.Stretch.Paces, Progress.Stretch.unhindered, Progress.Stretch.never_waits, Progress.Stretch.waits_take_none}
@@ -20,7 +20,7 @@ ring_by A head tail closed = record { head = head; tail = tail; closed = closed;
 -- how many steps a call has before it hangs on the words alone
 by_words : {A : Type 0} (cap : ℕ) (r : Ring A) (l : Local ℕ) → rank cap r l ≡ rank cap (ring_by A r.head r.tail r.closed) l
 unfolding ring_by
-by_words cap r (Local.Bounded (BoundedLocal.PushTail d)) = refl
+by_words cap r (Local.Ring (RingLocal.PushTail d)) = refl
 by_words cap r l = refl
 
 -- by the machine's words
@@ -59,17 +59,17 @@ after_stamp : {A : Type 0} (cap : ℕ) (s : Shared A) (d : PushKind) (t stamp : 
     → running_after (push_stamp_found cap d t stamp) v ≡ Some x → far cap s x.local ≤ 5
 unfolding far ring_by
 after_stamp {A} cap s d t stamp v x lapped goes =
-    elim (stamp == stamp_free (position_of t)) as (λ b. running_after (if b then claims else (if stamp + cap == stamp_filled (position_of t) then lap_found cap d t else loads (BoundedLocal.PushTail d) Word.Tail)) v ≡ Some x → far cap s x.local ≤ 5) [
-      | true ↦ λ e. let same : record { local = Local.Bounded (BoundedLocal.Claiming d t); touch = Touch.Nothing; op = Op.Exchange Word.Tail t (t + TAIL_STEP); carried = v } ≡ x = cc in
+    elim (stamp == stamp_free (position_of t)) as (λ b. running_after (if b then claims else (if stamp + cap == stamp_filled (position_of t) then lap_found cap d t else loads (RingLocal.PushTail d) Word.Tail)) v ≡ Some x → far cap s x.local ≤ 5) [
+      | true ↦ λ e. let same : record { local = Local.Ring (RingLocal.Claiming d t); touch = Touch.Nothing; op = Op.Exchange Word.Tail t (t + TAIL_STEP); carried = v } ≡ x = cc in
           subst (λ y. far cap s y.local ≤ 5) same (either_small (position_of t == position_of s.tail) 2 5 5 (omega arith) (omega arith))
       | false ↦ λ e.
-          let at_tail : running_after (loads (BoundedLocal.PushTail d) Word.Tail) v ≡ Some x = rw lapped at e in
-          let same : record { local = Local.Bounded (BoundedLocal.PushTail d); touch = Touch.Nothing; op = Op.Load Word.Tail; carried = v } ≡ x = cc in
+          let at_tail : running_after (loads (RingLocal.PushTail d) Word.Tail) v ≡ Some x = rw lapped at e in
+          let same : record { local = Local.Ring (RingLocal.PushTail d); touch = Touch.Nothing; op = Op.Load Word.Tail; carried = v } ≡ x = cc in
           subst (λ y. far cap s y.local ≤ 5) same (omega arith)
     ] goes
   where
     claims : Next ℕ
-    claims = Next.Step (Local.Bounded (BoundedLocal.Claiming d t)) Touch.Nothing (Op.Exchange Word.Tail t (t + TAIL_STEP))
+    claims = Next.Step (Local.Ring (RingLocal.Claiming d t)) Touch.Nothing (Op.Exchange Word.Tail t (t + TAIL_STEP))
 
 -- how many steps a call has before it, but for a stamp that is never found
 abbrev near : ℕ → ℕ
@@ -114,7 +114,7 @@ falls_at {cap = cap} {r = r} {who = who} ok s x (push_stamp d v t none saw) fine
           let wide : 0 < cap = (let w = fine.ring.0 in omega arith) in
           let ne = not_lapped cap r.head r.tail (position_of t) i r.items r.coming (r.cells i) wide fine.room past (fine.cell i lt) (λ w e. nobody r who none quiet w i e) in
           let late = ne_eqb (word_at s (Word.Stamp i) + cap) (position_of t + 1) (λ e. ne (ap (λ n. n + cap) (sym (codes.stamp i lt)) ∙ e)) in
-          stale_falls _ _ (after_stamp cap (step_of (Kind.Bounded cap) ok s (record { local = Local.Bounded (BoundedLocal.PushStamp d t); touch = Touch.Nothing; op = Op.Load (Word.Stamp (slot_at cap (position_of t))); carried = Some v })).shared d t (word_at s (Word.Stamp i)) (Some v) x late goes) (rw other.0 (omega arith))
+          stale_falls _ _ (after_stamp cap (step_of (Kind.Bounded cap) ok s (record { local = Local.Ring (RingLocal.PushStamp d t); touch = Touch.Nothing; op = Op.Load (Word.Stamp (slot_at cap (position_of t))); carried = Some v })).shared d t (word_at s (Word.Stamp i)) (Some v) x late goes) (rw other.0 (omega arith))
     ]
 falls_at {cap = cap} ok s x (claiming d v t none saw free) fine codes quiet goes less = near_falls _ _ less (either_small (position_of t == position_of s.tail) 2 5 6 (omega arith) (omega arith))
 falls_at {cap = cap} ok s x (push_head v t none saw) fine codes quiet goes less = near_falls _ _ less (either_small (s.head + cap == position_of t) 1 6 6 (omega arith) (omega arith))

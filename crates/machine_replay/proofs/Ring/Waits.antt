@@ -1,8 +1,8 @@
 -- A ring: who waits for whom, step by step.
 use Rattle.std.proofs.Common.{ℕ, ◌+◌, ◌%◌, ◌<◌, ◌≤◌, ◌≡◌, ◌≢◌, ◌==◌, ◌⊎◌, inl, inr, ◌∙◌, if◌then◌else◌, Bool, true, false, Option, Some, None, List, length, refl, sym, ap, subst, arith}
 use Rattle.std.proofs.lemmas.{Bool.eq-eqb, Bool.Decides.eqb_tells, Option.none-some}
-use Rattle.queue_steps.specs.{State.State, BoundedNext.push_stamp_found, BoundedNext.pop_stamp_found, Words.IsRing, Words.position_of, Words.slot_at}
-use Rattle.machine_replay.specs.Vocabulary.{Kind, Word, Op, Touch, Local, Next, PushKind, BoundedLocal, Running}
+use Rattle.queue_steps.specs.{State.State, RingNext.push_stamp_found, RingNext.pop_stamp_found, Words.IsRing, Words.position_of, Words.slot_at}
+use Rattle.machine_replay.specs.Vocabulary.{Kind, Word, Op, Touch, Local, Next, PushKind, RingLocal, Running}
 use Rattle.queue_laws.proofs.{Common.Tails.position_tail, Ring.RingStart.holds_none, Ring.RingCells.together, Ring.RingCells.wraps, Ring.RingTransitions.in_ring}
 use Rattle.queue_laws.specs.{Common.Stand.Stand, Ring.RingAt.At, Ring.RingAt.push_stamp, Ring.RingAt.filling, Ring.RingAt.arriving, Ring.RingAt.swapping, Ring.RingAt.pop_stamp, Ring.RingAt.emptying, Ring.RingWords.stamp_in}
 use Rattle.queue_laws.specs.Ring.RingCells.{Cell, Free, Written, Full, Read, Coming, Swapped, Ring, CellOk, owner}
@@ -14,16 +14,16 @@ use Rattle.machine_replay.proofs.{Progress.Beside.apart, Progress.Beside.beside,
 -- where a call stands that has a slot
 abbrev HolderAt : {A : Type 0} → Cell A → Local ℕ → Type 0
 HolderAt (Written q who v) l = IsToFill l
-HolderAt (Read q who x) l = l ≡ Local.Bounded BoundedLocal.Emptying
-HolderAt (Coming q who old v) l = (t : ℕ) × (l ≡ Local.Bounded (BoundedLocal.Arriving t))
-HolderAt (Swapped q who old v) l = l ≡ Local.Bounded BoundedLocal.Swapping
+HolderAt (Read q who x) l = l ≡ Local.Ring RingLocal.Emptying
+HolderAt (Coming q who old v) l = (t : ℕ) × (l ≡ Local.Ring (RingLocal.Arriving t))
+HolderAt (Swapped q who old v) l = l ≡ Local.Ring RingLocal.Swapping
 HolderAt x l = ⊥
 
 holds_at : {A : Type 0} {cap : ℕ} {r : Ring A} {who : ℕ} {ms : List (State A)} {was : Bool} {c : Stand A} (i : ℕ) → At cap r who ms was c → owner (r.cells i) ≡ Some who → HolderAt (r.cells i) c.local
-holds_at {r = r} i (filling d v q one) e = subst (λ c. HolderAt c (Local.Bounded (BoundedLocal.Filling d))) (sym (ap r.cells (one.1 i e) ∙ one.0)) tt
-holds_at {r = r} i (arriving old v t h below back one) e = subst (λ c. HolderAt c (Local.Bounded (BoundedLocal.Arriving t))) (sym (ap r.cells (one.1 i e) ∙ one.0)) (t, refl)
-holds_at {r = r} i (swapping old v h one) e = subst (λ c. HolderAt c (Local.Bounded BoundedLocal.Swapping)) (sym (ap r.cells (one.1 i e) ∙ one.0)) refl
-holds_at {r = r} i (emptying x h one) e = subst (λ c. HolderAt c (Local.Bounded BoundedLocal.Emptying)) (sym (ap r.cells (one.1 i e) ∙ one.0)) refl
+holds_at {r = r} i (filling d v q one) e = subst (λ c. HolderAt c (Local.Ring (RingLocal.Filling d))) (sym (ap r.cells (one.1 i e) ∙ one.0)) tt
+holds_at {r = r} i (arriving old v t h below back one) e = subst (λ c. HolderAt c (Local.Ring (RingLocal.Arriving t))) (sym (ap r.cells (one.1 i e) ∙ one.0)) (t, refl)
+holds_at {r = r} i (swapping old v h one) e = subst (λ c. HolderAt c (Local.Ring RingLocal.Swapping)) (sym (ap r.cells (one.1 i e) ∙ one.0)) refl
+holds_at {r = r} i (emptying x h one) e = subst (λ c. HolderAt c (Local.Ring RingLocal.Emptying)) (sym (ap r.cells (one.1 i e) ∙ one.0)) refl
 holds_at i x e = absurd (holds_none x refl i e)
 
 -- a party has the slot, and stands at such a step
@@ -31,7 +31,7 @@ abbrev Waits : {A : Type 0} → Cell A → (Local ℕ → Type 0) → Type 0
 Waits c Such = (who : ℕ) × (owner c ≡ Some who) × ((l : Local ℕ) → HolderAt c l → Such l)
 
 fills : (l : Local ℕ) → IsToFill l → IsPushToStamp l
-fills (Local.Bounded (BoundedLocal.Filling d)) a = tt
+fills (Local.Ring (RingLocal.Filling d)) a = tt
 fills _ a = absurd a
 
 module _ {A : Type 0} (cap head tail i : ℕ) (items : List A) (coming : Option A) (wide : 1 < cap) (count : head + length items ≡ tail) (room : tail ≤ head + cap) where
@@ -98,18 +98,18 @@ EqualTells a b = (((a == b) ≡ true) × (a ≡ b)) ⊎ (((a == b) ≡ false) ×
 
 -- the steps that a call comes from and goes back to, told apart by numbers
 abbrev stage : Local ℕ → ℕ
-stage (Local.Bounded (BoundedLocal.PushTail d)) = 1
-stage (Local.Bounded (BoundedLocal.PushStamp d tail)) = 2
-stage (Local.Bounded BoundedLocal.PopHead) = 3
-stage (Local.Bounded (BoundedLocal.PopStamp head)) = 4
+stage (Local.Ring (RingLocal.PushTail d)) = 1
+stage (Local.Ring (RingLocal.PushStamp d tail)) = 2
+stage (Local.Ring RingLocal.PopHead) = 3
+stage (Local.Ring (RingLocal.PopStamp head)) = 4
 stage _ = 0
 
 -- what a push does by the stamp that it finds: one step
-push_found : {A : Type 0} (n : ℕ) (d : PushKind) (t stamp : ℕ) (v : Option A) (x : Running A) → running_after (push_stamp_found n d t stamp) v ≡ Some x → x.local ≡ Local.Bounded (BoundedLocal.PushTail d)
+push_found : {A : Type 0} (n : ℕ) (d : PushKind) (t stamp : ℕ) (v : Option A) (x : Running A) → running_after (push_stamp_found n d t stamp) v ≡ Some x → x.local ≡ Local.Ring (RingLocal.PushTail d)
     → (stamp ≢ position_of t) × (stamp + n ≢ position_of t + 1)
 push_found {A} n d t stamp v x goes back = go (eqb_tells stamp (position_of t)) (eqb_tells (stamp + n) (position_of t + 1)) d goes back
   where
-    go : EqualTells stamp (position_of t) → EqualTells (stamp + n) (position_of t + 1) → (d : PushKind) → running_after (push_stamp_found n d t stamp) v ≡ Some x → x.local ≡ Local.Bounded (BoundedLocal.PushTail d) → (stamp ≢ position_of t) × (stamp + n ≢ position_of t + 1)
+    go : EqualTells stamp (position_of t) → EqualTells (stamp + n) (position_of t + 1) → (d : PushKind) → running_after (push_stamp_found n d t stamp) v ≡ Some x → x.local ≡ Local.Ring (RingLocal.PushTail d) → (stamp ≢ position_of t) × (stamp + n ≢ position_of t + 1)
     go (inr a) (inr b) d goes back = (a.1, b.1)
     go (inl a) b d goes back = let f = not_back x (rw a.0 at goes) back in absurd (apart stage _ _ refl f)
     go (inr a) (inl b) PushKind.Push goes back = let f = not_back x (rw (a.0, b.0) at goes) back in absurd (apart stage _ _ refl f)
@@ -120,15 +120,15 @@ other_way : {A : Type 0} (a b : ℕ) (m l : Next ℕ) (v : Option A) (y : Runnin
 other_way a b m l v y never goes = elim (eqb_tells a b) [ inl t ↦ absurd (never (rw t.0 at goes)) | inr t ↦ t.1 ]
 
 -- and two
-full_found : {A : Type 0} (n : ℕ) (d : PushKind) (t stamp : ℕ) (v : Option A) (s : Shared A) (x y : Running A) → s.tail ≡ t → running_after (push_stamp_found n d t stamp) v ≡ Some x → (x.local ≡ Local.Bounded (BoundedLocal.PushTail d) → ⊥)
-    → (step_of (Kind.Bounded n) true s x).call ≡ Some y → y.local ≡ Local.Bounded (BoundedLocal.PushTail d) → (stamp + n ≡ position_of t + 1) × (s.head + n ≢ position_of t)
+full_found : {A : Type 0} (n : ℕ) (d : PushKind) (t stamp : ℕ) (v : Option A) (s : Shared A) (x y : Running A) → s.tail ≡ t → running_after (push_stamp_found n d t stamp) v ≡ Some x → (x.local ≡ Local.Ring (RingLocal.PushTail d) → ⊥)
+    → (step_of (Kind.Bounded n) true s x).call ≡ Some y → y.local ≡ Local.Ring (RingLocal.PushTail d) → (stamp + n ≡ position_of t + 1) × (s.head + n ≢ position_of t)
 full_found {A} n d t stamp v s x y tail goes never on back = go (eqb_tells stamp (position_of t)) (eqb_tells (stamp + n) (position_of t + 1)) d goes never back
   where
     from : (z : Running A) → z ≡ x → (step_of (Kind.Bounded n) true s z).call ≡ Some y
     from z is = subst (λ u. (step_of (Kind.Bounded n) true s u).call ≡ Some y) (sym is) on
 
     go : EqualTells stamp (position_of t) → EqualTells (stamp + n) (position_of t + 1) → (d : PushKind) → running_after (push_stamp_found n d t stamp) v ≡ Some x
-        → (x.local ≡ Local.Bounded (BoundedLocal.PushTail d) → ⊥) → y.local ≡ Local.Bounded (BoundedLocal.PushTail d) → (stamp + n ≡ position_of t + 1) × (s.head + n ≢ position_of t)
+        → (x.local ≡ Local.Ring (RingLocal.PushTail d) → ⊥) → y.local ≡ Local.Ring (RingLocal.PushTail d) → (stamp + n ≡ position_of t + 1) × (s.head + n ≢ position_of t)
     go (inl a) b d goes never back =
         let is = same_call x (rw a.0 at goes) in
         let filled = rw (eq-eqb s.tail t tail) at (from _ is) in
@@ -142,7 +142,7 @@ full_found {A} n d t stamp v s x y tail goes never on back = go (eqb_tells stamp
     go (inr a) (inr b) d goes never back = absurd (never (let is = same_call x (rw (a.0, b.0) at goes) in ap (λ z. z.local) (sym is)))
 
 -- what a pop does by the stamp that it finds: one step
-pop_found : {A : Type 0} (h stamp : ℕ) (v : Option A) (x : Running A) → running_after (pop_stamp_found h stamp) v ≡ Some x → x.local ≡ Local.Bounded BoundedLocal.PopHead → (stamp ≢ h) × (stamp ≢ h + 1)
+pop_found : {A : Type 0} (h stamp : ℕ) (v : Option A) (x : Running A) → running_after (pop_stamp_found h stamp) v ≡ Some x → x.local ≡ Local.Ring RingLocal.PopHead → (stamp ≢ h) × (stamp ≢ h + 1)
 pop_found {A} h stamp v x goes back = go (eqb_tells stamp (h + 1)) (eqb_tells stamp h)
   where
     go : EqualTells stamp (h + 1) → EqualTells stamp h → (stamp ≢ h) × (stamp ≢ h + 1)
@@ -151,8 +151,8 @@ pop_found {A} h stamp v x goes back = go (eqb_tells stamp (h + 1)) (eqb_tells st
     go (inr a) (inl b) = let f = not_back x (rw (a.0, b.0) at goes) back in absurd (apart stage _ _ refl f)
 
 -- and two
-empty_found : {A : Type 0} (n h stamp : ℕ) (v : Option A) (s : Shared A) (x y : Running A) → s.head ≡ h → running_after (pop_stamp_found h stamp) v ≡ Some x → (x.local ≡ Local.Bounded BoundedLocal.PopHead → ⊥)
-    → (step_of (Kind.Bounded n) true s x).call ≡ Some y → y.local ≡ Local.Bounded BoundedLocal.PopHead → (stamp ≡ h) × (position_of s.tail ≢ h)
+empty_found : {A : Type 0} (n h stamp : ℕ) (v : Option A) (s : Shared A) (x y : Running A) → s.head ≡ h → running_after (pop_stamp_found h stamp) v ≡ Some x → (x.local ≡ Local.Ring RingLocal.PopHead → ⊥)
+    → (step_of (Kind.Bounded n) true s x).call ≡ Some y → y.local ≡ Local.Ring RingLocal.PopHead → (stamp ≡ h) × (position_of s.tail ≢ h)
 empty_found {A} n h stamp v s x y head goes never on back = go (eqb_tells stamp (h + 1)) (eqb_tells stamp h)
   where
     from : (z : Running A) → z ≡ x → (step_of (Kind.Bounded n) true s z).call ≡ Some y
@@ -169,12 +169,12 @@ empty_found {A} n h stamp v s x y head goes never on back = go (eqb_tells stamp 
     go (inr a) (inr b) = absurd (never (let is = same_call x (rw (a.0, b.0) at goes) in ap (λ z. z.local) (sym is)))
 
 -- what is read at the stamp's step
-push_reads : {A : Type 0} {cap : ℕ} {r : Ring A} {who : ℕ} {ms : List (State A)} {was : Bool} {c : Stand A} (d : PushKind) (q : ℕ) → At cap r who ms was c → c.local ≡ Local.Bounded (BoundedLocal.PushStamp d q)
+push_reads : {A : Type 0} {cap : ℕ} {r : Ring A} {who : ℕ} {ms : List (State A)} {was : Bool} {c : Stand A} (d : PushKind) (q : ℕ) → At cap r who ms was c → c.local ≡ Local.Ring (RingLocal.PushStamp d q)
     → (c.touch ≡ Touch.Nothing) × (c.op ≡ Op.Load (Word.Stamp (slot_at cap (position_of q))))
 push_reads {cap = cap} d q (push_stamp e v t none saw) is = let same : t ≡ q = cc in (refl, ap (λ z. Op.Load (Word.Stamp (slot_at cap (position_of z)))) same)
 push_reads d q _ is = absurd (apart stage _ _ refl is)
 
-pop_reads : {A : Type 0} {cap : ℕ} {r : Ring A} {who : ℕ} {ms : List (State A)} {was : Bool} {c : Stand A} (q : ℕ) → At cap r who ms was c → c.local ≡ Local.Bounded (BoundedLocal.PopStamp q)
+pop_reads : {A : Type 0} {cap : ℕ} {r : Ring A} {who : ℕ} {ms : List (State A)} {was : Bool} {c : Stand A} (q : ℕ) → At cap r who ms was c → c.local ≡ Local.Ring (RingLocal.PopStamp q)
     → (c.touch ≡ Touch.Nothing) × (c.op ≡ Op.Load (Word.Stamp (slot_at cap q)))
 pop_reads {cap = cap} q (pop_stamp h none low) is = let same : h ≡ q = cc in (refl, ap (λ z. Op.Load (Word.Stamp (slot_at cap z))) same)
 pop_reads q _ is = absurd (apart stage _ _ refl is)
@@ -213,24 +213,24 @@ module _ {A : Type 0} (cap : ℕ) (ring : IsRing cap) (parties : ℕ) (w : World
   wide = ring.0
 
   -- the call that reads the stamp
-  pushing : (p : ℕ) (r : Running A) (d : PushKind) → call_at w p ≡ Some r → r.local ≡ Local.Bounded (BoundedLocal.PushStamp d w.shared.tail) → r ≡ reading (Local.Bounded (BoundedLocal.PushStamp d w.shared.tail)) (slot_at cap (position_of w.shared.tail)) r.carried
+  pushing : (p : ℕ) (r : Running A) (d : PushKind) → call_at w p ≡ Some r → r.local ≡ Local.Ring (RingLocal.PushStamp d w.shared.tail) → r ≡ reading (Local.Ring (RingLocal.PushStamp d w.shared.tail)) (slot_at cap (position_of w.shared.tail)) r.carried
   pushing p r d is at_it =
       let o = party-open A (Kind.Bounded cap) (ring_rules cap ring) parties h.b.busy w.shared h.b.queue h.sim.g p (call_at w p) (h.b.open_call p) r (h.sim.each p) is in
       let reads = push_reads d w.shared.tail o.2.here at_it in
-      as_reading r (Local.Bounded (BoundedLocal.PushStamp d w.shared.tail)) (slot_at cap (position_of w.shared.tail)) at_it reads.0 reads.1
+      as_reading r (Local.Ring (RingLocal.PushStamp d w.shared.tail)) (slot_at cap (position_of w.shared.tail)) at_it reads.0 reads.1
 
-  popping : (p : ℕ) (r : Running A) → call_at w p ≡ Some r → r.local ≡ Local.Bounded (BoundedLocal.PopStamp w.shared.head) → r ≡ reading (Local.Bounded (BoundedLocal.PopStamp w.shared.head)) (slot_at cap w.shared.head) r.carried
+  popping : (p : ℕ) (r : Running A) → call_at w p ≡ Some r → r.local ≡ Local.Ring (RingLocal.PopStamp w.shared.head) → r ≡ reading (Local.Ring (RingLocal.PopStamp w.shared.head)) (slot_at cap w.shared.head) r.carried
   popping p r is at_it =
       let o = party-open A (Kind.Bounded cap) (ring_rules cap ring) parties h.b.busy w.shared h.b.queue h.sim.g p (call_at w p) (h.b.open_call p) r (h.sim.each p) is in
       let reads = pop_reads w.shared.head o.2.here at_it in
-      as_reading r (Local.Bounded (BoundedLocal.PopStamp w.shared.head)) (slot_at cap w.shared.head) at_it reads.0 reads.1
+      as_reading r (Local.Ring (RingLocal.PopStamp w.shared.head)) (slot_at cap w.shared.head) at_it reads.0 reads.1
 
-  push_on : (p : ℕ) (r x : Running A) (d : PushKind) → call_at w p ≡ Some r → r.local ≡ Local.Bounded (BoundedLocal.PushStamp d w.shared.tail) → GoesOn (Kind.Bounded cap) w.shared r x
+  push_on : (p : ℕ) (r x : Running A) (d : PushKind) → call_at w p ≡ Some r → r.local ≡ Local.Ring (RingLocal.PushStamp d w.shared.tail) → GoesOn (Kind.Bounded cap) w.shared r x
       → running_after (push_stamp_found cap d w.shared.tail (word_at w.shared (Word.Stamp (slot_at cap (position_of w.shared.tail))))) r.carried ≡ Some x
   unfolding reading
   push_on p r x d is at_it goes = subst (λ z. (step_of (Kind.Bounded cap) true w.shared z).call ≡ Some x) (pushing p r d is at_it) goes
 
-  pop_on : (p : ℕ) (r x : Running A) → call_at w p ≡ Some r → r.local ≡ Local.Bounded (BoundedLocal.PopStamp w.shared.head) → GoesOn (Kind.Bounded cap) w.shared r x
+  pop_on : (p : ℕ) (r x : Running A) → call_at w p ≡ Some r → r.local ≡ Local.Ring (RingLocal.PopStamp w.shared.head) → GoesOn (Kind.Bounded cap) w.shared r x
       → running_after (pop_stamp_found w.shared.head (word_at w.shared (Word.Stamp (slot_at cap w.shared.head)))) r.carried ≡ Some x
   unfolding reading
   pop_on p r x is at_it goes = subst (λ z. (step_of (Kind.Bounded cap) true w.shared z).call ≡ Some x) (popping p r is at_it) goes
@@ -240,7 +240,7 @@ module _ {A : Type 0} (cap : ℕ) (ring : IsRing cap) (parties : ℕ) (w : World
   unfolding reading
   words_same r l i e = (ap (λ z. (step_of (Kind.Bounded cap) true w.shared z).shared.head) e, ap (λ z. (step_of (Kind.Bounded cap) true w.shared z).shared.tail) e)
 
-  push_row : (p : ℕ) (r x : Running A) (d : PushKind) → call_at w p ≡ Some r → r.local ≡ Local.Bounded (BoundedLocal.PushStamp d w.shared.tail) → GoesOn (Kind.Bounded cap) w.shared r x → x.local ≡ Local.Bounded (BoundedLocal.PushTail d) → IsBeside w p IsPushToStamp
+  push_row : (p : ℕ) (r x : Running A) (d : PushKind) → call_at w p ≡ Some r → r.local ≡ Local.Ring (RingLocal.PushStamp d w.shared.tail) → GoesOn (Kind.Bounded cap) w.shared r x → x.local ≡ Local.Ring (RingLocal.PushTail d) → IsBeside w p IsPushToStamp
   push_row p r x d is at_it goes back =
       let g = h.sim.g in let ok = h.sim.holds.ok in let q = position_of w.shared.tail in
       let f = push_found cap d w.shared.tail (word_at w.shared (Word.Stamp (slot_at cap q))) r.carried x (push_on p r x d is at_it goes) back in
@@ -248,7 +248,7 @@ module _ {A : Type 0} (cap : ℕ) (ring : IsRing cap) (parties : ℕ) (w : World
       (push_cell cap g.head g.tail (q % cap) g.items g.coming wide ok.count ok.room (g.cells (q % cap)) (ap (λ n. n % cap) tail_is) (ok.cell (q % cap) (in_ring cap q ring)) (λ e. f.0 (stamp_is q ∙ (e ∙ sym tail_is))) (λ e. f.1 (ap (λ n. n + cap) (stamp_is q) ∙ (e ∙ ap (λ n. n + 1) (sym tail_is)))))
       (λ such. subst IsPushToStamp at_it such)
 
-  full_row : (p : ℕ) (r x y : Running A) (d : PushKind) → call_at w p ≡ Some r → r.local ≡ Local.Bounded (BoundedLocal.PushStamp d w.shared.tail) → GoesOnTwice (Kind.Bounded cap) w.shared r x y → (x.local ≡ Local.Bounded (BoundedLocal.PushTail d) → ⊥) → y.local ≡ Local.Bounded (BoundedLocal.PushTail d) → IsBeside w p HasFront
+  full_row : (p : ℕ) (r x y : Running A) (d : PushKind) → call_at w p ≡ Some r → r.local ≡ Local.Ring (RingLocal.PushStamp d w.shared.tail) → GoesOnTwice (Kind.Bounded cap) w.shared r x y → (x.local ≡ Local.Ring (RingLocal.PushTail d) → ⊥) → y.local ≡ Local.Ring (RingLocal.PushTail d) → IsBeside w p HasFront
   full_row p r x y d is at_it goes never back =
       let g = h.sim.g in let ok = h.sim.holds.ok in let q = position_of w.shared.tail in
       let s = (step_of (Kind.Bounded cap) true w.shared r).shared in
@@ -259,7 +259,7 @@ module _ {A : Type 0} (cap : ℕ) (ring : IsRing cap) (parties : ℕ) (w : World
       (λ e. f.1 (ap (λ n. n + cap) (words.0 ∙ h.sim.holds.codes.head) ∙ (e ∙ sym tail_is))))
       (λ such. subst HasFront at_it such)
 
-  pop_row : (p : ℕ) (r x : Running A) → call_at w p ≡ Some r → r.local ≡ Local.Bounded (BoundedLocal.PopStamp w.shared.head) → GoesOn (Kind.Bounded cap) w.shared r x → x.local ≡ Local.Bounded BoundedLocal.PopHead → IsBeside w p HasLastLap
+  pop_row : (p : ℕ) (r x : Running A) → call_at w p ≡ Some r → r.local ≡ Local.Ring (RingLocal.PopStamp w.shared.head) → GoesOn (Kind.Bounded cap) w.shared r x → x.local ≡ Local.Ring RingLocal.PopHead → IsBeside w p HasLastLap
   pop_row p r x is at_it goes back =
       let g = h.sim.g in let ok = h.sim.holds.ok in let q = w.shared.head in let head = h.sim.holds.codes.head in
       let f = pop_found q (word_at w.shared (Word.Stamp (slot_at cap q))) r.carried x (pop_on p r x is at_it goes) back in
@@ -267,7 +267,7 @@ module _ {A : Type 0} (cap : ℕ) (ring : IsRing cap) (parties : ℕ) (w : World
       (pop_cell cap g.head g.tail (q % cap) g.items g.coming wide ok.count ok.room (g.cells (q % cap)) (ap (λ n. n % cap) head) (ok.cell (q % cap) (in_ring cap q ring)) (λ e. f.0 (stamp_is q ∙ (e ∙ sym head))) (λ e. f.1 (stamp_is q ∙ (e ∙ ap (λ n. n + 1) (sym head)))))
       (λ such. subst HasLastLap at_it such)
 
-  empty_row : (p : ℕ) (r x y : Running A) → call_at w p ≡ Some r → r.local ≡ Local.Bounded (BoundedLocal.PopStamp w.shared.head) → GoesOnTwice (Kind.Bounded cap) w.shared r x y → (x.local ≡ Local.Bounded BoundedLocal.PopHead → ⊥) → y.local ≡ Local.Bounded BoundedLocal.PopHead → IsBeside w p IsToFill
+  empty_row : (p : ℕ) (r x y : Running A) → call_at w p ≡ Some r → r.local ≡ Local.Ring (RingLocal.PopStamp w.shared.head) → GoesOnTwice (Kind.Bounded cap) w.shared r x y → (x.local ≡ Local.Ring RingLocal.PopHead → ⊥) → y.local ≡ Local.Ring RingLocal.PopHead → IsBeside w p IsToFill
   empty_row p r x y is at_it goes never back =
       let g = h.sim.g in let ok = h.sim.holds.ok in let q = w.shared.head in let head = h.sim.holds.codes.head in
       let s = (step_of (Kind.Bounded cap) true w.shared r).shared in

@@ -2,7 +2,7 @@
 use Rattle.std.proofs.Common.{◌≡◌, ◌⊎◌, ℕ, ◌+◌, ◌-◌, ◌/◌, ◌<◌, ◌≤◌, ◌^◌, List, length, Option, Some, None, arith, sym, ap, ◌∙◌, inl, inr}
 use Rattle.queue_steps.specs.{declared.sizes.TheConstants.BLOCK_SLOTS, Words.position_of, ChainWords.offset_at, ChainWords.block_at, ChainWords.items_before}
 use Rattle.mem_blocks.specs.{Web.Block, declared.block.BlockPtr.BlockPtr}
-use Rattle.own_cells.specs.{declared.chain.unbounded.Name.Name, OneChain.OwnChainCells.OwnChain, OneChain.OwnChainCells.piece_at, OneChain.LinkedBlocks.pieces_of, OneChain.OwnChainOwned.taken, OneChain.OwnChainOwned.accepted, OneChain.OwnChainOwned.IsBare, OneChain.OwnChainOwned.IsLaid, OneChain.OwnChainOwned.IsIdle, OneChain.ChainMemory.block_of, OneChain.ChainMemory.named_by, OneChain.ChainMemory.own_chain_in}
+use Rattle.own_cells.specs.{declared.chain.own_chain.Name.Name, OneChain.OwnChainCells.OwnChain, OneChain.OwnChainCells.piece_at, OneChain.OwnChain.pieces_of, OneChain.OwnChainOwned.taken, OneChain.OwnChainOwned.accepted, OneChain.OwnChainOwned.IsBare, OneChain.OwnChainOwned.IsLaid, OneChain.OwnChainOwned.IsIdle, OneChain.ChainMemory.block_of, OneChain.ChainMemory.named_by, OneChain.ChainMemory.own_chain_in}
 use Rattle.own_cells.proofs.OneChain.Pieces.{length-pieces_of}
 
 -- at no block's end the items before a position tell its block

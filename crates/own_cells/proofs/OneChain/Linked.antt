@@ -8,9 +8,9 @@ use denote.RawPtr.{Ptr, block_ptr, null_ptr, InBlock}
 use Rattle.mem_blocks.specs.Web.{Block, Home, Content, vacant, full, block, Lives, Rests, word_of, with_word, with_next, with_home, worded, linked, homed}
 use Rattle.mem_blocks.specs.declared.{sizes.TheConstants.SLOTS, chain.Chain.Chain, block.BlockPtr.BlockPtr as Place}
 use Rattle.queue_steps.specs.declared.steps.types.{Answer.Answer, Answer.Answer as answer, Link.Link as link, Op.Op as op, Word.Word as word}
-use Rattle.own_cells.specs.declared.chain.unbounded.{Name.Name, LinkedBlocks.TheInside.Inside}
+use Rattle.own_cells.specs.declared.chain.own_chain.{Name.Name, OwnChain.TheInside.Inside}
 use Rattle.own_cells.specs.OneChain.OwnChainCells.{Piece, OwnChain, Named, CanFollow, piece_of, with_piece, item_in, state_in, exchanged, own_chain_performed}
-use Rattle.own_cells.specs.OneChain.LinkedBlocks.{IsHeld, IsLinked, own_chain_view, name_at, linked_name, piece, pieces_of, contents, at_home}
+use Rattle.own_cells.specs.OneChain.OwnChain.{IsHeld, IsLinked, own_chain_view, name_at, linked_name, piece, pieces_of, contents, at_home}
 use Rattle.own_cells.proofs.OneChain.Pieces.{length-pieces_of, at-pieces_of, set-pieces_of, length-contents, set-contents, set-at_home, get-at_home}
 
 module _ {T : Type 0} where

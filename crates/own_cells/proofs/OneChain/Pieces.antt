@@ -5,7 +5,7 @@ use mathlib.Core.Option.{some}
 use lib.ListN.{get_elem?}
 use Rattle.mem_blocks.specs.Web.{Block, Home, Content, AllVacant, block}
 use Rattle.queue_steps.specs.Effect.{rest}
-use Rattle.own_cells.specs.OneChain.{OwnChainCells.Piece, OwnChainCells.piece_at, OwnChainCells.IsEmptied, OwnChainCells.fresh_piece, OwnChainCells.no_name, LinkedBlocks.piece, LinkedBlocks.pieces_from, LinkedBlocks.pieces_of, LinkedBlocks.content_of, LinkedBlocks.contents, LinkedBlocks.at_home}
+use Rattle.own_cells.specs.OneChain.{OwnChainCells.Piece, OwnChainCells.piece_at, OwnChainCells.IsEmptied, OwnChainCells.fresh_piece, OwnChainCells.no_name, OwnChain.piece, OwnChain.pieces_from, OwnChain.pieces_of, OwnChain.content_of, OwnChain.contents, OwnChain.at_home}
 
 module _ {T : Type 0} where
   length-pieces_from : (f : ℕ) (xs : List (Block T)) → length (pieces_from f xs) ≡ length xs

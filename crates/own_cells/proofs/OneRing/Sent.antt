@@ -14,7 +14,7 @@ use denote.Param.SendFields.{declared_send, declared_sync, as_row_send, as_row_s
 use Rattle.std.specs.declared.alloc.Allocator as Allocator
 use Rattle.std.specs.Mem.Slots.Ownership.{bytes_of, slot, slots, slot_lent, slots_lent}
 use Rattle.atomic_table.specs.contracts.owned.Closed.{the_row, the_type}
-use Rattle.own_cells.specs.contracts.ring.bounded.Ring.{the_row as ring_row, TheInside.the_type as ring_type}
+use Rattle.own_cells.specs.contracts.ring.own_ring.OwnRing.{the_row as ring_row, TheInside.the_type as ring_type}
 use Rattle.std.proofs.option.Option.TheSendSync.{the_send as option_send, the_sync as option_sync}
 
 in_block_sent : (p : Ptr) (F : Fml) → Keyless F → Keyless (in_block p F)

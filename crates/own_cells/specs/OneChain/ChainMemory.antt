@@ -2,7 +2,7 @@
 use Rattle.std.specs.Prelude.{ℕ, ◌-◌, ◌<◌, List, length, Option, Some, None}
 use Rattle.mem_blocks.specs.{Web.Block, Web.block, declared.block.BlockPtr.BlockPtr}
 use Rattle.queue_steps.specs.{Words.position_of, ChainWords.block_at}
-use Rattle.own_cells.specs.{declared.chain.unbounded.Name.Name, OneChain.OwnChainCells.OwnChain, OneChain.LinkedBlocks.IsHeld, OneChain.LinkedBlocks.pieces_of}
+use Rattle.own_cells.specs.{declared.chain.own_chain.Name.Name, OneChain.OwnChainCells.OwnChain, OneChain.OwnChain.IsHeld, OneChain.OwnChain.pieces_of}
 
 -- the number of the block that a word's position is in
 abbrev pub block_of : ℕ → ℕ

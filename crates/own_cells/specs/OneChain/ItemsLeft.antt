@@ -1,7 +1,7 @@
 -- What is left to read of a chain of blocks.
 use Rattle.std.specs.Prelude.{◌≡◌, ℕ, ◌-◌, ◌/◌, ◌%◌, ◌<◌, ◌≤◌, List, Option, Some}
 use Rattle.queue_steps.specs.declared.sizes.TheConstants.{BLOCK_SLOTS}
-use Rattle.own_cells.specs.{declared.chain.unbounded.Name.Name, OneChain.OwnChainCells.OwnChain, OneChain.OwnChainCells.piece_at, OneChain.OwnChainOwned.taken, OneChain.OwnChainOwned.accepted, OneChain.OwnChainOwned.items_from, OneChain.OwnChainOwned.IsIdle}
+use Rattle.own_cells.specs.{declared.chain.own_chain.Name.Name, OneChain.OwnChainCells.OwnChain, OneChain.OwnChainCells.piece_at, OneChain.OwnChainOwned.taken, OneChain.OwnChainOwned.accepted, OneChain.OwnChainOwned.items_from, OneChain.OwnChainOwned.IsIdle}
 
 module _ {T : Type 0} (r : OwnChain T) where
   -- the number of the next item, where so many are left

@@ -2,7 +2,7 @@
 use Rattle.std.specs.Prelude.{◌≡◌, ℕ, ◌+◌, ◌-◌, ◌^◌, ◌<◌, ◌≤◌, ◌==◌, ◌⊎◌, ◌≢◌, bit_or, List, [], ◌∷◌, ◌++◌, length, replicate, slice_set, get_or, Option, Some, None, IsSome, if◌then◌else◌}
 use denote.RawPtr.{null_ptr}
 use Rattle.queue_steps.specs.{declared.sizes.TheConstants.BLOCK_SLOTS, declared.steps.types.Kind.Kind, declared.steps.types.Kind.Kind as kind, declared.steps.types.Answer.Answer, declared.steps.types.Answer.Answer as answer, declared.steps.types.Link.Link as link, declared.steps.types.Op.Op, declared.steps.types.Op.Op as op, declared.steps.types.Word.Word as word, declared.steps.types.Touch.Touch, declared.steps.types.Touch.Touch as touch, Effect.rest}
-use Rattle.own_cells.specs.declared.chain.unbounded.Name.{Name}
+use Rattle.own_cells.specs.declared.chain.own_chain.Name.{Name}
 
 -- a block of the chain: its name, the one behind it once they are linked, and the state and the content of each slot
 pub record Piece (T : Type 0) : Type 0 where

@@ -1,7 +1,7 @@
 -- The queue that a chain of blocks holds. The item of number n, counted from the first that was ever accepted, is in the block n / BLOCK_SLOTS at the slot n % BLOCK_SLOTS.
 use Rattle.std.specs.Prelude.{◌≡◌, ◌⊎◌, ℕ, zero, suc, ◌+◌, ◌-◌, ◌*◌, ◌/◌, ◌%◌, ◌<◌, ◌≤◌, bit_or, List, [], length, Option, Some, None}
-use Rattle.queue_steps.specs.{declared.sizes.TheConstants.LIMIT, declared.sizes.TheConstants.BLOCK_SLOTS, declared.steps.unbounded.TheConstants.WRITE, declared.steps.unbounded.TheConstants.READ, State.State, Sequential.Owned, Words.position_of, Words.is_shut, ChainWords.offset_of, ChainWords.items_before}
-use Rattle.own_cells.specs.{declared.chain.unbounded.Name.Name, OneRing.RingOwned.put_in, OneChain.OwnChainCells.Piece, OneChain.OwnChainCells.OwnChain, OneChain.OwnChainCells.piece_at, OneChain.OwnChainCells.state_in, OneChain.OwnChainCells.item_in}
+use Rattle.queue_steps.specs.{declared.sizes.TheConstants.LIMIT, declared.sizes.TheConstants.BLOCK_SLOTS, declared.steps.chain.TheConstants.WRITE, declared.steps.chain.TheConstants.READ, State.State, Sequential.Owned, Words.position_of, Words.is_shut, ChainWords.offset_of, ChainWords.items_before}
+use Rattle.own_cells.specs.{declared.chain.own_chain.Name.Name, OneRing.RingOwned.put_in, OneChain.OwnChainCells.Piece, OneChain.OwnChainCells.OwnChain, OneChain.OwnChainCells.piece_at, OneChain.OwnChainCells.state_in, OneChain.OwnChainCells.item_in}
 
 -- how many items were taken, and how many were accepted
 abbrev pub taken : {T : Type 0} → OwnChain T → ℕ

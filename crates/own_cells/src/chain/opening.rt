@@ -5,7 +5,7 @@ ghost use Rattle.queue_steps.specs.State.{start};
 ghost use Rattle.queue_steps.specs.declared.sizes.TheConstants.{LIMIT};
 ghost use Rattle.own_cells.specs.OneChain.ChainMemory.{block_of as spec_block_of};
 
-use crate::chain::unbounded::{LinkedBlocks, Name};
+use crate::chain::own_chain::{Name, OwnChain};
 use mem_blocks::block::Loose;
 use mem_blocks::chain::Chain;
 use mem_blocks::item::{Item, Place};
@@ -22,7 +22,7 @@ fn block_of(word: u64) -> u64
     position_of(word) / BLOCK_POSITIONS
 }
 
-impl<T, A: Allocator> LinkedBlocks<T, A> {
+impl<T, A: Allocator> OwnChain<T, A> {
     ghost use Rattle.std.specs.Prelude.{None, []};
     ghost use Rattle.own_cells.specs.OneChain.OwnChainOwned.{IsIdle, own_chain_owned, own_chain_queue};
     ghost use Rattle.own_cells.specs.OneChain.ChainMemory.{AreHeld, own_chain_in};
@@ -33,7 +33,7 @@ impl<T, A: Allocator> LinkedBlocks<T, A> {
         ensures empty { own_chain_owned result ≡ fresh None }
     {
         let chain = Chain::empty(&alloc);
-        LinkedBlocks {
+        OwnChain {
             alloc,
             chain,
             head: 0,
@@ -65,7 +65,7 @@ impl<T, A: Allocator> LinkedBlocks<T, A> {
         }
         let word = (accepted / BLOCK_SLOTS * BLOCK_POSITIONS + offset) * TAIL_STEP;
         let name = Name { number: 0, link };
-        Ok(LinkedBlocks {
+        Ok(OwnChain {
             alloc,
             chain,
             head: word,
@@ -108,7 +108,7 @@ impl<T, A: Allocator> LinkedBlocks<T, A> {
                 link,
             }),
         };
-        LinkedBlocks {
+        OwnChain {
             alloc,
             chain,
             head,
@@ -126,7 +126,7 @@ impl<T, A: Allocator> LinkedBlocks<T, A> {
         requires idle { IsIdle self }
         requires empty { (own_chain_queue self).items ≡ [] }
     {
-        let LinkedBlocks {
+        let OwnChain {
             alloc,
             mut chain,
             head: _,

@@ -1,13 +1,13 @@
 // The operations on a chain of blocks: on its slots, its words and its links, and the request for a block.
 ghost use Rattle.std.specs.Prelude.{◌≡◌};
 
-use crate::chain::unbounded::{LinkedBlocks, Name, Spare};
+use crate::chain::own_chain::{Name, OwnChain, Spare};
 use mem_blocks::block::Loose;
 use mem_blocks::item::Item;
 use queue_steps::steps::{Answer, Link, Word};
 use std::alloc::{AllocError, Allocator};
 
-impl<T, A: Allocator> LinkedBlocks<T, A> {
+impl<T, A: Allocator> OwnChain<T, A> {
     ghost use Rattle.std.specs.Prelude.{Some, length};
     ghost use Rattle.queue_steps.specs.declared.steps.types.Answer.TheVariants.{Found, Linked, Done};
     ghost use Rattle.queue_steps.specs.declared.steps.types.Op.TheVariants.{Load, Or, LoadLink, StoreLink, Ask};

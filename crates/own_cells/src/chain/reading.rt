@@ -5,7 +5,7 @@ ghost use Rattle.std.specs.Map.Iter.{TakesFirst, deref};
 ghost use Rattle.queue_steps.specs.Words.{position_of as spec_position_of};
 ghost use Rattle.queue_steps.specs.ChainWords.{items_before as spec_items_before};
 
-use crate::chain::unbounded::{LinkedBlocks, Name};
+use crate::chain::own_chain::{Name, OwnChain};
 use queue_steps::sizes::{BLOCK_POSITIONS, BLOCK_SLOTS};
 use queue_steps::words::position_of;
 use std::alloc::Allocator;
@@ -16,7 +16,7 @@ use std::marker::Model;
 /// A contract sees their list.
 #[derive(Drop)]
 pub struct Items<'a, T, A: Allocator> {
-    blocks: &'a LinkedBlocks<T, A>,
+    blocks: &'a OwnChain<T, A>,
     /// The block of the next item, if there is one.
     block: Option<Name<T>>,
     /// The slot of the next item.
@@ -44,7 +44,7 @@ fn items_before(word: u64) -> u64
     position / BLOCK_POSITIONS * BLOCK_SLOTS + position % BLOCK_POSITIONS
 }
 
-impl<T, A: Allocator> LinkedBlocks<T, A> {
+impl<T, A: Allocator> OwnChain<T, A> {
     ghost use Rattle.std.specs.Prelude.{Some};
     ghost use Rattle.own_cells.specs.OneChain.OwnChainCells.{CanTake, CanFollow, piece_of, item_in};
     ghost use Rattle.own_cells.specs.OneChain.OwnChainOwned.{IsIdle, own_chain_queue};

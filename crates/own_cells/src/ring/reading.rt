@@ -5,7 +5,7 @@ ghost use Rattle.std.specs.Map.Iter.{TakesFirst, deref};
 ghost use Rattle.own_cells.specs.OneRing.RingCells.{item_at};
 ghost use Rattle.own_cells.specs.OneRing.RingOwned.{IsIdle, ring_queue};
 
-use crate::ring::bounded::Ring;
+use crate::ring::own_ring::OwnRing;
 use queue_steps::words::position_of;
 use std::alloc::Allocator;
 use std::marker::Model;
@@ -15,7 +15,7 @@ use std::marker::Model;
 /// A contract sees their list.
 #[derive(Drop)]
 pub struct Items<'a, T, A: Allocator> {
-    ring: &'a Ring<T, A>,
+    ring: &'a OwnRing<T, A>,
     /// The slot of the next item.
     slot: usize,
     /// How many items are still to be read.
@@ -33,7 +33,7 @@ impl<'a, T, A: Allocator> Model for Items<'a, T, A> {
     ghost invariant = { λ i. Reads i.ring.now i.slot i.left };
 }
 
-impl<T, A: Allocator> Ring<T, A> {
+impl<T, A: Allocator> OwnRing<T, A> {
     /// What is in a slot.
     fn content(&self, slot: usize) -> &Option<T>
         requires { slot < length self.now.slots }

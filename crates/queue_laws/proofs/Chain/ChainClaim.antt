@@ -1,7 +1,7 @@
 -- The steps of a push that change the chain: the first block, the exchange of the tail, the next block, and the write.
 use Rattle.std.proofs.lemmas.Bool.Decides.{eqb_tells}
 use Rattle.queue_laws.specs.{Common.Vocabulary.Effect, Common.Vocabulary.Answer, Common.Vocabulary.PushKind, Common.Vocabulary.LIMIT, Common.Vocabulary.BLOCK_SLOTS, Common.Pushes.pushes, Chain.ChainPasses.Passes, Chain.ChainFacts.open_tail_of, Chain.ChainFacts.TailBlockIs, Chain.ChainFacts.IsNamed, Chain.ChainFacts.HasSpare, Chain.ChainFacts.SawTail, Chain.ChainFacts.Claimed, Chain.ChainAnswers.tail_word, Chain.ChainAnswers.tail_place, Chain.ChainAnswers.last_of, Chain.ChainAfter.if_installed, Chain.ChainAfter.if_claimed, Chain.ChainAfter.claimed_if}
-use Rattle.queue_steps.specs.{State.State, ChainWords.offset_of, declared.steps.unbounded.UnboundedLocal.UnboundedLocal as chain, Words.IsWord, UnboundedNext.lays, UnboundedNext.writes}
+use Rattle.queue_steps.specs.{State.State, ChainWords.offset_of, declared.steps.chain.ChainLocal.ChainLocal as chain, Words.IsWord, ChainNext.lays, ChainNext.writes}
 use Rattle.queue_laws.proofs.{Chain.ChainStepOk.NextOk, Chain.ChainStepOk.StepOk, Chain.ChainStepOk.still, Chain.ChainStepOk.silent, Chain.ChainStepOk.spare_gives, Common.Puts.put_ok, Common.Puts.put_same, Common.Tails.shut_tail, Common.Pushes.closed_push, Common.Pushes.appended_push, Chain.ChainPasses.passes_marked, Chain.ChainPasses.passes_appended, Chain.ChainPasses.passes_installed, Chain.ChainPasses.passes_displayed, Chain.ChainPassesLaying.passes_laid_out, Chain.ChainPassesLaying.passes_opened, Chain.ChainPassesLaying.passes_chained, Chain.ChainPassesLaying.passes_written, Chain.ChainFacts.named_stays, Chain.ChainAnswers.same_tail, Chain.ChainAnswers.tail_small, Chain.ChainHolds.after_install, Chain.ChainHolds.after_display, Chain.ChainHolds.after_append, Chain.ChainHolds.after_append_last, Chain.ChainHolds.after_lay, Chain.ChainHolds.after_open, Chain.ChainHolds.after_chain, Chain.ChainHolds.after_write, Chain.ChainPush.tail_goes, Chain.ChainPush.open_small}
 use Rattle.std.proofs.Common.{ℕ, ◌+◌, ◌-◌, ◌/◌, ◌<◌, ◌≤◌, ◌≡◌, ◌≢◌, ◌==◌, ◌⊎◌, inl, inr, zero, suc, Bool, true, false, Option, Some, None, IsSome, List, [], ◌∷◌, refl, sym, ap, subst, arith, ◌∙◌}
 use Rattle.queue_laws.specs.Chain.ChainCells.{Writing, Rests, Laying, Opening, LinkState, Unlinked, Linking, Showing, Spare, Chain, queue_of, BlocksOk, LinkOk, ChainOk, Write, Tail, Next, First, mover_of, HoldsOnly, Nothing}

@@ -1,7 +1,7 @@
 -- The step by which a pop finds the queue empty, and those of the calls that look at a chain, and of its close.
 use Rattle.std.proofs.Common.{ℕ, ◌+◌, ◌-◌, ◌*◌, ◌%◌, ◌≤◌, ◌≡◌, ◌≢◌, ◌==◌, ◌∙◌, ◌⊎◌, inl, inr, Bool, true, false, Some, None, List, [], ◌∷◌, length, refl, sym, ap, subst, arith}
 use Rattle.std.proofs.lemmas.Bool.{ne_eqb, eq-eqb, Decides.eqb_tells}
-use Rattle.queue_steps.specs.{State.State, Words.IsWord, Words.position_of, Words.is_shut, Words.tail_of, ChainWords.items_before, UnboundedNext.unbounded_next, Looks.call_of_look, Looks.reply_of_look, Looks.IsCount, declared.steps.unbounded.UnboundedLocal.UnboundedLocal as chain}
+use Rattle.queue_steps.specs.{State.State, Words.IsWord, Words.position_of, Words.is_shut, Words.tail_of, ChainWords.items_before, ChainNext.chain_next, Looks.call_of_look, Looks.reply_of_look, Looks.IsCount, declared.steps.chain.ChainLocal.ChainLocal as chain}
 use Rattle.queue_steps.proofs.LookLaws.{reply_filled, reply_tells, reply_right, count_waits}
 use Rattle.queue_laws.specs.{Common.Vocabulary.Call, Common.Vocabulary.Reply, Common.Vocabulary.Effect, Common.Vocabulary.Answer, Common.Vocabulary.Look, Common.Moments.SeenIn, Common.Moments.HeadWas, Common.Moments.HasItems, Chain.ChainCells.Chain, Chain.ChainCells.queue_of, Chain.ChainCells.ChainOk, Chain.ChainCells.HoldsOnly, Chain.ChainCells.Nothing, Chain.ChainAt.count_tail, Chain.ChainAt.count_head, Chain.ChainAt.count_again, Chain.ChainAt.empty_tail, Chain.ChainAnswers.tail_word, Chain.ChainAnswers.tail_place, Chain.ChainAnswers.head_word}
 use Rattle.queue_laws.proofs.{Common.Tails.shut_tail, Common.Moments.seen_map, Chain.ChainTransitions.mark_ok, Chain.ChainPasses.passes_marked, Chain.ChainAnswers.tail_items, Chain.ChainAnswers.tail_small, Chain.ChainAnswers.head_items, Chain.ChainAnswers.head_small, Chain.ChainStepOk.NextOk, Chain.ChainStepOk.StepOk, Chain.ChainStepOk.still}
@@ -35,7 +35,7 @@ good_count_again {A} c who ms g t h ok count none small seen =
     below (m ∷ ms) e (inl p) = let z = at e in let a = p.1 in let b = p.3 in omega arith
     below (m ∷ ms) e (inr s) = below ms e s
 
-    go : (((tail_word c == t) ≡ true) × (tail_word c ≡ t)) ⊎ (((tail_word c == t) ≡ false) × (tail_word c ≢ t)) → NextOk c who (queue_of c ∷ ms) (unbounded_next (chain.CountAgain g t h) (Answer.Found (tail_word c))) None (call_of_look g) []
+    go : (((tail_word c == t) ≡ true) × (tail_word c ≡ t)) ⊎ (((tail_word c == t) ≡ false) × (tail_word c ≢ t)) → NextOk c who (queue_of c ∷ ms) (chain_next (chain.CountAgain g t h) (Answer.Found (tail_word c))) None (call_of_look g) []
     go (inl e) =
         let many = items_before (position_of t) - items_before (position_of h) in
         rw e.0 (none, tt, (reply_of_look None many (is_shut t) g, reply_filled A None many (is_shut t) g, reply_tells A None many (is_shut t) g, λ z. inr (seen_map ms (λ m p. inl (reply_right m None many (is_shut t) g p.0 (let y = at e.1 in let a = p.1 in let b = p.2 in let d = p.3 in omega arith) (λ e. absurd (count_waits A g count e)))) seen)))

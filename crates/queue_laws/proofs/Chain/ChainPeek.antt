@@ -1,7 +1,7 @@
 -- Whether there is a block more behind the next one, and whether the chain is empty.
 use Rattle.std.proofs.Common.{ℕ, ◌+◌, ◌*◌, ◌/◌, ◌<◌, ◌≤◌, ◌≡◌, inl, inr, Bool, true, false, Some, None, List, [], ◌∷◌, subst, arith, refl}
 use Rattle.queue_laws.specs.{Common.Vocabulary.Call, Common.Vocabulary.Effect, Common.Vocabulary.Answer, Common.Vocabulary.BLOCK_SLOTS, Chain.ChainFacts.head_of, Chain.ChainFacts.Got, Chain.ChainAt.Either, Chain.ChainAt.IsBehind, Chain.ChainAt.passing, Chain.ChainAnswers.linked_of}
-use Rattle.queue_steps.specs.{State.State, declared.steps.unbounded.UnboundedLocal.UnboundedLocal as chain}
+use Rattle.queue_steps.specs.{State.State, declared.steps.chain.ChainLocal.ChainLocal as chain}
 use Rattle.queue_laws.specs.Chain.ChainCells.{Mover, Rests, Passing, LinkState, Linked, Chain, BlocksOk, LinkOk, FrontOk, ChainOk, Read, Head, HoldsOnly}
 use Rattle.queue_laws.proofs.Chain.ChainStepOk.{StepOk, still}
 

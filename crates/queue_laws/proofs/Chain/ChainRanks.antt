@@ -2,7 +2,7 @@
 use Rattle.std.proofs.Common.{ℕ, ◌+◌, ◌-◌, ◌<◌, ◌≤◌, ◌≡◌, ◌≢◌, ◌==◌, ◌∙◌, Bool, true, false, if◌then◌else◌, Option, Some, None, inl, inr, refl, ap, arith}
 use Rattle.std.proofs.lemmas.Bool.{eq-eqb, Decides.eqb_tells}
 use Rattle.queue_laws.specs.{Common.Vocabulary.Local, Common.Vocabulary.Next, Common.Vocabulary.BLOCK_SLOTS, Chain.ChainAnswers.tail_word, Chain.ChainAnswers.head_word}
-use Rattle.queue_steps.specs.declared.steps.unbounded.UnboundedLocal.{UnboundedLocal as chain}
+use Rattle.queue_steps.specs.declared.steps.chain.ChainLocal.{ChainLocal as chain}
 use Rattle.queue_laws.proofs.Common.Ranks.{either_small, either_some}
 use Rattle.queue_laws.specs.Chain.ChainCells.{Mover, Rests, Laying, Opening, Passer, Stands, Passing, Entering, Shown, Seen, Chain, LAST, Part, owner, mover_of, passer_of, HoldsOnly, Nothing}
 
@@ -30,31 +30,31 @@ walk_rank slot = LAST - slot + 1
 
 -- how many steps a call takes from here at most, while no other party holds a part: a word that it read may be another one now, and is the same once it has read again
 abbrev pub rank : {A : Type 0} → Chain A → Local ℕ → ℕ
-rank c (Local.Unbounded (chain.PushTail d spare)) = 10
-rank c (Local.Unbounded (chain.PushBlock d tail spare)) = 9 + lag (tail_word c) tail 5
-rank c (Local.Unbounded (chain.Asking d tail block)) = asking_rank c tail block
-rank c (Local.Unbounded (chain.Installing d tail fresh)) = if c.blocks == 0 then 7 + lag (tail_word c) tail 5 else 12
-rank c (Local.Unbounded (chain.Showing d tail block)) = 6 + lag (tail_word c) tail 5
-rank c (Local.Unbounded (chain.Claiming d tail block spare)) = 5 + lag (tail_word c) tail 5
-rank c (Local.Unbounded (chain.Laying d tail block fresh)) = 4
-rank c (Local.Unbounded (chain.Opening d tail block fresh)) = 3
-rank c (Local.Unbounded (chain.Chaining d tail block fresh)) = 2
-rank c (Local.Unbounded chain.PopHead) = BLOCK_SLOTS + 9
-rank c (Local.Unbounded (chain.PopBlock head)) = BLOCK_SLOTS + 8 + lag (head_word c) head 3
-rank c (Local.Unbounded (chain.PopTail head block)) = tail_rank c head block
-rank c (Local.Unbounded (chain.Taking head block)) = BLOCK_SLOTS + 6 + lag (head_word c) head 3
-rank c (Local.Unbounded (chain.Following head block)) = BLOCK_SLOTS + 5
-rank c (Local.Unbounded (chain.Peeking head block after)) = BLOCK_SLOTS + 4
-rank c (Local.Unbounded (chain.Passing head block more)) = BLOCK_SLOTS + 3
-rank c (Local.Unbounded (chain.Entering head block)) = BLOCK_SLOTS + 2
-rank c (Local.Unbounded (chain.Awaiting head block)) = BLOCK_SLOTS + 1
-rank c (Local.Unbounded (chain.Reading block slot)) = walk_rank slot
-rank c (Local.Unbounded (chain.Walking block slot)) = walk_rank slot
-rank c (Local.Unbounded (chain.Destroying block slot)) = walk_rank slot
-rank c (Local.Unbounded (chain.CountTail g)) = 3
-rank c (Local.Unbounded (chain.CountHead g tail)) = 2 + lag (tail_word c) tail 3
-rank c (Local.Unbounded (chain.CountAgain g tail head)) = 1 + lag (tail_word c) tail 3
-rank c (Local.Unbounded chain.EmptyHead) = 2
+rank c (Local.Chain (chain.PushTail d spare)) = 10
+rank c (Local.Chain (chain.PushBlock d tail spare)) = 9 + lag (tail_word c) tail 5
+rank c (Local.Chain (chain.Asking d tail block)) = asking_rank c tail block
+rank c (Local.Chain (chain.Installing d tail fresh)) = if c.blocks == 0 then 7 + lag (tail_word c) tail 5 else 12
+rank c (Local.Chain (chain.Showing d tail block)) = 6 + lag (tail_word c) tail 5
+rank c (Local.Chain (chain.Claiming d tail block spare)) = 5 + lag (tail_word c) tail 5
+rank c (Local.Chain (chain.Laying d tail block fresh)) = 4
+rank c (Local.Chain (chain.Opening d tail block fresh)) = 3
+rank c (Local.Chain (chain.Chaining d tail block fresh)) = 2
+rank c (Local.Chain chain.PopHead) = BLOCK_SLOTS + 9
+rank c (Local.Chain (chain.PopBlock head)) = BLOCK_SLOTS + 8 + lag (head_word c) head 3
+rank c (Local.Chain (chain.PopTail head block)) = tail_rank c head block
+rank c (Local.Chain (chain.Taking head block)) = BLOCK_SLOTS + 6 + lag (head_word c) head 3
+rank c (Local.Chain (chain.Following head block)) = BLOCK_SLOTS + 5
+rank c (Local.Chain (chain.Peeking head block after)) = BLOCK_SLOTS + 4
+rank c (Local.Chain (chain.Passing head block more)) = BLOCK_SLOTS + 3
+rank c (Local.Chain (chain.Entering head block)) = BLOCK_SLOTS + 2
+rank c (Local.Chain (chain.Awaiting head block)) = BLOCK_SLOTS + 1
+rank c (Local.Chain (chain.Reading block slot)) = walk_rank slot
+rank c (Local.Chain (chain.Walking block slot)) = walk_rank slot
+rank c (Local.Chain (chain.Destroying block slot)) = walk_rank slot
+rank c (Local.Chain (chain.CountTail g)) = 3
+rank c (Local.Chain (chain.CountHead g tail)) = 2 + lag (tail_word c) tail 3
+rank c (Local.Chain (chain.CountAgain g tail head)) = 1 + lag (tail_word c) tail 3
+rank c (Local.Chain chain.EmptyHead) = 2
 rank c _ = 1
 
 -- the most steps that a call has before it, wherever it stands
@@ -73,17 +73,17 @@ tail_small c head None = either_small (is_seen c.shown) (BLOCK_SLOTS + 10) 1 lon
 tail_small c head (Some block) = let x = lag_small (head_word c) head 3 in omega arith
 
 pub rank_small : {A : Type 0} (c : Chain A) (l : Local ℕ) → rank c l ≤ longest
-rank_small c (Local.Unbounded (chain.PushBlock d tail spare)) = let x = lag_small (tail_word c) tail 5 in omega arith
-rank_small c (Local.Unbounded (chain.Asking d tail block)) = asking_small c tail block
-rank_small c (Local.Unbounded (chain.Installing d tail fresh)) =
+rank_small c (Local.Chain (chain.PushBlock d tail spare)) = let x = lag_small (tail_word c) tail 5 in omega arith
+rank_small c (Local.Chain (chain.Asking d tail block)) = asking_small c tail block
+rank_small c (Local.Chain (chain.Installing d tail fresh)) =
     let x = lag_small (tail_word c) tail 5 in either_small (c.blocks == 0) (7 + lag (tail_word c) tail 5) 12 longest (omega arith) (omega arith)
-rank_small c (Local.Unbounded (chain.Showing d tail block)) = let x = lag_small (tail_word c) tail 5 in omega arith
-rank_small c (Local.Unbounded (chain.Claiming d tail block spare)) = let x = lag_small (tail_word c) tail 5 in omega arith
-rank_small c (Local.Unbounded (chain.PopBlock head)) = let x = lag_small (head_word c) head 3 in omega arith
-rank_small c (Local.Unbounded (chain.PopTail head block)) = tail_small c head block
-rank_small c (Local.Unbounded (chain.Taking head block)) = let x = lag_small (head_word c) head 3 in omega arith
-rank_small c (Local.Unbounded (chain.CountHead g tail)) = let x = lag_small (tail_word c) tail 3 in omega arith
-rank_small c (Local.Unbounded (chain.CountAgain g tail head)) = let x = lag_small (tail_word c) tail 3 in omega arith
+rank_small c (Local.Chain (chain.Showing d tail block)) = let x = lag_small (tail_word c) tail 5 in omega arith
+rank_small c (Local.Chain (chain.Claiming d tail block spare)) = let x = lag_small (tail_word c) tail 5 in omega arith
+rank_small c (Local.Chain (chain.PopBlock head)) = let x = lag_small (head_word c) head 3 in omega arith
+rank_small c (Local.Chain (chain.PopTail head block)) = tail_small c head block
+rank_small c (Local.Chain (chain.Taking head block)) = let x = lag_small (head_word c) head 3 in omega arith
+rank_small c (Local.Chain (chain.CountHead g tail)) = let x = lag_small (tail_word c) tail 3 in omega arith
+rank_small c (Local.Chain (chain.CountAgain g tail head)) = let x = lag_small (tail_word c) tail 3 in omega arith
 rank_small c l = omega arith
 
 asking_some : {A : Type 0} (c : Chain A) (tail : ℕ) (block : Option ℕ) → 0 < asking_rank c tail block
@@ -96,9 +96,9 @@ tail_some c head (Some block) = omega arith
 
 -- a call in progress has a step before it
 pub rank_some : {A : Type 0} (c : Chain A) (l : Local ℕ) → 0 < rank c l
-rank_some c (Local.Unbounded (chain.Asking d tail block)) = asking_some c tail block
-rank_some c (Local.Unbounded (chain.Installing d tail fresh)) = either_some (c.blocks == 0) (7 + lag (tail_word c) tail 5) 12 (omega arith) (omega arith)
-rank_some c (Local.Unbounded (chain.PopTail head block)) = tail_some c head block
+rank_some c (Local.Chain (chain.Asking d tail block)) = asking_some c tail block
+rank_some c (Local.Chain (chain.Installing d tail fresh)) = either_some (c.blocks == 0) (7 + lag (tail_word c) tail 5) 12 (omega arith) (omega arith)
+rank_some c (Local.Chain (chain.PopTail head block)) = tail_some c head block
 rank_some c l = omega arith
 
 -- the call replies, or goes on with fewer steps before it

@@ -2,8 +2,8 @@
 use Rattle.std.proofs.Common.{ℕ, ◌+◌, ◌/◌, ◌%◌, ◌<◌, ◌≡◌, ◌≢◌, ◌==◌, ◌∙◌, ◌⊎◌, inl, inr, Bool, true, false, if◌then◌else◌, Option, Some, None, refl, sym, ap, subst, arith, bit_and}
 use Rattle.std.proofs.lemmas.Bool.{ne_eqb, eq-eqb, Decides.eqb_tells}
 use Rattle.queue_laws.specs.{Common.Vocabulary.BLOCK_SLOTS, Common.Vocabulary.TAIL_STEP, Common.Vocabulary.WRITE, Chain.ChainFacts.place, Chain.ChainFacts.head_of, Chain.ChainFacts.HeadIs, Chain.ChainFacts.IsMore, Chain.ChainAnswers.tail_word, Chain.ChainAnswers.head_word, Chain.ChainAnswers.shown_of, Chain.ChainAnswers.linked_of, Chain.ChainAnswers.is_wrote, Chain.ChainAfter.taken_if}
-use Rattle.queue_steps.specs.{Words.position_of, ChainWords.block_at, ChainWords.offset_at, ChainWords.offset_of, UnboundedNext.chain_head_found, UnboundedNext.head_block_found, UnboundedNext.chain_pop_tail_found, UnboundedNext.takes, UnboundedNext.followed, UnboundedNext.written_found, UnboundedNext.is_last_slot}
-use Rattle.queue_steps.specs.UnboundedNext as steps
+use Rattle.queue_steps.specs.{Words.position_of, ChainWords.block_at, ChainWords.offset_at, ChainWords.offset_of, ChainNext.chain_head_found, ChainNext.head_block_found, ChainNext.chain_pop_tail_found, ChainNext.takes, ChainNext.followed, ChainNext.written_found, ChainNext.is_last_slot}
+use Rattle.queue_steps.specs.ChainNext as steps
 use Rattle.queue_laws.proofs.{Common.Tails.position_tail, Chain.ChainPlaces.place_offset, Chain.ChainTransitions.no_block, Chain.ChainAnswers.resting_word, Chain.ChainAnswers.standing_word, Chain.ChainPop.head_low, Chain.ChainRanks.lag, Chain.ChainRanks.is_seen, Chain.ChainRanks.tail_rank, Chain.ChainRanks.Falls, Chain.ChainRanks.lag_none, Chain.ChainRanks.IsQuiet, Chain.ChainRanks.unowned, Chain.ChainRanks.stands_if}
 use Rattle.queue_laws.specs.Chain.ChainCells.{Writer, Free, Writing, Wrote, Reading, Rests, Stands, Passing, LinkState, Unlinked, Linking, Linked, Shown, Hidden, Showing, Seen, Chain, ItemOk, BlocksOk, LinkOk, FrontOk, ShownOk, ChainOk, Part, Head, linker_of, shower_of, writer_of, HoldsOnly}
 

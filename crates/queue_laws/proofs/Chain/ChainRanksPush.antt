@@ -2,8 +2,8 @@
 use Rattle.std.proofs.Common.{ℕ, ◌+◌, ◌%◌, ◌<◌, ◌≡◌, ◌≢◌, ◌==◌, ◌∙◌, zero, suc, true, false, if◌then◌else◌, Option, Some, None, refl, sym, ap, arith}
 use Rattle.std.proofs.lemmas.Bool.{ne_eqb, eq-eqb}
 use Rattle.queue_laws.specs.{Common.Vocabulary.Local, Common.Vocabulary.PushKind, Common.Vocabulary.BLOCK_SLOTS, Chain.ChainFacts.place, Chain.ChainCells.Rests, Chain.ChainCells.Spare, Chain.ChainCells.Chain, Chain.ChainCells.Part, Chain.ChainCells.Tail, Chain.ChainCells.HoldsOnly, Chain.ChainTransitions.displayed, Chain.ChainTransitions.renamed, Chain.ChainAnswers.tail_word, Chain.ChainAnswers.last_of, Chain.ChainAfter.if_installed, Chain.ChainAfter.claimed_if}
-use Rattle.queue_steps.specs.{Words.position_of, ChainWords.offset_at, ChainWords.offset_of, UnboundedNext.chain_tail_found, UnboundedNext.tail_block_found, UnboundedNext.asks, UnboundedNext.claims, UnboundedNext.lays, UnboundedNext.writes, UnboundedNext.is_last_slot, declared.steps.unbounded.UnboundedLocal.UnboundedLocal as chain}
-use Rattle.queue_steps.specs.UnboundedNext as steps
+use Rattle.queue_steps.specs.{Words.position_of, ChainWords.offset_at, ChainWords.offset_of, ChainNext.chain_tail_found, ChainNext.tail_block_found, ChainNext.asks, ChainNext.claims, ChainNext.lays, ChainNext.writes, ChainNext.is_last_slot, declared.steps.chain.ChainLocal.ChainLocal as chain}
+use Rattle.queue_steps.specs.ChainNext as steps
 use Rattle.queue_laws.proofs.{Common.Tails.position_tail, Chain.ChainPlaces.place_offset, Chain.ChainAnswers.resting_word, Chain.ChainPush.tail_ways, Chain.ChainRanks.lag, Chain.ChainRanks.asking_rank, Chain.ChainRanks.rank, Chain.ChainRanks.Falls, Chain.ChainRanks.lag_none, Chain.ChainRanks.IsQuiet, Chain.ChainRanks.unowned, Chain.ChainRanks.rests_if}
 
 -- nobody moves the tail
@@ -45,10 +45,10 @@ granted_falls c who d tail (Some block) f = omega arith
 
 -- U4: the first block is installed
 pub installing_falls : {A : Type 0} (c : Chain A) (who : ℕ) (d : PushKind) (tail f : ℕ)
-    → Falls (if_installed c who f c.blocks) (steps.installed d tail f (last_of c.names c.blocks)) (rank c (Local.Unbounded (chain.Installing d tail f)))
+    → Falls (if_installed c who f c.blocks) (steps.installed d tail f (last_of c.names c.blocks)) (rank c (Local.Chain (chain.Installing d tail f)))
 installing_falls {A} c who d tail f = go c.blocks refl
   where
-    go : (n : ℕ) → c.blocks ≡ n → Falls (if_installed c who f n) (steps.installed d tail f (last_of c.names n)) (rank c (Local.Unbounded (chain.Installing d tail f)))
+    go : (n : ℕ) → c.blocks ≡ n → Falls (if_installed c who f n) (steps.installed d tail f (last_of c.names n)) (rank c (Local.Chain (chain.Installing d tail f)))
     go zero none = rw (eq-eqb c.blocks 0 none) (omega arith)
     go (suc b) some = rw (ne_eqb c.blocks 0 (λ none. absurd (omega (arith, some, none)))) (omega arith)
 

@@ -1,14 +1,14 @@
 -- Each step of a call on a chain leaves fewer steps before it while no other party holds a part of the chain, and each step of a wait-free call always.
 use Rattle.std.proofs.Common.{true, ℕ, ◌+◌, ◌/◌, ◌%◌, ◌<◌, ◌≤◌, ◌≡◌, ◌==◌, not, ◌∙◌, inl, inr, List, refl, sym, ap, subst, arith, bit_and, false}
 use Rattle.queue_laws.specs.{Common.Vocabulary.Answer, Common.Vocabulary.BLOCK_SLOTS, Common.Vocabulary.READ, Common.Vocabulary.DESTROY, Common.Stand.Stand, Chain.ChainFacts.head_of, Chain.ChainFacts.open_tail_of, Chain.ChainAnswers.Answers, Chain.ChainAnswers.IsState, Chain.ChainAnswers.tail_word, Chain.ChainAnswers.is_wrote, Chain.ChainAfter.if_read, Chain.ChainAfter.if_walked, Chain.ChainAfter.if_begun, Chain.ChainAfter.if_destroyed, Chain.ChainAfter.chain_of, Chain.ChainAfter.after_of}
-use Rattle.queue_steps.specs.{WaitFree.is_wait_free, State.State, ChainWords.offset_of, UnboundedNext.unbounded_next}
+use Rattle.queue_steps.specs.{WaitFree.is_wait_free, State.State, ChainWords.offset_of, ChainNext.chain_next}
 use Rattle.queue_laws.proofs.{Common.Pushes.never_push, Chain.ChainReads.own_item, Chain.ChainAnswers.head_offset, Chain.ChainRanks.rank, Chain.ChainRanks.Falls, Chain.ChainRanks.lag_none, Chain.ChainRanks.IsQuiet, Chain.ChainRanks.unowned, Chain.ChainRanksPush.rests, Chain.ChainRanksPush.push_tail_falls, Chain.ChainRanksPush.push_block_falls, Chain.ChainRanksPush.granted_falls, Chain.ChainRanksPush.installing_falls, Chain.ChainRanksPush.showing_falls, Chain.ChainRanksPush.claiming_falls, Chain.ChainRanksPop.stands, Chain.ChainRanksPop.head_falls, Chain.ChainRanksPop.pop_block_falls, Chain.ChainRanksPop.pop_tail_falls, Chain.ChainRanksPop.taking_falls, Chain.ChainRanksPop.following_falls, Chain.ChainRanksPop.wrote_then, Chain.ChainRanksPop.awaiting_falls, Chain.ChainRanksWalk.maybe_on_falls, Chain.ChainRanksWalk.walking_falls, Chain.ChainRanksWalk.done_then, Chain.ChainRanksWalk.last_claimed, Chain.ChainRanksWalk.count_again_falls}
 use Rattle.queue_laws.specs.Chain.ChainCells.{Reading, Unread, Chain, ChainOk, item_at, LAST, Write, Read, Head, Next, First, Passed, Nothing}
 use Rattle.queue_laws.specs.Chain.ChainAt.{Only, Either, At, push_tail, push_block, asking, installing, showing, claiming, laying, opening, chaining, writing, spending, pop_head, pop_block, pop_tail, taking, following, peeking, passing, entering, awaiting, reading, beginning, walking, destroying, count_tail, count_head, count_again, empty_head, empty_tail, closing, closed_tail}
 
 -- each step of a call that is alone leaves fewer steps before it
 pub step_falls : {A : Type 0} {c : Chain A} {who : ℕ} {ms : List (State A)} {k : Stand A} (at : At c who ms k) (a : Answer ℕ)
-    → ChainOk c → Answers c k.op a → IsQuiet c who → Falls (after_of at a) (unbounded_next (chain_of k.local) a) (rank c k.local)
+    → ChainOk c → Answers c k.op a → IsQuiet c who → Falls (after_of at a) (chain_next (chain_of k.local) a) (rank c k.local)
 step_falls {c = c} {who = who} (push_tail d x spare none spare_is) a ok found quiet = rw found (push_tail_falls c d spare (rests c who Nothing quiet none (λ z. z)))
 step_falls {c = c} {who = who} (push_block d x spare q none spare_is saw) a ok found quiet = rw found (push_block_falls c d (open_tail_of q) spare)
 step_falls {c = c} {who = who} (asking d x q block none saw asked) a ok (inl refused) quiet = rw refused tt
@@ -66,7 +66,7 @@ step_falls (closed_tail none) a ok found quiet = rw found tt
 
 -- each step of a wait-free call leaves fewer steps before it, whoever holds a part
 pub wait_free_falls : {A : Type 0} {c : Chain A} {who : ℕ} {ms : List (State A)} {k : Stand A} (at : At c who ms k) (a : Answer ℕ)
-    → Answers c k.op a → is_wait_free k.call ≡ true → Falls (after_of at a) (unbounded_next (chain_of k.local) a) (rank c k.local)
+    → Answers c k.op a → is_wait_free k.call ≡ true → Falls (after_of at a) (chain_next (chain_of k.local) a) (rank c k.local)
 wait_free_falls (push_tail d x spare none spare_is) a found wait_free = absurd (never_push d x wait_free)
 wait_free_falls (push_block d x spare q none spare_is saw) a found wait_free = absurd (never_push d x wait_free)
 wait_free_falls (asking d x q block none saw asked) a found wait_free = absurd (never_push d x wait_free)

@@ -2,7 +2,7 @@
 use Rattle.std.proofs.Common.{ℕ, ◌+◌, ◌-◌, ◌<◌, ◌≤◌, ◌≡◌, ◌≢◌, ◌==◌, ◌∙◌, Bool, true, false, if◌then◌else◌, nat_lt, Some, None, Ok, List, refl, sym, ap, subst, arith, bit_and}
 use Rattle.std.proofs.lemmas.Bool.{cond_both, ltb-true}
 use Rattle.queue_laws.specs.{Common.Vocabulary.Look, Common.Vocabulary.Reply, Common.Vocabulary.Word, Common.Vocabulary.Touch, Common.Vocabulary.Answer, Common.Vocabulary.Next, Common.Vocabulary.BLOCK_SLOTS, Common.Vocabulary.READ, Chain.ChainAnswers.tail_word, Chain.ChainAnswers.is_done}
-use Rattle.queue_steps.specs.{declared.steps.unbounded.UnboundedLocal.UnboundedLocal as chain, Words.position_of, Words.is_shut, ChainWords.items_before, Looks.reply_of_look, UnboundedNext.ends, UnboundedNext.loads, UnboundedNext.walks, UnboundedNext.walks_on, UnboundedNext.unbounded_next}
+use Rattle.queue_steps.specs.{declared.steps.chain.ChainLocal.ChainLocal as chain, Words.position_of, Words.is_shut, ChainWords.items_before, Looks.reply_of_look, ChainNext.ends, ChainNext.loads, ChainNext.walks, ChainNext.walks_on, ChainNext.chain_next}
 use Rattle.queue_laws.specs.Chain.ChainCells.{Writer, Free, Writing, Reader, Unread, Reading, Done, Walker, Chain, ItemOk, WalkOk, item_at, LAST, ChainOk, reader_of}
 use Rattle.queue_laws.proofs.Chain.ChainRanks.{lag, walk_rank, Falls}
 
@@ -18,7 +18,7 @@ maybe_on_falls s true name slot = on_falls s name slot
 maybe_on_falls s false name slot = tt
 
 -- W1: the state of a passed block's slot is read, and its item was read
-pub walking_falls : {A : Type 0} (s : Chain A) (name slot st : ℕ) → (bit_and st READ == 0) ≡ false → Falls s (unbounded_next (chain.Walking name slot) (Answer.Found st)) (walk_rank slot)
+pub walking_falls : {A : Type 0} (s : Chain A) (name slot st : ℕ) → (bit_and st READ == 0) ≡ false → Falls s (chain_next (chain.Walking name slot) (Answer.Found st)) (walk_rank slot)
 walking_falls s name slot st read = rw read (on_falls s name slot)
 
 -- an item that is claimed has left the list
@@ -52,6 +52,6 @@ last_claimed c who b slot ok is =
     (at.0, λ e. let z : Done ≡ Unread = sym (at.1.0) ∙ e in cc)
 
 -- Y3: the tail is read again, after the head
-pub count_again_falls : {A : Type 0} (c : Chain A) (g : Look) (t h : ℕ) → Falls c (unbounded_next (chain.CountAgain g t h) (Answer.Found (tail_word c))) (1 + lag (tail_word c) t 3)
+pub count_again_falls : {A : Type 0} (c : Chain A) (g : Look) (t h : ℕ) → Falls c (chain_next (chain.CountAgain g t h) (Answer.Found (tail_word c))) (1 + lag (tail_word c) t 3)
 count_again_falls c g t h =
     elim (tail_word c == t) as (λ b. Falls c (if b then ends (reply_of_look None (items_before (position_of t) - items_before (position_of h)) (is_shut t) g) else loads (chain.CountTail g) Word.Tail) (1 + (if b then 0 else 3))) [ true ↦ tt | false ↦ omega arith ]

@@ -1,7 +1,7 @@
 -- A step of a call on a chain with all that follows it: the block that is given up with a reply, and the spare that is left.
 use Rattle.std.proofs.Common.{ℕ, ◌≡◌, Option, Some, None, List, [], ◌∷◌}
-use Rattle.queue_steps.specs.{State.State, Kinds.filled, Replies.Tells, Replies.Allows, UnboundedNext.FitsChain, UnboundedNext.unbounded_next}
-use Rattle.queue_laws.specs.{Common.Vocabulary.Call, Common.Vocabulary.Reply, Common.Vocabulary.Effect, Common.Vocabulary.Answer, Common.Vocabulary.Next, Common.Vocabulary.UnboundedLocal, Common.Moments.SeenIn, Common.Effects.Leads, Common.Effects.with_effect, Common.Stand.Stand, Common.Stand.stand, Chain.ChainCells.Chain, Chain.ChainCells.queue_of, Chain.ChainCells.ChainOk, Chain.ChainCells.HoldsOnly, Chain.ChainCells.Nothing, Chain.ChainPasses.Passes, Chain.ChainPasses.spare_in, Chain.ChainPasses.Spares, Chain.ChainAt.At, Chain.ChainAnswers.Answers, Chain.ChainAfter.chain_of, Chain.ChainAfter.carried_of, Chain.ChainAfter.after_of, Chain.ChainAfter.left_by}
+use Rattle.queue_steps.specs.{State.State, Kinds.filled, Replies.Tells, Replies.Allows, ChainNext.FitsChain, ChainNext.chain_next}
+use Rattle.queue_laws.specs.{Common.Vocabulary.Call, Common.Vocabulary.Reply, Common.Vocabulary.Effect, Common.Vocabulary.Answer, Common.Vocabulary.Next, Common.Vocabulary.ChainLocal, Common.Moments.SeenIn, Common.Effects.Leads, Common.Effects.with_effect, Common.Stand.Stand, Common.Stand.stand, Chain.ChainCells.Chain, Chain.ChainCells.queue_of, Chain.ChainCells.ChainOk, Chain.ChainCells.HoldsOnly, Chain.ChainCells.Nothing, Chain.ChainPasses.Passes, Chain.ChainPasses.spare_in, Chain.ChainPasses.Spares, Chain.ChainAt.At, Chain.ChainAnswers.Answers, Chain.ChainAfter.chain_of, Chain.ChainAfter.carried_of, Chain.ChainAfter.after_of, Chain.ChainAfter.left_by}
 use Rattle.queue_laws.proofs.Chain.{ChainStepOk.GivesUp, ChainStepOk.NextOk, ChainStepOk.IsEffect, ChainStep.step_good, ChainGiven.given_ok, ChainGiven.passes_given, ChainGiven.makes_given, ChainGiven.holds_given, ChainSpares.SparesAfter, ChainSpares.step_spares}
 
 -- what is given up with a reply is the call's to give
@@ -15,15 +15,15 @@ NextOkSpares s who ms (Next.Step l t o) v k es = At s who ms (stand l t o v k es
 NextOkSpares {A} s who ms (Next.Reply x spare) v k es = HoldsOnly s who Nothing × Spares s who None × ((y : Reply A) × (filled x v ≡ Some y) × Tells k y es × (es ≡ [] → SeenIn ms (Allows k y)))
 
 -- the step that got this answer leads from the chain c to r, and a block given up with it from there: it is a step of the queue
-pub record Right {A : Type 0} (c r : Chain A) (who : ℕ) (ms : List (State A)) (l : UnboundedLocal ℕ) (v : Option A) (k : Call A) (es : List (Effect A)) (a : Answer ℕ) : Type 0 where
+pub record Right {A : Type 0} (c r : Chain A) (who : ℕ) (ms : List (State A)) (l : ChainLocal ℕ) (v : Option A) (k : Call A) (es : List (Effect A)) (a : Answer ℕ) : Type 0 where
   pub e : Option (Effect A)
   pub told : IsEffect l a e
   pub goes_on : FitsChain l a
-  pub gives : Gives r who (unbounded_next l a)
-  pub ok : ChainOk (left_by r (unbounded_next l a))
-  pub makes : Leads (queue_of c) e (queue_of (left_by r (unbounded_next l a)))
-  pub passes : Passes who c (left_by r (unbounded_next l a))
-  pub ends : NextOkSpares (left_by r (unbounded_next l a)) who (queue_of (left_by r (unbounded_next l a)) ∷ ms) (unbounded_next l a) v k (with_effect es e)
+  pub gives : Gives r who (chain_next l a)
+  pub ok : ChainOk (left_by r (chain_next l a))
+  pub makes : Leads (queue_of c) e (queue_of (left_by r (chain_next l a)))
+  pub passes : Passes who c (left_by r (chain_next l a))
+  pub ends : NextOkSpares (left_by r (chain_next l a)) who (queue_of (left_by r (chain_next l a)) ∷ ms) (chain_next l a) v k (with_effect es e)
 
 goes_gives : {A : Type 0} (r : Chain A) (who : ℕ) (ms : List (State A)) (n : Next ℕ) (v : Option A) (k : Call A) (es : List (Effect A)) → NextOk r who ms n v k es → Gives r who n
 goes_gives r who ms (Next.Step l t o) v k es goes = tt
@@ -53,7 +53,7 @@ pub step_right : {A : Type 0} {c : Chain A} {who : ℕ} {ms : List (State A)} {k
 step_right {c = c} {who = who} {ms = ms} {k = k} at a ok found only =
     let good = step_good at a ok found in
     let r = after_of at a in
-    let n = unbounded_next (chain_of k.local) a in
+    let n = chain_next (chain_of k.local) a in
     let v = carried_of at in
     let gives = goes_gives r who (queue_of r ∷ ms) n v k.call (with_effect k.effects good.e) good.goes in
     record {

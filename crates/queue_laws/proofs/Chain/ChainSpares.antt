@@ -1,7 +1,7 @@
 -- A party never has a spare but that in its call's hands.
 use Rattle.std.proofs.Common.{ℕ, ◌+◌, ◌/◌, ◌≡◌, ◌==◌, ◌∙◌, inl, inr, zero, suc, Bool, true, false, if◌then◌else◌, Option, Some, None, List, ◌∷◌, refl, sym, subst}
 use Rattle.queue_laws.specs.{Common.Vocabulary.Call, Common.Vocabulary.Effect, Common.Vocabulary.Answer, Common.Vocabulary.Next, Common.Vocabulary.PushKind, Common.Vocabulary.BLOCK_SLOTS, Common.Vocabulary.Look, Common.Effects.with_effect, Common.Pushes.pushes, Common.Stand.Stand, Chain.ChainCells.Spare, Chain.ChainCells.Chained, Chain.ChainCells.Chain, Chain.ChainCells.queue_of, Chain.ChainCells.item_at, Chain.ChainCells.ChainOk, Chain.ChainTransitions.laid_out, Chain.ChainTransitions.written, Chain.ChainTransitions.marked, Chain.ChainTransitions.renamed, Chain.ChainTransitions.walk_after, Chain.ChainTransitions.walked, Chain.ChainTransitions.given_up, Chain.ChainFacts.head_of, Chain.ChainFacts.open_tail_of, Chain.ChainFacts.HasSpare, Chain.ChainAnswers.Answers, Chain.ChainAnswers.tail_word, Chain.ChainAnswers.head_word, Chain.ChainAnswers.last_of, Chain.ChainAnswers.is_done, Chain.ChainAfter.if_installed, Chain.ChainAfter.claimed_if, Chain.ChainAfter.if_claimed, Chain.ChainAfter.taken_if, Chain.ChainAfter.chain_of, Chain.ChainAfter.carried_of, Chain.ChainAfter.if_granted, Chain.ChainAfter.after_of, Chain.ChainPasses.spare_in, Chain.ChainPasses.Spares}
-use Rattle.queue_steps.specs.{State.State, Looks.call_of_look, ChainWords.offset_of, UnboundedNext.unbounded_next, UnboundedNext.chain_tail_found, UnboundedNext.tail_block_found, UnboundedNext.asks, UnboundedNext.claims, UnboundedNext.granted, UnboundedNext.lays, UnboundedNext.writes, declared.steps.unbounded.UnboundedLocal.UnboundedLocal as chain}
+use Rattle.queue_steps.specs.{State.State, Looks.call_of_look, ChainWords.offset_of, ChainNext.chain_next, ChainNext.chain_tail_found, ChainNext.tail_block_found, ChainNext.asks, ChainNext.claims, ChainNext.granted, ChainNext.lays, ChainNext.writes, declared.steps.chain.ChainLocal.ChainLocal as chain}
 use Rattle.queue_laws.proofs.{Common.Puts.put_ok, Chain.ChainPush.tail_ways, Chain.ChainPush.none_spare, Chain.ChainStepOk.NextOk, Chain.ChainGiven.spares_given, Chain.ChainGiven.none_given, Chain.ChainStep.step_good}
 use Rattle.queue_laws.specs.Chain.ChainAt.{At, push_tail, push_block, asking, installing, showing, claiming, laying, opening, chaining, writing, spending, taking, walking, count_tail, count_head, count_again}
 
@@ -68,7 +68,7 @@ granted_spares {A} c who d tail block f only = go block
 laid_spares : {A : Type 0} (c : Chain A) (who f b : ℕ) → Spares c who (Some f) → Spares (renamed c f (Chained b)) who None
 laid_spares c who f b only g = put_ok c.uses f g (Chained b) (λ j u. u ≡ Spare who → None ≡ Some j) (λ e. let z : Chained b ≡ Spare who = e in cc) (λ ne e. absurd (ne (let z = only g e in cc)))
 
-installed_spares : {A : Type 0} (c : Chain A) (who : ℕ) (d : PushKind) (f n : ℕ) → Spares c who (Some f) → SparesAfter (if_installed c who f n) who (unbounded_next (chain.Installing d (open_tail_of 0) f) (Answer.Linked (last_of c.names n)))
+installed_spares : {A : Type 0} (c : Chain A) (who : ℕ) (d : PushKind) (f n : ℕ) → Spares c who (Some f) → SparesAfter (if_installed c who f n) who (chain_next (chain.Installing d (open_tail_of 0) f) (Answer.Linked (last_of c.names n)))
 installed_spares c who d f zero only = laid_spares c who f c.blocks only
 installed_spares c who d f (suc b) only = only
 
@@ -80,7 +80,7 @@ taken_uses : {A : Type 0} (c : Chain A) (who : ℕ) (more same last : Bool) → 
 taken_uses c who more true true only = only
 taken_uses c who more same last only = only
 
-claimed_spares : {A : Type 0} (s : Chain A) (who : ℕ) (d : PushKind) (tail name found : ℕ) (spare : Option ℕ) → Spares s who spare → SparesAfter s who (unbounded_next (chain.Claiming d tail name spare) (Answer.Found found))
+claimed_spares : {A : Type 0} (s : Chain A) (who : ℕ) (d : PushKind) (tail name found : ℕ) (spare : Option ℕ) → Spares s who spare → SparesAfter s who (chain_next (chain.Claiming d tail name spare) (Answer.Found found))
 claimed_spares {A} s who d tail name found spare only = go (found == tail) (offset_of tail + 1 == BLOCK_SLOTS)
   where
     laid : (x : Option ℕ) → Spares s who x → SparesAfter s who (lays d tail name x)
@@ -108,14 +108,14 @@ others_uses {c = c} {who = who} (walking x b name slot holds is named) a other_c
 others_uses _ a other_call only = only
 
 others_step : {A : Type 0} {c : Chain A} {who : ℕ} {ms : List (State A)} {k : Stand A} (at : At c who ms k) (a : Answer ℕ)
-    → ChainOk c → Answers c k.op a → is_push k.call ≡ false → Spares c who None → SparesAfter (after_of at a) who (unbounded_next (chain_of k.local) a)
+    → ChainOk c → Answers c k.op a → is_push k.call ≡ false → Spares c who None → SparesAfter (after_of at a) who (chain_next (chain_of k.local) a)
 others_step {c = c} {who = who} {ms = ms} {k = k} at a ok found other_call only =
     let good = step_good at a ok found in
-    others_spares (after_of at a) who (queue_of (after_of at a) ∷ ms) (unbounded_next (chain_of k.local) a) (carried_of at) k.call (with_effect k.effects good.e) other_call good.goes (others_uses at a other_call only)
+    others_spares (after_of at a) who (queue_of (after_of at a) ∷ ms) (chain_next (chain_of k.local) a) (carried_of at) k.call (with_effect k.effects good.e) other_call good.goes (others_uses at a other_call only)
 
 -- after each step of its own the party has no spare but that in its hands
 pub step_spares : {A : Type 0} {c : Chain A} {who : ℕ} {ms : List (State A)} {k : Stand A} (at : At c who ms k) (a : Answer ℕ)
-    → ChainOk c → Answers c k.op a → Spares c who (spare_in k.local) → SparesAfter (after_of at a) who (unbounded_next (chain_of k.local) a)
+    → ChainOk c → Answers c k.op a → Spares c who (spare_in k.local) → SparesAfter (after_of at a) who (chain_next (chain_of k.local) a)
 step_spares {c = c} {who = who} (push_tail d x spare none spare_is) a ok found only = rw found (tail_spares c who d (tail_word c) spare only)
 step_spares {c = c} {who = who} (push_block d x spare q none spare_is saw) a ok found only = rw found (block_spares c who d (open_tail_of q) spare c.blocks refl spare_is only)
 step_spares {c = c} {who = who} (asking d x q block none saw asked) a ok (inl refused) only = rw refused only

@@ -1,6 +1,6 @@
 -- Where a call on a chain begins.
 use Rattle.std.proofs.Common.{ℕ, ◌≡◌, true, false, None, Some, List, [], refl}
-use Rattle.queue_steps.specs.{State.State, Kinds.call_kind, Kinds.call_value, Kinds.filled, Looks.has_steps, Replies.IsRightAt, Replies.Tells, UnboundedNext.unbounded_begin}
+use Rattle.queue_steps.specs.{State.State, Kinds.call_kind, Kinds.call_value, Kinds.filled, Looks.has_steps, Replies.IsRightAt, Replies.Tells, ChainNext.chain_begin}
 use Rattle.queue_laws.specs.{Common.Vocabulary.Call, Common.Vocabulary.Reply, Common.Vocabulary.Next, Common.Vocabulary.Op, Common.Vocabulary.Touch, Common.Vocabulary.Word, Common.Vocabulary.PushKind, Common.Stand.stand, Chain.ChainCells.Chain, Chain.ChainCells.HoldsOnly, Chain.ChainCells.Nothing, Chain.ChainPasses.spare_in, Chain.ChainAt.At, Chain.ChainAt.push_tail, Chain.ChainAt.pop_head, Chain.ChainAt.count_tail, Chain.ChainAt.empty_head, Chain.ChainAt.closing, Chain.ChainAt.closed_tail}
 
 -- the operation is on one of the two positions
@@ -19,7 +19,7 @@ Begins {A} k (Next.Step l t o) =
 Begins {A} k (Next.Reply x spare) =
     (has_steps None k ≡ false) × (spare ≡ None) × ((y : Reply A) × (filled x (call_value k) ≡ Some y) × Tells k y [] × ((m : State A) → m.cap ≡ None → IsRightAt m k y))
 
-pub at_begun : {A : Type 0} (k : Call A) → Begins k (unbounded_begin (call_kind k))
+pub at_begun : {A : Type 0} (k : Call A) → Begins k (chain_begin (call_kind k))
 at_begun (Call.Push v) = (refl, refl, refl, tt, λ c who ms none. push_tail PushKind.Push v None none tt)
 at_begun (Call.ForcePush v) = (refl, refl, refl, tt, λ c who ms none. push_tail PushKind.Force v None none tt)
 at_begun Call.Pop = (refl, refl, refl, tt, λ c who ms none. pop_head none)

@@ -6,7 +6,7 @@ use Rattle.queue_laws.specs.Chain.ChainAt.{At, push_tail, push_block, asking, in
 use Rattle.queue_laws.proofs.Chain.{ChainAnswers.head_offset, ChainStepOk.StepOk, ChainPush.good_push_tail, ChainPush.good_push_block, ChainPush.good_refused, ChainPush.good_granted, ChainClaim.good_installing, ChainClaim.good_showing, ChainClaim.good_claiming, ChainClaim.good_laying, ChainClaim.good_opening, ChainClaim.good_chaining, ChainClaim.good_writing, ChainClaim.good_spending, ChainPop.good_pop_head, ChainPop.good_pop_block, ChainPop.good_taking, ChainPop.good_following, ChainPop.good_passing, ChainPop.good_entering, ChainPop.read_small, ChainEmpty.good_pop_tail, ChainPeek.good_peeking, ChainRead.good_awaiting, ChainRead.good_reading, ChainBegin.good_beginning, ChainWalk.good_walking, ChainWalk.good_destroying, ChainLook.good_closed_tail, ChainLook.good_count_tail, ChainLook.good_count_head, ChainLook.good_count_again, ChainLook.good_empty_head, ChainLook.good_closing, ChainIsEmpty.good_empty_tail}
 
 -- a call that stands on a chain is at a local state of a chain
-pub is_chain : {A : Type 0} {c : Chain A} {who : ℕ} {ms : List (State A)} {k : Stand A} → At c who ms k → k.local ≡ Local.Unbounded (chain_of k.local)
+pub is_chain : {A : Type 0} {c : Chain A} {who : ℕ} {ms : List (State A)} {k : Stand A} → At c who ms k → k.local ≡ Local.Chain (chain_of k.local)
 is_chain (push_tail d x spare none spare_is) = refl
 is_chain x = refl
 

@@ -1,6 +1,6 @@
 -- What the two calls that push answer, and that neither is wait-free.
 use Rattle.std.proofs.Common.{◌≡◌, inl, inr, true, false, Some, None, Ok, Err, [], ◌∷◌, refl}
-use Rattle.queue_steps.specs.{State.State, Kinds.filled, WaitFree.is_wait_free, Replies.Tells, Replies.IsRightAt, BoundedNext.closed_reply, BoundedNext.pushed_reply}
+use Rattle.queue_steps.specs.{State.State, Kinds.filled, WaitFree.is_wait_free, Replies.Tells, Replies.IsRightAt, RingNext.closed_reply, RingNext.pushed_reply}
 use Rattle.queue_laws.specs.Common.{Vocabulary.Reply, Vocabulary.Effect, Vocabulary.PushError, Vocabulary.ForcePushError, Vocabulary.PushKind, Pushes.pushes}
 
 -- what a push answers that found the queue closed, or closed it

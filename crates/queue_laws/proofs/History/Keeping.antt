@@ -1,7 +1,7 @@
 -- Where the items of a history are.
 use Rattle.std.proofs.Common.{◌≡◌, ◌+◌, true, List, [], ◌∷◌, ◌++◌, length, Option, Some, None, refl, ap, sym, ◌∙◌, arith, append_assoc, append-nil, length-append}
 use Rattle.queue_laws.specs.{Common.Vocabulary.Effect, History.Histories.handed_in, History.Histories.handed_out, History.Histories.KeepsAll, History.Histories.KeepsOrder}
-use Rattle.queue_steps.specs.{State.State, State.start, State.is_single_cap, Effect.Fits, Effect.made, Effect.rest, Effect.with_coming, Effect.Runs, Effect.after_from, Effect.after}
+use Rattle.queue_steps.specs.{State.State, State.start, State.is_slot_cap, Effect.Fits, Effect.made, Effect.rest, Effect.with_coming, Effect.Runs, Effect.after_from, Effect.after}
 
 module _ {T : Type 0} where
   -- the list, and behind it the item on its way in
@@ -10,7 +10,7 @@ module _ {T : Type 0} where
 
   -- nothing is ever on its way into a queue of one slot
   abbrev Calm : State T → Type 0
-  Calm Q = is_single_cap Q.cap ≡ true → Q.coming ≡ None
+  Calm Q = is_slot_cap Q.cap ≡ true → Q.coming ≡ None
 
   calm_on : (e : Effect T) (Q : State T) → Fits e Q → Calm Q → Calm (made e Q)
   calm_on (Effect.Front old v) Q f calm = λ single. let no = f.0 in absurd (cc)
@@ -41,7 +41,7 @@ module _ {T : Type 0} where
       let next = keeps_from (made (Effect.Take v) Q) es calm r.1 in
       ap (λ (l : List T). l ++ handed_in es) (front_first Q.items r.0.0 v Q.coming r.0.1) ∙ ap (λ (l : List T). v ∷ l) next
   keeps_from Q (Effect.Replace old v ∷ es) calm r =
-      let none : Q.coming ≡ None = calm (ap is_single_cap r.0.0) in let next = keeps_from (made (Effect.Replace old v) Q) es calm r.1 in
+      let none : Q.coming ≡ None = calm (ap is_slot_cap r.0.0) in let next = keeps_from (made (Effect.Replace old v) Q) es calm r.1 in
       ap (λ (l : List T). l ++ v ∷ handed_in es) (only_items Q.items Q.coming none ∙ r.0.2)
       ∙ ap (λ (l : List T). old ∷ l) (ap (λ (l : List T). l ++ handed_in es) (sym (only_items (v ∷ []) Q.coming none)) ∙ next)
   keeps_from Q (Effect.Front old v ∷ es) calm r =

@@ -2,7 +2,7 @@
 use Rattle.std.proofs.Common.{◌≡◌, ◌⊎◌, ℕ, ◌+◌, ◌<◌, Bool, true, false, List, [], ◌∷◌, ◌++◌, length, Option, Some, None, refl, ap, sym, ◌∙◌, subst, inl, inr, arith, length-append, append_assoc}
 use mathlib.Core.List.{IsPrefix}
 use Rattle.queue_laws.specs.{Common.Vocabulary.Effect, Common.Vocabulary.LIMIT, Moment.Moments.RunsAtOnce, Moment.Moments.displacements, Moment.Moments.others, Moment.Moments.settled, Moment.Moments.arrived}
-use Rattle.queue_steps.specs.{State.State, State.start, State.fills, State.is_single_cap, Effect.Fits, Effect.made, Effect.with_coming, Effect.Runs, Effect.after_from}
+use Rattle.queue_steps.specs.{State.State, State.start, State.fills, State.is_slot_cap, Effect.Fits, Effect.made, Effect.with_coming, Effect.Runs, Effect.after_from}
 use Rattle.queue_laws.proofs.Moment.Closed.{many, held, Fit, take_first, arrived_none, arrived_arrive, arrived_take, held_front, held_arrive, held_less, reopened, Agrees, agrees_arrived, Closes, close_settles}
 
 fit_less : (cap : Option ℕ) (n m : ℕ) → n ≡ m + 1 → Fit cap n → Fit cap m
@@ -25,8 +25,8 @@ below_front : (single : Bool) (n : ℕ) → single ≡ false → (single ≡ tru
 below_front single n other (inl one) is = cc
 below_front single n other (inr lt) is = omega (arith, lt, is)
 
-fit_single : (limit : Option ℕ) (n : ℕ) → limit ≡ Some 1 → n ≡ 1 → Fit limit n
-fit_single limit n one is = rw one (omega (arith, is))
+fit_slot : (limit : Option ℕ) (n : ℕ) → limit ≡ Some 1 → n ≡ 1 → Fit limit n
+fit_slot limit n one is = rw one (omega (arith, is))
 
 module _ {T : Type 0} where
   pub many_none : (o : Option T) → many o ≡ 0 → o ≡ None
@@ -35,9 +35,9 @@ module _ {T : Type 0} where
 
   -- what holds of every state of a history: nothing is ever on its way into a queue of one slot, or without a capacity, nor into one that has accepted all it may; and there is room for all
   pub record Sound (Q : State T) : Type 0 where
-    pub single : is_single_cap Q.cap ≡ true → Q.coming ≡ None
+    pub single : is_slot_cap Q.cap ≡ true → Q.coming ≡ None
     pub uncapped : Q.cap ≡ None → Q.coming ≡ None
-    pub below : Q.accepted ≡ LIMIT → is_single_cap Q.cap ≡ false → Q.coming ≡ None
+    pub below : Q.accepted ≡ LIMIT → is_slot_cap Q.cap ≡ false → Q.coming ≡ None
     pub room : Fit Q.cap (held Q)
 
   pub sound_on : (e : Effect T) (Q : State T) → Fits e Q → Sound Q → Sound (made e Q)
@@ -46,13 +46,13 @@ module _ {T : Type 0} where
   sound_on (Effect.Take v) Q f s =
       record { single = s.single; uncapped = s.uncapped; below = s.below; room = fit_less Q.cap (held Q) (held (made (Effect.Take v) Q)) (held_less Q v f.0 f.1) s.room }
   sound_on (Effect.Replace old v) Q f s =
-      let none = s.single (ap is_single_cap f.0) in let zero : many Q.coming ≡ 0 = ap many none in
-      record { single = s.single; uncapped = s.uncapped; below = λ is other. none; room = fit_single Q.cap (1 + many Q.coming) f.0 (omega (arith, zero)) }
+      let none = s.single (ap is_slot_cap f.0) in let zero : many Q.coming ≡ 0 = ap many none in
+      record { single = s.single; uncapped = s.uncapped; below = λ is other. none; room = fit_slot Q.cap (1 + many Q.coming) f.0 (omega (arith, zero)) }
   sound_on (Effect.Front old v) Q f s =
       record {
         single = λ yes. absurd (let no = f.0 in cc);
         uncapped = λ is. absurd (none_uncapped Q.cap (length Q.items) f.1 is);
-        below = λ is other. absurd (below_front (is_single_cap Q.cap) Q.accepted other f.3 is);
+        below = λ is other. absurd (below_front (is_slot_cap Q.cap) Q.accepted other f.3 is);
         room = subst (Fit Q.cap) (sym (held_front Q old v f)) s.room;
       }
   sound_on Effect.Arrive Q f s = record { single = λ yes. refl; uncapped = λ is. refl; below = λ is no. refl; room = subst (Fit Q.cap) (sym (held_arrive Q)) s.room }
@@ -67,11 +67,11 @@ module _ {T : Type 0} where
   Settles es next R S = RunsAtOnce S (settled es next) × Agrees next R (after_from S (settled es next))
 
   -- a queue that has closed itself
-  spent_settles : (Q : State T) (es next : List (Effect T)) → Q.closed ≡ true → Q.coming ≡ None → is_single_cap Q.cap ≡ false → Q.accepted ≡ LIMIT → Runs Q (es ++ next) → Settles es next (after_from Q es) Q
+  spent_settles : (Q : State T) (es next : List (Effect T)) → Q.closed ≡ true → Q.coming ≡ None → is_slot_cap Q.cap ≡ false → Q.accepted ≡ LIMIT → Runs Q (es ++ next) → Settles es next (after_from Q es) Q
   spent_settles Q [] next shut none other spent r = (tt, subst (Agrees next Q) (arrived_none Q none) (agrees_arrived next Q))
   spent_settles Q (Effect.Take v ∷ es) next shut none other spent r = let more = spent_settles (made (Effect.Take v) Q) es next shut none other spent r.1 in ((r.0, more.0), more.1)
   spent_settles Q (Effect.Replace old v ∷ es) next shut none other spent r = absurd (let no = r.0.1 in cc)
-  spent_settles Q (Effect.Front old v ∷ es) next shut none other spent r = absurd (below_front (is_single_cap Q.cap) Q.accepted other r.0.3 spent)
+  spent_settles Q (Effect.Front old v ∷ es) next shut none other spent r = absurd (below_front (is_slot_cap Q.cap) Q.accepted other r.0.3 spent)
   spent_settles Q (Effect.Arrive ∷ es) next shut none other spent r = absurd (let some = r.0.1 in cc)
   spent_settles Q (Effect.Close ∷ es) next shut none other spent r = absurd (let no = r.0 in cc)
   spent_settles Q (x ∷ es) next shut none other spent r = absurd (let no = r.0.0 in cc)
@@ -89,7 +89,7 @@ module _ {T : Type 0} where
       let there : Settles es next (after_from R es) (made (Effect.Take v) (arrived Q)) = subst (Settles es next (after_from R es)) (sym (arrived_take Q v ys is)) more in
       (((with_coming ys Q.coming, take_first Q.items ys v Q.coming is), there.0), there.1)
   open_settles Q (Effect.Replace old v ∷ es) next free s r =
-      let R : State T = made (Effect.Replace old v) Q in let none : Q.coming ≡ None = s.single (ap is_single_cap r.0.0) in
+      let R : State T = made (Effect.Replace old v) Q in let none : Q.coming ≡ None = s.single (ap is_slot_cap r.0.0) in
       let more = open_settles R es next free (sound_on (Effect.Replace old v) Q r.0 s) r.1 in
       let there : Settles es next (after_from R es) R = subst (Settles es next (after_from R es)) (arrived_none R none) more in
       subst (Settles (Effect.Replace old v ∷ es) next (after_from R es)) (sym (arrived_none Q none)) ((r.0, there.0), there.1)

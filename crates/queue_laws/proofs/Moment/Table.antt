@@ -1,6 +1,6 @@
 -- The queue of one owner beside the abstract queue: a call whose effects stand together is a line of the table of one owner.
 use Rattle.std.proofs.Common.{ℕ, ◌+◌, ◌≤◌, ◌≡◌, ◌∙◌, inl, inr, Bool, true, false, if◌then◌else◌, None, Err, List, [], refl, sym, subst, arith}
-use Rattle.queue_steps.specs.{State.State, State.is_single_cap, State.is_full, Effect.Runs, Effect.after_from, Legal.IsShown, Replies.MayAsk, Replies.LacksMemory, Replies.Allows, Replies.Tells, Sequential.Owned, Sequential.Sequential, Sequential.moved, Sequential.sequential_reply, Sequential.sequential_state, Sequential.counted, Sequential.is_spent}
+use Rattle.queue_steps.specs.{State.State, State.is_slot_cap, State.is_full, Effect.Runs, Effect.after_from, Legal.IsShown, Replies.MayAsk, Replies.LacksMemory, Replies.Allows, Replies.Tells, Sequential.Owned, Sequential.Sequential, Sequential.moved, Sequential.sequential_reply, Sequential.sequential_state, Sequential.counted, Sequential.is_spent}
 use Rattle.queue_laws.specs.Common.{Vocabulary.Call, Vocabulary.Reply, Vocabulary.Effect, Vocabulary.PushError, Vocabulary.ForcePushError, Effects.FrontOpen}
 use Rattle.queue_steps.proofs.{Keeping.coming-sequential, Rows.Same, Rows.with_count, Rows.Does, Rows.does_row}
 
@@ -15,7 +15,7 @@ counts-if true X Y n x y = x
 counts-if false X Y n x y = y
 
 counts-counted : {T : Type 0} (Q : State T) → Q.accepted ≤ counted Q
-counts-counted Q = elim (is_single_cap Q.cap) as (λ b. Q.accepted ≤ (if b then Q.accepted else Q.accepted + 1)) [ true ↦ omega arith | false ↦ omega arith ]
+counts-counted Q = elim (is_slot_cap Q.cap) as (λ b. Q.accepted ≤ (if b then Q.accepted else Q.accepted + 1)) [ true ↦ omega arith | false ↦ omega arith ]
 
 -- no call of the table counts down
 counts-up : {T : Type 0} (Q : State T) (c : Call T) → Q.accepted ≤ (sequential_state Q c).accepted
@@ -51,7 +51,7 @@ in_table S Q Q' c r es h d e =
 may_ask : {T : Type 0} (S : Owned T) (Q : State T) → Agrees S Q → MayAsk Q → MayAsk S.queue
 may_ask S Q h m =
     let cap : S.queue.cap ≡ None = h.shown.cap ∙ m.0 in
-    let count : S.queue.accepted ≡ Q.accepted = elim h.shown.accepted [ inl e ↦ let f : is_single_cap S.queue.cap ≡ false = rw cap refl in cc | inr e ↦ e ] in
+    let count : S.queue.accepted ≡ Q.accepted = elim h.shown.accepted [ inl e ↦ let f : is_slot_cap S.queue.cap ≡ false = rw cap refl in cc | inr e ↦ e ] in
     (cap, h.shown.closed ∙ m.1, elim m.2 [ inl e ↦ inl (count ∙ e) | inr e ↦ inr (rw count e) ])
 
 refused : {T : Type 0} (S : Owned T) (Q : State T) (c : Call T) (r : Reply T) → Agrees S Q → LacksMemory Q c r → LacksMemory S.queue c r

@@ -2,21 +2,21 @@
 use Rattle.std.proofs.Common.{ℕ, ◌+◌, ◌%◌, ◌<◌, ◌≤◌, ◌≡◌, ◌≢◌, ◌==◌, ◌||◌, not, ◌∙◌, ◌⊎◌, inl, inr, Bool, true, false, if◌then◌else◌, Some, None, Err, List, [], ◌∷◌, length, refl, sym, ap, subst, arith, get_or}
 use Rattle.std.proofs.lemmas.Bool.{eq-eqb, Decides.eqb_tells}
 use Rattle.queue_laws.specs.Common.Vocabulary.{Call, Reply, Effect, PushError, Word, Op, Touch, Local, Next, PushKind, LIMIT, MARK, TAIL_STEP}
-use Rattle.queue_steps.specs.{State.State, Replies.IsRightAt, Words.IsWord, Words.position_of, Words.is_shut, Words.tail_of, Words.slot_at, Words.stamp_filled, BoundedNext.loads, BoundedNext.ends, BoundedNext.tail_found, declared.steps.bounded.BoundedLocal.BoundedLocal as ring}
-use Rattle.queue_laws.proofs.{Common.Tails.shut_tail, Common.Tails.next_tail, Common.Tails.same_tail, Common.Tails.open_tail, Common.Moments.seen_map, Common.Pushes.closed_push, Common.Pushes.appended_push, Ring.RingCells.claims, Ring.RingCells.lets_go, Ring.RingTransitions.in_ring, Ring.RingTransitions.append_ok, Ring.RingTransitions.write_ok, Ring.RingTransitions.not_single, Ring.RingPasses.passes_append, Ring.RingPasses.passes_written, Ring.RingWords.head_small, Ring.RingHands.Claims, Ring.RingHands.Returns, Ring.RingRanks.pick, Ring.RingStepOk.NextOk, Ring.RingStepOk.Stays, Ring.RingStepOk.StepOk, Ring.RingStepOk.still, Ring.RingStepOk.marks, Ring.RingStepOk.marks_closed, Ring.RingSlots.codes_claim, Ring.RingSlots.codes_store, Ring.RingPush.tail_goes, Ring.RingPush.tail_word, Ring.RingPush.saw_word}
+use Rattle.queue_steps.specs.{State.State, Replies.IsRightAt, Words.IsWord, Words.position_of, Words.is_shut, Words.tail_of, Words.slot_at, Words.stamp_filled, RingNext.loads, RingNext.ends, RingNext.tail_found, declared.steps.ring.RingLocal.RingLocal as ring}
+use Rattle.queue_laws.proofs.{Common.Tails.shut_tail, Common.Tails.next_tail, Common.Tails.same_tail, Common.Tails.open_tail, Common.Moments.seen_map, Common.Pushes.closed_push, Common.Pushes.appended_push, Ring.RingCells.claims, Ring.RingCells.lets_go, Ring.RingTransitions.in_ring, Ring.RingTransitions.append_ok, Ring.RingTransitions.write_ok, Ring.RingTransitions.not_slot, Ring.RingPasses.passes_append, Ring.RingPasses.passes_written, Ring.RingWords.head_small, Ring.RingHands.Claims, Ring.RingHands.Returns, Ring.RingRanks.pick, Ring.RingStepOk.NextOk, Ring.RingStepOk.Stays, Ring.RingStepOk.StepOk, Ring.RingStepOk.still, Ring.RingStepOk.marks, Ring.RingStepOk.marks_closed, Ring.RingSlots.codes_claim, Ring.RingSlots.codes_store, Ring.RingPush.tail_goes, Ring.RingPush.tail_word, Ring.RingPush.saw_word}
 use Rattle.queue_laws.specs.{Common.Pushes.pushes, Ring.RingShared.Shared, Ring.RingTransitions.appended, Ring.RingTransitions.written, Ring.RingTransitions.marked, Ring.RingAt.TailWas, Ring.RingAt.FreeAt, Ring.RingAt.SawTail, Ring.RingAt.stores, Ring.RingAt.push_tail, Ring.RingAt.filling, Ring.RingWords.Codes, Ring.RingWords.item_in, Common.Stand.brings}
 use Rattle.queue_laws.specs.Ring.RingCells.{Free, Written, Full, Ring, queue_of, RingOk, owner, HoldsNone, HoldsOne}
 
 module _ {A : Type 0} {cap : ℕ} {r : Ring A} {who : ℕ} {s : Shared A} {ms : List (State A)} {was : Bool} (ok : RingOk cap r) (codes : Codes cap r s) where
   pub good_claiming : (d : PushKind) (v : A) (t : ℕ)
       → HoldsNone r.cells who → SawTail cap r t ms was → FreeAt cap r (position_of t)
-      → StepOk cap r who s ms was (brings (Local.Bounded (ring.Claiming d t)) (Op.Exchange Word.Tail t (t + TAIL_STEP)) d v)
+      → StepOk cap r who s ms was (brings (Local.Ring (ring.Claiming d t)) (Op.Exchange Word.Tail t (t + TAIL_STEP)) d v)
   good_claiming d v t none saw free = go (eqb_tells s.tail t)
     where
       words : IsWord t × IsWord s.tail
       words = (saw_word cap r t ms was saw, tail_word cap r s ok codes)
 
-      won : (s.tail == t) ≡ true → s.tail ≡ t → StepOk cap r who s ms was (brings (Local.Bounded (ring.Claiming d t)) (Op.Exchange Word.Tail t (t + TAIL_STEP)) d v)
+      won : (s.tail == t) ≡ true → s.tail ≡ t → StepOk cap r who s ms was (brings (Local.Ring (ring.Claiming d t)) (Op.Exchange Word.Tail t (t + TAIL_STEP)) d v)
       won test e =
           let same = same_tail r.tail r.closed t saw.unshut (sym codes.tail ∙ e) in
           let at : r.tail ≡ position_of t = same.1 in
@@ -37,12 +37,12 @@ module _ {A : Type 0} {cap : ℕ} {r : Ring A} {who : ℕ} {s : Shared A} {ms : 
             passes = passes_append cap r who v is;
             shift = Claims (r.tail % cap) (Written r.tail who v) (in_ring cap r.tail ok.ring) refl none (ap owner is) refl (ap item_in (sym is)) refl;
             goes = rw test (subst (λ q. NextOk cap r (appended cap r who v) who (queue_of cap (appended cap r who v) ∷ ms) (was || not r.closed)
-                (Next.Step (Local.Bounded (ring.Filling d)) (Touch.Put (slot_at cap q)) (Op.Store (Word.Stamp (slot_at cap q)) (stamp_filled q))) (Some v) (pushes d v) (Effect.Append v ∷ []) (if position_of t == r.tail then 2 else 5)) at
+                (Next.Step (Local.Ring (ring.Filling d)) (Touch.Put (slot_at cap q)) (Op.Store (Word.Stamp (slot_at cap q)) (stamp_filled q))) (Some v) (pushes d v) (Effect.Append v ∷ []) (if position_of t == r.tail then 2 else 5)) at
                 (filling d v r.tail (claims r.cells who (r.tail % cap) (Written r.tail who v) none), λ calm. rw (pick (position_of t) r.tail 2 5 (sym at)) (omega arith)));
           }
 
       go : (((s.tail == t) ≡ true) × (s.tail ≡ t)) ⊎ (((s.tail == t) ≡ false) × (s.tail ≢ t))
-          → StepOk cap r who s ms was (brings (Local.Bounded (ring.Claiming d t)) (Op.Exchange Word.Tail t (t + TAIL_STEP)) d v)
+          → StepOk cap r who s ms was (brings (Local.Ring (ring.Claiming d t)) (Op.Exchange Word.Tail t (t + TAIL_STEP)) d v)
       go (inl h) = won h.0 h.1
       go (inr h) =
           still ok codes tt (rw h.0 refl)
@@ -89,7 +89,7 @@ module _ {A : Type 0} {cap : ℕ} {r : Ring A} {who : ℕ} {s : Shared A} {ms : 
 
   pub good_push_head : (v : A) (t : ℕ)
       → HoldsNone r.cells who → SawTail cap r t ms was
-      → StepOk cap r who s ms was (brings (Local.Bounded (ring.PushHead t)) (Op.Load Word.Head) PushKind.Push v)
+      → StepOk cap r who s ms was (brings (Local.Ring (ring.PushHead t)) (Op.Load Word.Head) PushKind.Push v)
   good_push_head v t none saw =
       still ok codes tt refl
       (ok.ring, (saw_word cap r t ms was saw, rw codes.head (head_small cap r r.head ok (omega arith)))) refl
@@ -113,10 +113,10 @@ module _ {A : Type 0} {cap : ℕ} {r : Ring A} {who : ℕ} {s : Shared A} {ms : 
 
   pub good_spending : (d : PushKind) (v : A)
       → HoldsNone r.cells who → LIMIT ≤ r.tail
-      → StepOk cap r who s ms was (brings (Local.Bounded (ring.ClosingAtLimit d)) (Op.Or Word.Tail MARK) d v)
+      → StepOk cap r who s ms was (brings (Local.Ring (ring.ClosingAtLimit d)) (Op.Or Word.Tail MARK) d v)
   good_spending d v none high = go r.closed refl
     where
-      go : (c : Bool) → r.closed ≡ c → StepOk cap r who s ms was (brings (Local.Bounded (ring.ClosingAtLimit d)) (Op.Or Word.Tail MARK) d v)
+      go : (c : Bool) → r.closed ≡ c → StepOk cap r who s ms was (brings (Local.Ring (ring.ClosingAtLimit d)) (Op.Or Word.Tail MARK) d v)
       go true c =
           let shut : is_shut s.tail ≡ true = ap is_shut codes.tail ∙ (shut_tail r.tail r.closed ∙ c) in
           let y = closed_push d v in
@@ -127,4 +127,4 @@ module _ {A : Type 0} {cap : ℕ} {r : Ring A} {who : ℕ} {s : Shared A} {ms : 
           let most = ok.most in
           let y = closed_push d v in
           marks ok codes (Some Effect.SelfClose) (ok.ring, tt) (rw shut refl)
-          ((c, not_single cap ok.ring, (let e : r.tail ≡ LIMIT = omega arith in e)), refl) (none, refl, (y.0, y.1, y.3, λ e. cc))
+          ((c, not_slot cap ok.ring, (let e : r.tail ≡ LIMIT = omega arith in e)), refl) (none, refl, (y.0, y.1, y.3, λ e. cc))

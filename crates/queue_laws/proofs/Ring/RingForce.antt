@@ -2,13 +2,13 @@
 use Rattle.std.proofs.Common.{ℕ, ◌+◌, ◌-◌, ◌%◌, ◌^◌, ◌<◌, ◌≡◌, ◌≢◌, ◌==◌, ◌||◌, not, ◌∙◌, ◌⊎◌, inl, inr, Bool, true, false, Some, None, Ok, List, [], ◌∷◌, refl, sym, ap, subst, arith, get_or}
 use Rattle.std.proofs.lemmas.Bool.{eq-eqb, ne_eqb, Decides.eqb_tells}
 use Rattle.queue_laws.specs.Common.Vocabulary.{Call, Reply, Effect, Word, Op, Touch, Local, Next, PushKind, LIMIT, TAIL_STEP}
-use Rattle.queue_steps.specs.{State.State, Words.IsWord, Words.position_of, Words.slot_at, Words.stamp_filled, declared.steps.bounded.BoundedLocal.BoundedLocal as ring}
+use Rattle.queue_steps.specs.{State.State, Words.IsWord, Words.position_of, Words.slot_at, Words.stamp_filled, declared.steps.ring.RingLocal.RingLocal as ring}
 use Rattle.queue_laws.specs.{Common.Puts.put, Ring.RingShared.Shared, Ring.RingTransitions.fronted, Ring.RingTransitions.arrived, Ring.RingTransitions.written, Ring.RingAt.FullAt, Ring.RingAt.SawTail, Ring.RingAt.stores, Ring.RingAt.push_tail, Ring.RingAt.arriving, Ring.RingAt.swapping, Ring.RingWords.Codes, Ring.RingWords.item_in, Common.Stand.Stand, Common.Stand.stand, Common.Stand.brings}
 use Rattle.queue_laws.proofs.{Common.Tails.next_tail, Ring.RingCells.wraps, Ring.RingCells.claims, Ring.RingCells.keeps_on, Ring.RingCells.lets_go, Ring.RingTransitions.in_ring, Ring.RingTransitions.front_ok, Ring.RingTransitions.arrive_ok, Ring.RingTransitions.swap_ok, Ring.RingPasses.passes_front, Ring.RingPasses.passes_arrive, Ring.RingPasses.passes_written, Ring.RingWords.word_small, Ring.RingWords.head_small, Ring.RingHands.Claims, Ring.RingHands.GoesOn, Ring.RingHands.Returns, Ring.RingStepOk.NextOk, Ring.RingStepOk.StepOk, Ring.RingStepOk.still, Ring.RingSlots.codes_claim, Ring.RingSlots.codes_store, Ring.RingPush.tail_word, Ring.RingPush.saw_word}
 use Rattle.queue_laws.specs.Ring.RingCells.{owner, Full, Coming, Swapped, Ring, queue_of, CellOk, RingOk, HoldsNone, HoldsOne}
 
 abbrev displaces : {A : Type 0} → ℕ → A → ℕ → Stand A
-displaces cap v t = brings (Local.Bounded (ring.Displacing t)) (Op.Exchange Word.Head (position_of t - cap) (position_of t - cap + 1)) PushKind.Force v
+displaces cap v t = brings (Local.Ring (ring.Displacing t)) (Op.Exchange Word.Head (position_of t - cap) (position_of t - cap + 1)) PushKind.Force v
 
 module _ {A : Type 0} {cap : ℕ} {r : Ring A} {who : ℕ} {s : Shared A} {ms : List (State A)} {was : Bool} (ok : RingOk cap r) (codes : Codes cap r s) where
   pub good_displacing : (v : A) (t h : ℕ)
@@ -71,7 +71,7 @@ module _ {A : Type 0} {cap : ℕ} {r : Ring A} {who : ℕ} {s : Shared A} {ms : 
 
   pub good_arriving : (old v : A) (t h : ℕ)
       → position_of t < LIMIT → h + cap ≡ position_of t → HoldsOne r.cells who (h % cap) (Coming h who old v)
-      → StepOk cap r who s ms was (stand (Local.Bounded (ring.Arriving t)) Touch.Nothing (Op.Add Word.Tail TAIL_STEP) (Some v) (Call.ForcePush v) (Effect.Front old v ∷ []))
+      → StepOk cap r who s ms was (stand (Local.Ring (ring.Arriving t)) Touch.Nothing (Op.Add Word.Tail TAIL_STEP) (Some v) (Call.ForcePush v) (Effect.Front old v ∷ []))
   good_arriving old v t h below back one =
       let i = h % cap in
       let here : CellOk cap r.head r.tail r.items r.coming i (Coming h who old v) = rw one.0 at (ok.cell i (in_ring cap h ok.ring)) in
@@ -92,7 +92,7 @@ module _ {A : Type 0} {cap : ℕ} {r : Ring A} {who : ℕ} {s : Shared A} {ms : 
         passes = passes_arrive cap r h who old v one.0;
         shift = GoesOn i (Swapped h who old v) refl (ap owner one.0) refl (ap item_in (sym one.0)) refl;
         goes = subst (λ q. NextOk cap r (arrived cap r h who old v) who (queue_of cap (arrived cap r h who old v) ∷ ms) (was || not r.closed)
-            (Next.Step (Local.Bounded ring.Swapping) (Touch.Swap (slot_at cap q)) (Op.Store (Word.Stamp (slot_at cap q)) (stamp_filled q))) (Some v) (Call.ForcePush v) (Effect.Front old v ∷ Effect.Arrive ∷ []) 2) back
+            (Next.Step (Local.Ring ring.Swapping) (Touch.Swap (slot_at cap q)) (Op.Store (Word.Stamp (slot_at cap q)) (stamp_filled q))) (Some v) (Call.ForcePush v) (Effect.Front old v ∷ Effect.Arrive ∷ []) 2) back
             (swapping old v h (keeps_on r.cells who i (Coming h who old v) (Swapped h who old v) one), λ calm. omega arith);
       }
 

@@ -1,7 +1,7 @@
 -- The steps of the calls that look at a ring, and of its close.
 use Rattle.std.proofs.Common.{ℕ, ◌+◌, ◌-◌, ◌*◌, ◌%◌, ◌<◌, ◌≤◌, ◌≡◌, ◌≢◌, ◌==◌, not, ◌∙◌, ◌⊎◌, inl, inr, Bool, true, false, if◌then◌else◌, Some, None, List, [], ◌∷◌, length, refl, sym, ap, arith}
 use Rattle.std.proofs.lemmas.Bool.{eq-eqb, ne_eqb, Decides.eqb_tells}
-use Rattle.queue_steps.specs.{State.State, State.is_full, Replies.is_empty, Words.position_of, Words.is_shut, Words.tail_of, BoundedNext.loads, BoundedNext.ends, BoundedNext.bounded_begin, Kinds.call_kind, Looks.IsLook, Looks.call_of_look, Looks.reply_of_look, Looks.IsCount, declared.steps.bounded.BoundedLocal.BoundedLocal as ring}
+use Rattle.queue_steps.specs.{State.State, State.is_full, Replies.is_empty, Words.position_of, Words.is_shut, Words.tail_of, RingNext.loads, RingNext.ends, RingNext.ring_begin, Kinds.call_kind, Looks.IsLook, Looks.call_of_look, Looks.reply_of_look, Looks.IsCount, declared.steps.ring.RingLocal.RingLocal as ring}
 use Rattle.queue_steps.proofs.LookLaws.{reply_filled, reply_tells, reply_right, count_waits}
 use Rattle.queue_laws.specs.{Common.Vocabulary.Call, Common.Vocabulary.Reply, Common.Vocabulary.Effect, Common.Vocabulary.Word, Common.Vocabulary.Op, Common.Vocabulary.Look, Common.Vocabulary.Local, Common.Vocabulary.MARK, Common.Moments.HasItems, Common.Moments.HeadWas, Common.Moments.SeenIn, Ring.RingShared.Shared, Ring.RingCells.Ring, Ring.RingCells.queue_of, Ring.RingCells.RingOk, Ring.RingCells.HoldsNone, Ring.RingWords.Codes, Common.Stand.empty_handed}
 use Rattle.queue_laws.proofs.{Common.Tails.position_tail, Common.Tails.shut_tail, Common.Moments.seen_map, Ring.RingWords.head_small, Ring.RingRanks.pick, Ring.RingStepOk.Stays, Ring.RingStepOk.StepOk, Ring.RingStepOk.still, Ring.RingStepOk.marks, Ring.RingStepOk.marks_closed}
@@ -16,7 +16,7 @@ some_items [] e = absurd (omega arith)
 some_items (x ∷ xs) e = refl
 
 -- where a call that changes nothing begins
-pub look_first : {A : Type 0} (cap : ℕ) (r : Ring A) (who : ℕ) (c : Call A) → IsLook c → HoldsNone r.cells who → Begun cap r who c (bounded_begin cap (call_kind c))
+pub look_first : {A : Type 0} (cap : ℕ) (r : Ring A) (who : ℕ) (c : Call A) → IsLook c → HoldsNone r.cells who → Begun cap r who c (ring_begin cap (call_kind c))
 look_first cap r who (Call.Push v) is none = absurd is
 look_first cap r who (Call.ForcePush v) is none = absurd is
 look_first cap r who Call.Pop is none = absurd is
@@ -29,7 +29,7 @@ look_first cap r who look is none = count_tail _ refl none
 
 module _ {A : Type 0} {cap : ℕ} {r : Ring A} {who : ℕ} {s : Shared A} {ms : List (State A)} {was : Bool} (ok : RingOk cap r) (codes : Codes cap r s) where
   pub good_count_tail : (g : Look) → IsCount A g → HoldsNone r.cells who
-      → StepOk cap r who s ms was (empty_handed (Local.Bounded (ring.CountTail g)) (Op.Load Word.Tail) (call_of_look g))
+      → StepOk cap r who s ms was (empty_handed (Local.Ring (ring.CountTail g)) (Op.Load Word.Tail) (call_of_look g))
   good_count_tail g count none =
       still ok codes tt refl (ok.ring, tt) refl (
         count_head g s.tail count none (let a = ap position_of codes.tail ∙ position_tail r.tail r.closed in omega arith),
@@ -38,7 +38,7 @@ module _ {A : Type 0} {cap : ℕ} {r : Ring A} {who : ℕ} {s : Shared A} {ms : 
 
   pub good_count_head : (g : Look) (t : ℕ) → IsCount A g
       → HoldsNone r.cells who → position_of t ≤ r.tail
-      → StepOk cap r who s ms was (empty_handed (Local.Bounded (ring.CountHead g t)) (Op.Load Word.Head) (call_of_look g))
+      → StepOk cap r who s ms was (empty_handed (Local.Ring (ring.CountHead g t)) (Op.Load Word.Head) (call_of_look g))
   good_count_head g t count none low =
       still ok codes tt refl (ok.ring, tt) refl (
         count_again g t s.head count none (inl (refl, (let a = codes.head in let b = ok.count in omega arith), low, omega arith)),
@@ -47,7 +47,7 @@ module _ {A : Type 0} {cap : ℕ} {r : Ring A} {who : ℕ} {s : Shared A} {ms : 
 
   pub good_count_again : (g : Look) (t h : ℕ) → IsCount A g
       → HoldsNone r.cells who → SeenIn ms (HeadWas (Some cap) h (position_of t) r.tail)
-      → StepOk cap r who s ms was (empty_handed (Local.Bounded (ring.CountAgain g t h)) (Op.Load Word.Tail) (call_of_look g))
+      → StepOk cap r who s ms was (empty_handed (Local.Ring (ring.CountAgain g t h)) (Op.Load Word.Tail) (call_of_look g))
   good_count_again g t h count none seen =
       still ok codes tt refl
       (ok.ring, λ e. low_of (at_tail e) ms seen) refl
@@ -72,7 +72,7 @@ module _ {A : Type 0} {cap : ℕ} {r : Ring A} {who : ℕ} {s : Shared A} {ms : 
           rw (e.0, other) (count_tail g count none, λ calm. omega arith)
 
   pub good_empty_head : HoldsNone r.cells who
-      → StepOk cap r who s ms was (empty_handed (Local.Bounded ring.EmptyHead) (Op.Load Word.Head) Call.IsEmpty)
+      → StepOk cap r who s ms was (empty_handed (Local.Ring ring.EmptyHead) (Op.Load Word.Head) Call.IsEmpty)
   good_empty_head none =
       still ok codes tt refl (ok.ring, tt) refl
       (empty_tail s.head none (tt, (let a = codes.head in omega arith), seen r.items refl), λ calm. omega arith)
@@ -83,7 +83,7 @@ module _ {A : Type 0} {cap : ℕ} {r : Ring A} {who : ℕ} {s : Shared A} {ms : 
 
   pub good_empty_tail : (h : ℕ)
       → HoldsNone r.cells who → SawEmpty h r ms
-      → StepOk cap r who s ms was (empty_handed (Local.Bounded (ring.EmptyTail h)) (Op.Load Word.Tail) Call.IsEmpty)
+      → StepOk cap r who s ms was (empty_handed (Local.Ring (ring.EmptyTail h)) (Op.Load Word.Tail) Call.IsEmpty)
   good_empty_tail h none saw =
       still ok codes tt refl (ok.ring, tt) refl
       (rw at (none, refl, (Reply.IsEmpty (r.tail == h), refl, refl, λ _. go (eqb_tells r.tail h))))
@@ -104,7 +104,7 @@ module _ {A : Type 0} {cap : ℕ} {r : Ring A} {who : ℕ} {s : Shared A} {ms : 
       ]
 
   pub good_full_tail : HoldsNone r.cells who
-      → StepOk cap r who s ms was (empty_handed (Local.Bounded ring.FullTail) (Op.Load Word.Tail) Call.IsFull)
+      → StepOk cap r who s ms was (empty_handed (Local.Ring ring.FullTail) (Op.Load Word.Tail) Call.IsFull)
   good_full_tail none =
       still ok codes tt refl (ok.ring, tt) refl
       (full_head s.tail none (tt, (let a = at in omega arith), seen (cases (length r.items) cap)), λ calm. omega arith)
@@ -121,7 +121,7 @@ module _ {A : Type 0} {cap : ℕ} {r : Ring A} {who : ℕ} {s : Shared A} {ms : 
 
   pub good_full_head : (t : ℕ)
       → HoldsNone r.cells who → SawFull cap (position_of t) r ms
-      → StepOk cap r who s ms was (empty_handed (Local.Bounded (ring.FullHead t)) (Op.Load Word.Head) Call.IsFull)
+      → StepOk cap r who s ms was (empty_handed (Local.Ring (ring.FullHead t)) (Op.Load Word.Head) Call.IsFull)
   good_full_head t none saw =
       still ok codes tt refl
       (ok.ring, rw codes.head (head_small cap r r.head ok (omega arith))) refl
@@ -141,14 +141,14 @@ module _ {A : Type 0} {cap : ℕ} {r : Ring A} {who : ℕ} {s : Shared A} {ms : 
       ]
 
   pub good_closing : HoldsNone r.cells who
-      → StepOk cap r who s ms was (empty_handed (Local.Bounded ring.Closing) (Op.Or Word.Tail MARK) Call.Close)
+      → StepOk cap r who s ms was (empty_handed (Local.Ring ring.Closing) (Op.Or Word.Tail MARK) Call.Close)
   good_closing none = go r.closed refl
     where
       even : (n : ℕ) (c : Bool) → (tail_of n c % 2 == 0) ≡ not c
       even n true = ne_eqb ((n * 2 + 1) % 2) 0 (λ e. absurd (let z : (n * 2 + 1) % 2 ≡ 1 = omega arith in omega arith))
       even n false = eq-eqb ((n * 2) % 2) 0 (omega arith)
 
-      go : (c : Bool) → r.closed ≡ c → StepOk cap r who s ms was (empty_handed (Local.Bounded ring.Closing) (Op.Or Word.Tail MARK) Call.Close)
+      go : (c : Bool) → r.closed ≡ c → StepOk cap r who s ms was (empty_handed (Local.Ring ring.Closing) (Op.Or Word.Tail MARK) Call.Close)
       go true c =
           let shut : is_shut s.tail ≡ true = ap is_shut codes.tail ∙ (shut_tail r.tail r.closed ∙ c) in
           let odd : (s.tail % 2 == 0) ≡ false = ap (λ n. n % 2 == 0) codes.tail ∙ (even r.tail r.closed ∙ ap not c) in
@@ -159,7 +159,7 @@ module _ {A : Type 0} {cap : ℕ} {r : Ring A} {who : ℕ} {s : Shared A} {ms : 
           marks ok codes (Some Effect.Close) (ok.ring, tt) (rw shut refl) (c, refl) (rw odd (none, refl, (Reply.Close true, refl, refl, λ e. cc)))
 
   pub good_closed_tail : HoldsNone r.cells who
-      → StepOk cap r who s ms was (empty_handed (Local.Bounded ring.ClosedTail) (Op.Load Word.Tail) Call.IsClosed)
+      → StepOk cap r who s ms was (empty_handed (Local.Ring ring.ClosedTail) (Op.Load Word.Tail) Call.IsClosed)
   good_closed_tail none =
       still ok codes tt refl (ok.ring, tt) refl
       (none, refl, (Reply.IsClosed (is_shut s.tail), refl, refl, λ _. inl (ap is_shut codes.tail ∙ shut_tail r.tail r.closed)))

@@ -1,7 +1,7 @@
 -- The steps of a pop from a ring.
 use Rattle.std.proofs.Common.{ℕ, ◌+◌, ◌%◌, ◌<◌, ◌≤◌, ◌≡◌, ◌≢◌, ◌==◌, ◌∙◌, ◌⊎◌, inl, inr, Bool, true, false, if◌then◌else◌, Some, None, Ok, Err, List, [], ◌∷◌, refl, sym, ap, subst, arith, get_or}
 use Rattle.std.proofs.lemmas.Bool.{ne_eqb, Decides.eqb_tells}
-use Rattle.queue_steps.specs.{State.State, Words.IsWord, Words.tail_of, Words.slot_at, Words.stamp_free, Words.stamp_filled, Words.stamp_emptied, BoundedNext.ends, BoundedNext.head_found, BoundedNext.pop_stamp_found, BoundedNext.pop_tail_found, declared.steps.bounded.BoundedLocal.BoundedLocal as ring}
+use Rattle.queue_steps.specs.{State.State, Words.IsWord, Words.tail_of, Words.slot_at, Words.stamp_free, Words.stamp_filled, Words.stamp_emptied, RingNext.ends, RingNext.head_found, RingNext.pop_stamp_found, RingNext.pop_tail_found, declared.steps.ring.RingLocal.RingLocal as ring}
 use Rattle.queue_laws.specs.{Common.Vocabulary.Call, Common.Vocabulary.Reply, Common.Vocabulary.Effect, Common.Vocabulary.PopError, Common.Vocabulary.Word, Common.Vocabulary.Op, Common.Vocabulary.Touch, Common.Vocabulary.Local, Common.Puts.put, Ring.RingShared.Shared, Ring.RingCells.Free, Ring.RingCells.Full, Ring.RingCells.Read, Ring.RingCells.Ring, Ring.RingCells.RingOk, Ring.RingCells.owner, Ring.RingCells.HoldsNone, Ring.RingCells.HoldsOne, Ring.RingTransitions.taken, Ring.RingTransitions.written, Ring.RingAt.FreeAt, Ring.RingAt.FullAt, Ring.RingAt.stores, Ring.RingAt.pop_head, Ring.RingAt.pop_stamp, Ring.RingAt.taking, Ring.RingAt.emptying, Ring.RingAt.pop_tail, Ring.RingWords.Codes, Ring.RingWords.stamp_in, Ring.RingWords.item_in, Common.Stand.Stand, Common.Stand.empty_handed}
 use Rattle.queue_laws.proofs.{Common.Lists.none_left, Common.Tails.position_tail, Common.Tails.shut_tail, Ring.RingCells.claims, Ring.RingCells.lets_go, Ring.RingTransitions.in_ring, Ring.RingTransitions.none_coming, Ring.RingTransitions.take_ok, Ring.RingTransitions.read_ok, Ring.RingPasses.passes_take, Ring.RingPasses.passes_written, Ring.RingWords.head_small, Ring.RingHands.Claims, Ring.RingHands.Returns, Ring.RingRanks.pick, Ring.RingStepOk.IsCalm, Ring.RingStepOk.Stays, Ring.RingStepOk.StepOk, Ring.RingStepOk.still, Ring.RingSlots.stamp_free_at, Ring.RingSlots.stamp_full_at, Ring.RingSlots.nobody, Ring.RingSlots.head_slot, Ring.RingSlots.codes_claim, Ring.RingSlots.codes_store}
 
@@ -53,18 +53,18 @@ module _ {A : Type 0} {cap : ℕ} {r : Ring A} (who : ℕ) (ms : List (State A))
           again (inr e) calm = rw e.0 (omega arith)
 
 abbrev takes : {A : Type 0} → ℕ → Stand A
-takes h = empty_handed (Local.Bounded (ring.Taking h)) (Op.Exchange Word.Head h (h + 1)) Call.Pop
+takes h = empty_handed (Local.Ring (ring.Taking h)) (Op.Exchange Word.Head h (h + 1)) Call.Pop
 
 module _ {A : Type 0} {cap : ℕ} {r : Ring A} {who : ℕ} {s : Shared A} {ms : List (State A)} {was : Bool} (ok : RingOk cap r) (codes : Codes cap r s) where
   pub good_pop_head : HoldsNone r.cells who
-      → StepOk cap r who s ms was (empty_handed (Local.Bounded ring.PopHead) (Op.Load Word.Head) Call.Pop)
+      → StepOk cap r who s ms was (empty_handed (Local.Ring ring.PopHead) (Op.Load Word.Head) Call.Pop)
   good_pop_head none =
       still ok codes tt refl
       (ok.ring, rw codes.head (head_small cap r r.head ok (omega arith))) refl (head_goes who ms was ok s.head 4 none codes.head (omega arith))
 
   pub good_pop_stamp : (h : ℕ)
       → HoldsNone r.cells who → h ≤ r.head
-      → StepOk cap r who s ms was (empty_handed (Local.Bounded (ring.PopStamp h)) (Op.Load (Word.Stamp (slot_at cap h))) Call.Pop)
+      → StepOk cap r who s ms was (empty_handed (Local.Ring (ring.PopStamp h)) (Op.Load (Word.Stamp (slot_at cap h))) Call.Pop)
   good_pop_stamp h none low =
       let i = h % cap in
       let lt : i < cap = in_ring cap h ok.ring in
@@ -139,7 +139,7 @@ module _ {A : Type 0} {cap : ℕ} {r : Ring A} {who : ℕ} {s : Shared A} {ms : 
 
   pub good_pop_tail : (h : ℕ)
       → HoldsNone r.cells who → h ≤ r.head → FreeAt cap r h
-      → StepOk cap r who s ms was (empty_handed (Local.Bounded (ring.PopTail h)) (Op.Load Word.Tail) Call.Pop)
+      → StepOk cap r who s ms was (empty_handed (Local.Ring (ring.PopTail h)) (Op.Load Word.Tail) Call.Pop)
   good_pop_tail h none low free =
       still ok codes tt refl
       (ok.ring, tt) refl

@@ -2,7 +2,7 @@
 use Rattle.std.proofs.Common.{ℕ, ◌+◌, ◌-◌, ◌%◌, ◌<◌, ◌≡◌, ◌≢◌, ◌==◌, ◌||◌, not, ◌∙◌, ◌⊎◌, inl, inr, Bool, true, false, if◌then◌else◌, Some, List, [], ◌∷◌, refl, sym, ap, arith, get_or}
 use Rattle.std.proofs.lemmas.Bool.Decides.{eqb_tells}
 use Rattle.queue_laws.specs.{Common.Vocabulary.Word, Common.Vocabulary.Op, Common.Vocabulary.Local, Common.Vocabulary.PushKind, Common.Vocabulary.LIMIT, Common.Pushes.pushes, Ring.RingShared.Shared, Ring.RingCells.Free, Ring.RingCells.Full, Ring.RingCells.Ring, Ring.RingCells.queue_of, Ring.RingCells.RingOk, Ring.RingCells.HoldsNone, Ring.RingAt.FullAt, Ring.RingAt.SawTail, Ring.RingAt.push_tail, Ring.RingAt.push_stamp, Ring.RingAt.claiming, Ring.RingAt.push_head, Ring.RingAt.displacing, Ring.RingAt.spending, Ring.RingWords.Codes, Ring.RingWords.stamp_in, Common.Stand.brings}
-use Rattle.queue_steps.specs.{State.State, Words.IsWord, Words.position_of, Words.is_shut, Words.tail_of, Words.slot_at, Words.stamp_free, Words.stamp_filled, BoundedNext.tail_found, BoundedNext.push_stamp_found, BoundedNext.lap_found, declared.steps.bounded.BoundedLocal.BoundedLocal as ring}
+use Rattle.queue_steps.specs.{State.State, Words.IsWord, Words.position_of, Words.is_shut, Words.tail_of, Words.slot_at, Words.stamp_free, Words.stamp_filled, RingNext.tail_found, RingNext.push_stamp_found, RingNext.lap_found, declared.steps.ring.RingLocal.RingLocal as ring}
 use Rattle.queue_laws.proofs.{Common.Tails.position_tail, Common.Tails.shut_tail, Common.Pushes.closed_push, Common.Pushes.not_wait_free, Ring.RingCells.wraps, Ring.RingTransitions.in_ring, Ring.RingWords.word_small, Ring.RingRanks.pick, Ring.RingStepOk.IsCalm, Ring.RingStepOk.Stays, Ring.RingStepOk.StepOk, Ring.RingStepOk.still, Ring.RingStepOk.opened_now, Ring.RingStepOk.saw_own, Ring.RingSlots.stamp_free_at, Ring.RingSlots.stamp_full_at, Ring.RingSlots.stamp_small, Ring.RingSlots.stamp_lapped, Ring.RingSlots.nobody, Ring.RingSlots.tail_slot}
 
 pub tail_word : {A : Type 0} (cap : ℕ) (r : Ring A) (s : Shared A) → RingOk cap r → Codes cap r s → IsWord s.tail
@@ -47,7 +47,7 @@ module _ {A : Type 0} {cap : ℕ} {r : Ring A} (who : ℕ) (ms : List (State A))
 module _ {A : Type 0} {cap : ℕ} {r : Ring A} {who : ℕ} {s : Shared A} {ms : List (State A)} {was : Bool} (ok : RingOk cap r) (codes : Codes cap r s) where
   pub good_push_tail : (d : PushKind) (v : A)
       → HoldsNone r.cells who
-      → StepOk cap r who s ms was (brings (Local.Bounded (ring.PushTail d)) (Op.Load Word.Tail) d v)
+      → StepOk cap r who s ms was (brings (Local.Ring (ring.PushTail d)) (Op.Load Word.Tail) d v)
   good_push_tail d v none =
       still ok codes tt refl
       (ok.ring, tail_word cap r s ok codes) refl (tail_goes who ms was ok d v s.tail 5 none codes.tail (omega arith))
@@ -119,7 +119,7 @@ module _ {A : Type 0} {cap : ℕ} {r : Ring A} {who : ℕ} {s : Shared A} {ms : 
 
   pub good_push_stamp : (d : PushKind) (v : A) (t : ℕ)
       → HoldsNone r.cells who → SawTail cap r t ms was
-      → StepOk cap r who s ms was (brings (Local.Bounded (ring.PushStamp d t)) (Op.Load (Word.Stamp (slot_at cap (position_of t)))) d v)
+      → StepOk cap r who s ms was (brings (Local.Ring (ring.PushStamp d t)) (Op.Load (Word.Stamp (slot_at cap (position_of t)))) d v)
   good_push_stamp d v t none saw =
       let i = position_of t % cap in
       let lt : i < cap = in_ring cap (position_of t) ok.ring in

@@ -1,6 +1,6 @@
 -- What is owed of each step of a call on a ring.
 use Rattle.std.proofs.Common.{ℕ, ◌+◌, ◌<◌, ◌≡◌, ◌≢◌, ◌==◌, ◌||◌, not, ◌∙◌, inr, Bool, true, false, Option, Some, None, List, [], ◌∷◌, refl, sym, ap, subst, bit_or}
-use Rattle.queue_steps.specs.{State.State, Kinds.filled, Next.CanNext, Next.next_of, WaitFree.is_wait_free, Replies.Tells, Replies.IsRightAt, Words.position_of, Words.is_shut, declared.steps.bounded.BoundedLocal.BoundedLocal as ring}
+use Rattle.queue_steps.specs.{State.State, Kinds.filled, Next.CanNext, Next.next_of, WaitFree.is_wait_free, Replies.Tells, Replies.IsRightAt, Words.position_of, Words.is_shut, declared.steps.ring.RingLocal.RingLocal as ring}
 use Rattle.queue_laws.specs.Common.Vocabulary.{Call, Reply, Effect, Kind, Word, Op, Touch, Answer, Local, Next, MARK}
 use Rattle.queue_laws.specs.{Common.Moments.SeenIn, Common.Effects.Leads, Common.Effects.with_effect, Common.Effects.Whether, Common.Operations.op_word, Ring.RingShared.Shared, Ring.RingShared.HasWord, Ring.RingShared.CanTouch, Ring.RingShared.CanOperate, Ring.RingShared.answered, Ring.RingShared.operated, Ring.RingShared.touched, Ring.RingShared.handed, Ring.RingCells.Ring, Ring.RingCells.queue_of, Ring.RingCells.RingOk, Ring.RingCells.HoldsNone, Ring.RingPasses.Passes, Ring.RingWords.Codes, Ring.RingTransitions.marked, Ring.RingAt.SawTail, Ring.RingAt.At, Common.Stand.Stand, Common.Stand.stand}
 use Rattle.queue_laws.proofs.{Common.Operations.has_word, Ring.RingPasses.passes_same, Ring.RingPasses.passes_marked, Common.Tails.mark_tail, Ring.RingTransitions.mark_ok, Ring.RingHands.Shift, Ring.RingHands.Rests, Ring.RingRanks.rank}
@@ -28,13 +28,13 @@ module _ {A : Type 0} (cap : ℕ) (r : Ring A) (who : ℕ) (ms : List (State A))
 -- The effect of the step at this local state that got this answer: the exchange of the tail or the head that wins, the tail that moves on, and
 -- the mark on an open tail. A front leaves only by a call that has seen the queue open
 abbrev pub IsEffect : {A : Type 0} → ℕ → Bool → Local ℕ → Answer ℕ → Option (Effect A) → Type 0
-IsEffect {A} cap was (Local.Bounded (ring.Claiming d tail)) (Answer.Found found) e = Whether (found == tail) ((v : A) × (e ≡ Some (Effect.Append v))) (e ≡ None)
-IsEffect {A} cap was (Local.Bounded (ring.Displacing tail)) (Answer.Found found) e = Whether (found + cap == position_of tail) ((x : A × A) × (e ≡ Some (Effect.Front x.0 x.1)) × (was ≡ true)) (e ≡ None)
-IsEffect cap was (Local.Bounded (ring.Arriving tail)) (Answer.Found found) e = e ≡ Some Effect.Arrive
-IsEffect cap was (Local.Bounded (ring.ClosingAtLimit d)) (Answer.Found found) e = Whether (is_shut found) (e ≡ None) (e ≡ Some Effect.SelfClose)
-IsEffect {A} cap was (Local.Bounded (ring.Taking head)) (Answer.Found found) e = Whether (found == head) ((x : A) × (e ≡ Some (Effect.Take x))) (e ≡ None)
-IsEffect cap was (Local.Bounded ring.Closing) (Answer.Found found) e = Whether (is_shut found) (e ≡ None) (e ≡ Some Effect.Close)
-IsEffect cap was (Local.Bounded l) a e = e ≡ None
+IsEffect {A} cap was (Local.Ring (ring.Claiming d tail)) (Answer.Found found) e = Whether (found == tail) ((v : A) × (e ≡ Some (Effect.Append v))) (e ≡ None)
+IsEffect {A} cap was (Local.Ring (ring.Displacing tail)) (Answer.Found found) e = Whether (found + cap == position_of tail) ((x : A × A) × (e ≡ Some (Effect.Front x.0 x.1)) × (was ≡ true)) (e ≡ None)
+IsEffect cap was (Local.Ring (ring.Arriving tail)) (Answer.Found found) e = e ≡ Some Effect.Arrive
+IsEffect cap was (Local.Ring (ring.ClosingAtLimit d)) (Answer.Found found) e = Whether (is_shut found) (e ≡ None) (e ≡ Some Effect.SelfClose)
+IsEffect {A} cap was (Local.Ring (ring.Taking head)) (Answer.Found found) e = Whether (found == head) ((x : A) × (e ≡ Some (Effect.Take x))) (e ≡ None)
+IsEffect cap was (Local.Ring ring.Closing) (Answer.Found found) e = Whether (is_shut found) (e ≡ None) (e ≡ Some Effect.Close)
+IsEffect cap was (Local.Ring l) a e = e ≡ None
 IsEffect cap was _ a e = ⊥
 
 -- the next step of the call can be taken, and is a step of the queue that leaves the ring right

@@ -2,7 +2,7 @@
 use Rattle.std.proofs.Common.{ℕ, ◌+◌, ◌-◌, ◌%◌, ◌<◌, ◌≡◌, ◌≢◌, ◌∙◌, inr, false, Option, Some, None, List, [], ◌∷◌, ◌++◌, length, refl, sym, ap, arith, slice_get}
 use Rattle.std.proofs.lemmas.{List.length-append, Bool.ne_eqb, Bool.eq-eqb}
 use Rattle.queue_laws.specs.{Common.Vocabulary.Effect, Common.Vocabulary.LIMIT, Ring.RingTransitions.appended, Ring.RingTransitions.taken, Ring.RingTransitions.written, Ring.RingTransitions.fronted, Ring.RingTransitions.arrived, Ring.RingTransitions.marked}
-use Rattle.queue_steps.specs.{State.is_single_cap, Effect.Fits, Effect.rest, Effect.with_coming, Words.IsRing}
+use Rattle.queue_steps.specs.{State.is_slot_cap, Effect.Fits, Effect.rest, Effect.with_coming, Words.IsRing}
 use Rattle.queue_laws.proofs.{Common.Puts.put_ok, Common.Lists.behind, Common.Lists.first, Common.Lists.front_stays, Common.Lists.last_is, Common.Lists.length-rest, Common.Tests.none_if, Ring.RingCells.wraps}
 use Rattle.queue_laws.specs.Ring.RingCells.{Cell, Free, Written, Full, Read, Coming, Swapped, Ring, queue_of, CellOk, RingOk}
 
@@ -42,8 +42,8 @@ none_coming cap r ok free = none_if r.coming (λ w e.
 pub in_ring : (cap p : ℕ) → IsRing cap → p % cap < cap
 in_ring cap p ring = let wide : 1 < cap = ring.0 in omega arith
 
-pub not_single : (cap : ℕ) → IsRing cap → is_single_cap (Some cap) ≡ false
-not_single cap ring = ne_eqb cap 1 (λ e. absurd (let wide : 1 < cap = ring.0 in omega arith))
+pub not_slot : (cap : ℕ) → IsRing cap → is_slot_cap (Some cap) ≡ false
+not_slot cap ring = ne_eqb cap 1 (λ e. absurd (let wide : 1 < cap = ring.0 in omega arith))
 
 pub append_ok : {A : Type 0} (cap : ℕ) (r : Ring A) (who : ℕ) (v : A) → RingOk cap r → r.closed ≡ false → r.tail < LIMIT → r.cells (r.tail % cap) ≡ Free r.tail
     → Fits (Effect.Append v) (queue_of cap r) × RingOk cap (appended cap r who v)
@@ -147,7 +147,7 @@ front_ok {A = A} cap r who old v ok below all full =
     let same : r.cells i ≡ Coming c.0 c.1 c.2 w = ap (λ n. r.cells (n % cap)) (sym p_is) ∙ c.4 in
     cc in
     let size : length r.items ≡ cap = omega (arith, all, ok.count) in (
-      (not_single cap ok.ring, eq-eqb (length r.items) cap size, none_if r.coming none, inr below, first r.items old is),
+      (not_slot cap ok.ring, eq-eqb (length r.items) cap size, none_if r.coming none, inr below, first r.items old is),
       record {
         ring = ok.ring;
         count = omega (arith, ok.count, length-rest r.items old is);

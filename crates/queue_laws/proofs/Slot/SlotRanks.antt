@@ -1,15 +1,15 @@
 -- One slot: a solo call comes nearer to its reply, a wait-free call replies at once, and a step touches what is there.
 use Rattle.std.proofs.Common.{◌≡◌, ℕ, ◌<◌, ◌≤◌, ◌==◌, Bool, true, false, Option, List, if◌then◌else◌, refl, arith}
-use Rattle.queue_steps.specs.{Next.CanNext, Next.next_of, WaitFree.is_wait_free, SingleNext.is_marked, SingleNext.is_pushed, declared.steps.single.SingleLocal.TheVariants.Pushing, declared.steps.single.SingleLocal.TheVariants.Forcing, declared.steps.single.SingleLocal.TheVariants.Popping}
+use Rattle.queue_steps.specs.{Next.CanNext, Next.next_of, WaitFree.is_wait_free, SlotNext.is_marked, SlotNext.is_pushed, declared.steps.slot.SlotLocal.TheVariants.Pushing, declared.steps.slot.SlotLocal.TheVariants.Forcing, declared.steps.slot.SlotLocal.TheVariants.Popping}
 use Rattle.queue_laws.specs.{Common.Vocabulary.Kind, Common.Vocabulary.Look, Common.Vocabulary.Local, Common.Vocabulary.Next, Common.Stand.Stand, Slot.SlotShared.CanTouch, Slot.SlotShared.CanOperate, Slot.SlotShared.one_slot, Slot.SlotShared.answered, Slot.SlotShared.operated, Slot.SlotShared.touched, Slot.SlotHolder.SlotHolder}
 use Rattle.queue_laws.proofs.Common.Ranks.{either_small, either_some}
 use Rattle.queue_laws.specs.Slot.SlotRows.{Codes, free_empty, free_full, At, push_try, push_put, force_try_empty, force_try_full, force_put_empty, force_put_full, pop_try, pop_take, close_try, look_at}
 
 -- how many steps a call takes from here at most, while no other party has the lock
 abbrev pub rank : Local ℕ → ℕ → ℕ
-rank (Local.Single Pushing) word = if word == 0 then 2 else 1
-rank (Local.Single (Forcing s)) word = if is_marked word then 1 else (if word == s then 2 else 3)
-rank (Local.Single (Popping s)) word = if word == s then 2 else (if is_pushed word then 3 else 1)
+rank (Local.Slot Pushing) word = if word == 0 then 2 else 1
+rank (Local.Slot (Forcing s)) word = if is_marked word then 1 else (if word == s then 2 else 3)
+rank (Local.Slot (Popping s)) word = if word == s then 2 else (if is_pushed word then 3 else 1)
 rank _ word = 1
 
 -- it has replied, or has fewer steps left
@@ -56,16 +56,16 @@ can_operate word slot (pop_take x) = (omega arith, tt, tt)
 can_operate word slot x = (tt, tt, tt)
 
 pub rank_small : (l : Local ℕ) (word : ℕ) → rank l word ≤ 3
-rank_small (Local.Single Pushing) word = either_small (word == 0) 2 1 3 (omega arith) (omega arith)
-rank_small (Local.Single (Forcing s)) word = either_small (is_marked word) 1 (if word == s then 2 else 3) 3 (omega arith) (either_small (word == s) 2 3 3 (omega arith) (omega arith))
-rank_small (Local.Single (Popping s)) word = either_small (word == s) 2 (if is_pushed word then 3 else 1) 3 (omega arith) (either_small (is_pushed word) 3 1 3 (omega arith) (omega arith))
+rank_small (Local.Slot Pushing) word = either_small (word == 0) 2 1 3 (omega arith) (omega arith)
+rank_small (Local.Slot (Forcing s)) word = either_small (is_marked word) 1 (if word == s then 2 else 3) 3 (omega arith) (either_small (word == s) 2 3 3 (omega arith) (omega arith))
+rank_small (Local.Slot (Popping s)) word = either_small (word == s) 2 (if is_pushed word then 3 else 1) 3 (omega arith) (either_small (is_pushed word) 3 1 3 (omega arith) (omega arith))
 rank_small _ word = omega arith
 
 -- a call in progress has a step before it
 pub rank_some : (l : Local ℕ) (word : ℕ) → 0 < rank l word
-rank_some (Local.Single Pushing) word = either_some (word == 0) 2 1 (omega arith) (omega arith)
-rank_some (Local.Single (Forcing s)) word = either_some (is_marked word) 1 (if word == s then 2 else 3) (omega arith) (either_some (word == s) 2 3 (omega arith) (omega arith))
-rank_some (Local.Single (Popping s)) word = either_some (word == s) 2 (if is_pushed word then 3 else 1) (omega arith) (either_some (is_pushed word) 3 1 (omega arith) (omega arith))
+rank_some (Local.Slot Pushing) word = either_some (word == 0) 2 1 (omega arith) (omega arith)
+rank_some (Local.Slot (Forcing s)) word = either_some (is_marked word) 1 (if word == s then 2 else 3) (omega arith) (either_some (word == s) 2 3 (omega arith) (omega arith))
+rank_some (Local.Slot (Popping s)) word = either_some (word == s) 2 (if is_pushed word then 3 else 1) (omega arith) (either_some (is_pushed word) 3 1 (omega arith) (omega arith))
 rank_some _ word = omega arith
 
 -- a wait-free call has one, whatever the word

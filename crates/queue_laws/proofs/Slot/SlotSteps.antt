@@ -1,6 +1,6 @@
 -- One slot: each atomic step of a call is a step of the queue.
 use Rattle.std.proofs.Common.{◌≡◌, ℕ, ◌+◌, Bool, true, false, Option, Some, None, Err, List, [], ◌∷◌, length, bit_or, if◌then◌else◌, refl, inl, inr, sym}
-use Rattle.queue_steps.specs.{State.State, Replies.IsRightAt, Replies.Tells, SingleNext.is_marked, SingleNext.is_pushed, Looks.call_of_look, Looks.reply_of_look, declared.steps.single.SingleLocal.TheVariants.Pushing, declared.steps.single.SingleLocal.TheVariants.Forcing, declared.steps.single.SingleLocal.TheVariants.Popping, declared.steps.single.SingleLocal.TheVariants.Closing, declared.steps.single.SingleLocal.TheVariants.Looking, declared.steps.types.Word.TheVariants.Lock}
+use Rattle.queue_steps.specs.{State.State, Replies.IsRightAt, Replies.Tells, SlotNext.is_marked, SlotNext.is_pushed, Looks.call_of_look, Looks.reply_of_look, declared.steps.slot.SlotLocal.TheVariants.Pushing, declared.steps.slot.SlotLocal.TheVariants.Forcing, declared.steps.slot.SlotLocal.TheVariants.Popping, declared.steps.slot.SlotLocal.TheVariants.Closing, declared.steps.slot.SlotLocal.TheVariants.Looking, declared.steps.types.Word.TheVariants.Lock}
 use Rattle.queue_steps.proofs.LookLaws.{reply_filled, reply_tells, reply_right}
 use Rattle.queue_laws.specs.Common.Vocabulary.{Call, Reply, Effect, PopError, PushError, ForcePushError, Op, Look, Local, PushKind, LOCKED, PUSHED, CLOSED}
 use Rattle.queue_laws.specs.{Common.Stand.Stand, Common.Stand.empty_handed, Common.Stand.brings, Slot.SlotHolder.SlotHolder, Slot.SlotHolder.Nobody, Slot.SlotHolder.Filling, Slot.SlotHolder.Swapping, Slot.SlotHolder.Taking, Common.Moments.SeenIn}
@@ -15,7 +15,7 @@ right_now Q ms k y told now = (refl, refl, (y, refl, told, λ e. inl now))
 abbrev Row : {T : Type 0} → ℕ → Option T → SlotHolder T → SlotHolder T → List T → Bool → Stand T → Type 0
 Row {T} word slot own h items c x = (n : ℕ) (ms : List (State T)) → StepOk word slot own h items c n x ms
 
-push_step : {T : Type 0} {word : ℕ} {slot : Option T} {h : SlotHolder T} {items : List T} {c : Bool} (v : T) → Codes word slot h items c → Row word slot Nobody h items c (brings (Local.Single Pushing) (Op.Exchange Lock 0 (bit_or LOCKED PUSHED)) PushKind.Push v)
+push_step : {T : Type 0} {word : ℕ} {slot : Option T} {h : SlotHolder T} {items : List T} {c : Bool} (v : T) → Codes word slot h items c → Row word slot Nobody h items c (brings (Local.Slot Pushing) (Op.Exchange Lock 0 (bit_or LOCKED PUSHED)) PushKind.Push v)
 push_step v (free_empty true) n ms = record { word' = 4; slot' = None; items' = []; c' = true; n' = n; e = None; own' = Nobody; h' = Nobody; leaves = refl; stands = free_empty true; told = refl; makes = refl; lands = right_now (single [] true n) ms (Call.Push v) (Reply.Push (Err (PushError.Closed v))) (refl, inr refl) (refl, refl); passes = stays Nobody Nobody }
 push_step v (free_empty false) n ms = record { word' = 3; slot' = None; items' = (v ∷ []); c' = false; n' = n + 1; e = Some (Effect.Append v); own' = Filling v; h' = Filling v; leaves = refl; stands = filling false v; told = (v, refl); makes = ((refl, refl, refl, inl refl), refl); lands = push_put v; passes = changes Nobody (Filling v) }
 push_step v (free_full true x) n ms = record { word' = 6; slot' = (Some x); items' = (x ∷ []); c' = true; n' = n; e = None; own' = Nobody; h' = Nobody; leaves = refl; stands = free_full true x; told = refl; makes = refl; lands = right_now (single (x ∷ []) true n) ms (Call.Push v) (Reply.Push (Err (PushError.Closed v))) (refl, inr refl) (refl, refl); passes = stays Nobody Nobody }
@@ -27,7 +27,7 @@ push_step v (swapping false old y) n ms = record { word' = 3; slot' = (Some old)
 push_step v (taking true x) n ms = record { word' = 5; slot' = (Some x); items' = []; c' = true; n' = n; e = None; own' = Nobody; h' = (Taking x); leaves = refl; stands = taking true x; told = refl; makes = refl; lands = right_now (single [] true n) ms (Call.Push v) (Reply.Push (Err (PushError.Closed v))) (refl, inr refl) (refl, refl); passes = stays Nobody (Taking x) }
 push_step v (taking false x) n ms = record { word' = 1; slot' = (Some x); items' = []; c' = false; n' = n; e = None; own' = Nobody; h' = (Taking x); leaves = refl; stands = taking false x; told = refl; makes = refl; lands = push_try v; passes = stays Nobody (Taking x) }
 
-force_empty_step : {T : Type 0} {word : ℕ} {slot : Option T} {h : SlotHolder T} {items : List T} {c : Bool} (v : T) → Codes word slot h items c → Row word slot Nobody h items c (brings (Local.Single (Forcing 0)) (Op.Exchange Lock 0 (bit_or LOCKED PUSHED)) PushKind.Force v)
+force_empty_step : {T : Type 0} {word : ℕ} {slot : Option T} {h : SlotHolder T} {items : List T} {c : Bool} (v : T) → Codes word slot h items c → Row word slot Nobody h items c (brings (Local.Slot (Forcing 0)) (Op.Exchange Lock 0 (bit_or LOCKED PUSHED)) PushKind.Force v)
 force_empty_step v (free_empty true) n ms = record { word' = 4; slot' = None; items' = []; c' = true; n' = n; e = None; own' = Nobody; h' = Nobody; leaves = refl; stands = free_empty true; told = refl; makes = refl; lands = right_now (single [] true n) ms (Call.ForcePush v) (Reply.ForcePush (Err (ForcePushError.Closed v))) (refl, inr refl) (refl, refl); passes = stays Nobody Nobody }
 force_empty_step v (free_empty false) n ms = record { word' = 3; slot' = None; items' = (v ∷ []); c' = false; n' = n + 1; e = Some (Effect.Append v); own' = Filling v; h' = Filling v; leaves = refl; stands = filling false v; told = (v, refl); makes = ((refl, refl, refl, inl refl), refl); lands = force_put_empty v; passes = changes Nobody (Filling v) }
 force_empty_step v (free_full true x) n ms = record { word' = 6; slot' = (Some x); items' = (x ∷ []); c' = true; n' = n; e = None; own' = Nobody; h' = Nobody; leaves = refl; stands = free_full true x; told = refl; makes = refl; lands = right_now (single (x ∷ []) true n) ms (Call.ForcePush v) (Reply.ForcePush (Err (ForcePushError.Closed v))) (refl, inr refl) (refl, refl); passes = stays Nobody Nobody }
@@ -39,7 +39,7 @@ force_empty_step v (swapping false old y) n ms = record { word' = 3; slot' = (So
 force_empty_step v (taking true x) n ms = record { word' = 5; slot' = (Some x); items' = []; c' = true; n' = n; e = None; own' = Nobody; h' = (Taking x); leaves = refl; stands = taking true x; told = refl; makes = refl; lands = right_now (single [] true n) ms (Call.ForcePush v) (Reply.ForcePush (Err (ForcePushError.Closed v))) (refl, inr refl) (refl, refl); passes = stays Nobody (Taking x) }
 force_empty_step v (taking false x) n ms = record { word' = 1; slot' = (Some x); items' = []; c' = false; n' = n; e = None; own' = Nobody; h' = (Taking x); leaves = refl; stands = taking false x; told = refl; makes = refl; lands = force_try_empty v; passes = stays Nobody (Taking x) }
 
-force_full_step : {T : Type 0} {word : ℕ} {slot : Option T} {h : SlotHolder T} {items : List T} {c : Bool} (v : T) → Codes word slot h items c → Row word slot Nobody h items c (brings (Local.Single (Forcing 2)) (Op.Exchange Lock 2 (bit_or LOCKED PUSHED)) PushKind.Force v)
+force_full_step : {T : Type 0} {word : ℕ} {slot : Option T} {h : SlotHolder T} {items : List T} {c : Bool} (v : T) → Codes word slot h items c → Row word slot Nobody h items c (brings (Local.Slot (Forcing 2)) (Op.Exchange Lock 2 (bit_or LOCKED PUSHED)) PushKind.Force v)
 force_full_step v (free_empty true) n ms = record { word' = 4; slot' = None; items' = []; c' = true; n' = n; e = None; own' = Nobody; h' = Nobody; leaves = refl; stands = free_empty true; told = refl; makes = refl; lands = right_now (single [] true n) ms (Call.ForcePush v) (Reply.ForcePush (Err (ForcePushError.Closed v))) (refl, inr refl) (refl, refl); passes = stays Nobody Nobody }
 force_full_step v (free_empty false) n ms = record { word' = 0; slot' = None; items' = []; c' = false; n' = n; e = None; own' = Nobody; h' = Nobody; leaves = refl; stands = free_empty false; told = refl; makes = refl; lands = force_try_empty v; passes = stays Nobody Nobody }
 force_full_step v (free_full true x) n ms = record { word' = 6; slot' = (Some x); items' = (x ∷ []); c' = true; n' = n; e = None; own' = Nobody; h' = Nobody; leaves = refl; stands = free_full true x; told = refl; makes = refl; lands = right_now (single (x ∷ []) true n) ms (Call.ForcePush v) (Reply.ForcePush (Err (ForcePushError.Closed v))) (refl, inr refl) (refl, refl); passes = stays Nobody Nobody }
@@ -51,7 +51,7 @@ force_full_step v (swapping false old y) n ms = record { word' = 3; slot' = (Som
 force_full_step v (taking true x) n ms = record { word' = 5; slot' = (Some x); items' = []; c' = true; n' = n; e = None; own' = Nobody; h' = (Taking x); leaves = refl; stands = taking true x; told = refl; makes = refl; lands = right_now (single [] true n) ms (Call.ForcePush v) (Reply.ForcePush (Err (ForcePushError.Closed v))) (refl, inr refl) (refl, refl); passes = stays Nobody (Taking x) }
 force_full_step v (taking false x) n ms = record { word' = 1; slot' = (Some x); items' = []; c' = false; n' = n; e = None; own' = Nobody; h' = (Taking x); leaves = refl; stands = taking false x; told = refl; makes = refl; lands = force_try_empty v; passes = stays Nobody (Taking x) }
 
-pop_step : {T : Type 0} {word : ℕ} {slot : Option T} {h : SlotHolder T} {items : List T} {c : Bool} (d : Bool) → Codes word slot h items c → Row word slot Nobody h items c (empty_handed (Local.Single (Popping (code false true d))) (Op.Exchange Lock (code false true d) (code true false d)) Call.Pop)
+pop_step : {T : Type 0} {word : ℕ} {slot : Option T} {h : SlotHolder T} {items : List T} {c : Bool} (d : Bool) → Codes word slot h items c → Row word slot Nobody h items c (empty_handed (Local.Slot (Popping (code false true d))) (Op.Exchange Lock (code false true d) (code true false d)) Call.Pop)
 pop_step true (free_empty true) n ms = record { word' = 4; slot' = None; items' = []; c' = true; n' = n; e = None; own' = Nobody; h' = Nobody; leaves = refl; stands = free_empty true; told = refl; makes = refl; lands = right_now (single [] true n) ms Call.Pop (Reply.Pop (Err PopError.Closed)) refl (refl, refl, refl); passes = stays Nobody Nobody }
 pop_step true (free_empty false) n ms = record { word' = 0; slot' = None; items' = []; c' = false; n' = n; e = None; own' = Nobody; h' = Nobody; leaves = refl; stands = free_empty false; told = refl; makes = refl; lands = right_now (single [] false n) ms Call.Pop (Reply.Pop (Err PopError.Empty)) refl (refl, refl, refl); passes = stays Nobody Nobody }
 pop_step true (free_full true x) n ms = record { word' = 5; slot' = (Some x); items' = []; c' = true; n' = n; e = Some (Effect.Take x); own' = Taking x; h' = Taking x; leaves = refl; stands = taking true x; told = (x, refl); makes = (([], refl), refl); lands = pop_take x; passes = changes Nobody (Taking x) }
@@ -73,7 +73,7 @@ pop_step false (swapping false old y) n ms = record { word' = 3; slot' = (Some o
 pop_step false (taking true x) n ms = record { word' = 5; slot' = (Some x); items' = []; c' = true; n' = n; e = None; own' = Nobody; h' = (Taking x); leaves = refl; stands = taking true x; told = refl; makes = refl; lands = right_now (single [] true n) ms Call.Pop (Reply.Pop (Err PopError.Closed)) refl (refl, refl, refl); passes = stays Nobody (Taking x) }
 pop_step false (taking false x) n ms = record { word' = 1; slot' = (Some x); items' = []; c' = false; n' = n; e = None; own' = Nobody; h' = (Taking x); leaves = refl; stands = taking false x; told = refl; makes = refl; lands = right_now (single [] false n) ms Call.Pop (Reply.Pop (Err PopError.Empty)) refl (refl, refl, refl); passes = stays Nobody (Taking x) }
 
-close_step : {T : Type 0} {word : ℕ} {slot : Option T} {h : SlotHolder T} {items : List T} {c : Bool} → Codes word slot h items c → Row word slot Nobody h items c (empty_handed (Local.Single Closing) (Op.Or Lock CLOSED) Call.Close)
+close_step : {T : Type 0} {word : ℕ} {slot : Option T} {h : SlotHolder T} {items : List T} {c : Bool} → Codes word slot h items c → Row word slot Nobody h items c (empty_handed (Local.Slot Closing) (Op.Or Lock CLOSED) Call.Close)
 close_step (free_empty true) n ms = record { word' = 4; slot' = None; items' = []; c' = true; n' = n; e = None; own' = Nobody; h' = Nobody; leaves = refl; stands = free_empty true; told = refl; makes = refl; lands = right_now (single [] true n) ms Call.Close (Reply.Close false) refl refl; passes = stays Nobody Nobody }
 close_step (free_empty false) n ms = record { word' = 4; slot' = None; items' = []; c' = true; n' = n; e = Some Effect.Close; own' = Nobody; h' = Nobody; leaves = refl; stands = free_empty true; told = refl; makes = (refl, refl); lands = (refl, refl, (_, refl, refl, λ e. cc)); passes = stays Nobody Nobody }
 close_step (free_full true x) n ms = record { word' = 6; slot' = (Some x); items' = (x ∷ []); c' = true; n' = n; e = None; own' = Nobody; h' = Nobody; leaves = refl; stands = free_full true x; told = refl; makes = refl; lands = right_now (single (x ∷ []) true n) ms Call.Close (Reply.Close false) refl refl; passes = stays Nobody Nobody }
@@ -95,7 +95,7 @@ reads (swapping true old y) = (refl, refl)
 reads (taking true x) = (refl, refl)
 reads x = (refl, refl)
 
-look_step : {T : Type 0} {word : ℕ} {slot : Option T} {h : SlotHolder T} {items : List T} {c : Bool} (l : Look) → Codes word slot h items c → Row word slot Nobody h items c (empty_handed (Local.Single (Looking l)) (Op.Load Lock) (call_of_look l))
+look_step : {T : Type 0} {word : ℕ} {slot : Option T} {h : SlotHolder T} {items : List T} {c : Bool} (l : Look) → Codes word slot h items c → Row word slot Nobody h items c (empty_handed (Local.Slot (Looking l)) (Op.Load Lock) (call_of_look l))
 look_step {T} {word = word} {slot = slot} {h = h} {items = items} {c = c} l st n ms =
     let many : ℕ = if is_pushed word then 1 else 0 in
     let right = reply_right (single items c n) (Some 1) many (is_marked word) l refl (reads st).1 (λ e. sym (reads st).0) in

@@ -1,7 +1,7 @@
 -- The chain after each step of a call, by what the step found, and what the call carries then.
 use Rattle.std.proofs.Common.{ℕ, ◌+◌, ◌/◌, ◌==◌, zero, suc, Bool, true, false, if◌then◌else◌, Option, Some, None, List}
-use Rattle.queue_laws.specs.{Common.Vocabulary.Answer, Common.Vocabulary.Local, Common.Vocabulary.Next, Common.Vocabulary.UnboundedLocal, Common.Vocabulary.BLOCK_SLOTS, Common.Stand.Stand, Chain.ChainFacts.head_of, Chain.ChainFacts.open_tail_of, Chain.ChainAnswers.tail_word, Chain.ChainAnswers.head_word, Chain.ChainAnswers.waits_at, Chain.ChainAnswers.is_done}
-use Rattle.queue_steps.specs.{ChainWords.offset_of, State.State, declared.steps.unbounded.UnboundedLocal.UnboundedLocal as chain}
+use Rattle.queue_laws.specs.{Common.Vocabulary.Answer, Common.Vocabulary.Local, Common.Vocabulary.Next, Common.Vocabulary.ChainLocal, Common.Vocabulary.BLOCK_SLOTS, Common.Stand.Stand, Chain.ChainFacts.head_of, Chain.ChainFacts.open_tail_of, Chain.ChainAnswers.tail_word, Chain.ChainAnswers.head_word, Chain.ChainAnswers.waits_at, Chain.ChainAnswers.is_done}
+use Rattle.queue_steps.specs.{ChainWords.offset_of, State.State, declared.steps.chain.ChainLocal.ChainLocal as chain}
 use Rattle.queue_laws.specs.Chain.ChainCells.{Rests, Laying, Stands, Passing, Walker, Waits, Chain, item_at, Spare}
 use Rattle.queue_laws.specs.Chain.ChainTransitions.{appended, installed, taken, reads, walk_after, walked, displayed, laid_out, opened, chained, written, marked, renamed, passed, entered, given_up}
 use Rattle.queue_laws.specs.Chain.ChainAt.{At, asking, installing, showing, claiming, laying, opening, chaining, writing, spending, taking, passing, entering, reading, beginning, walking, destroying, closing}
@@ -48,8 +48,8 @@ abbrev pub if_destroyed : {A : Type 0} → Chain A → ℕ → ℕ → ℕ → C
 if_destroyed c who b slot = walked c b (if is_done (c.readers (item_at b slot)) then walk_after who slot else Waits slot)
 
 -- the local state of a call on a chain. The last line stands for what is none
-abbrev pub chain_of : Local ℕ → UnboundedLocal ℕ
-chain_of (Local.Unbounded l) = l
+abbrev pub chain_of : Local ℕ → ChainLocal ℕ
+chain_of (Local.Chain l) = l
 chain_of _ = chain.PopHead
 
 -- what the call carries after its touch: nothing once its item is put, the item once that is taken

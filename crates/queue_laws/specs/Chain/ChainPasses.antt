@@ -1,8 +1,8 @@
 -- What one party's step leaves of a chain for the others: counts that grow, and parts that stay. And the spares of a party.
 use Rattle.std.proofs.Common.{ℕ, ◌+◌, ◌<◌, ◌≤◌, ◌≡◌, ◌≢◌, ◌⊎◌, Some, Option, None}
 use Rattle.queue_laws.specs.Chain.ChainCells.{Wrote, Rests, Stands, Linked, Seen, Spare, Chain, value, Part, Write, Read, Tail, Head, Next, First, Passed, owner}
-use Rattle.queue_laws.specs.Common.Vocabulary.{Local, UnboundedLocal}
-use Rattle.queue_steps.specs.declared.steps.unbounded.UnboundedLocal.{UnboundedLocal as chain}
+use Rattle.queue_laws.specs.Common.Vocabulary.{Local, ChainLocal}
+use Rattle.queue_steps.specs.declared.steps.chain.ChainLocal.{ChainLocal as chain}
 
 -- the part is the same
 abbrev pub Kept : {A : Type 0} → Chain A → Chain A → Part → Type 0
@@ -34,7 +34,7 @@ pub record Passes {A : Type 0} (who : ℕ) (r s : Chain A) : Type 0 where
   pub owned : (x : Part) (other : ℕ) → other ≢ who → owner s x ≡ Some other → owner r x ≡ Some other
 
 -- the spare that a call has at this local state
-abbrev pub spare_of : UnboundedLocal ℕ → Option ℕ
+abbrev pub spare_of : ChainLocal ℕ → Option ℕ
 spare_of (chain.PushTail d spare) = spare
 spare_of (chain.PushBlock d tail spare) = spare
 spare_of (chain.Installing d tail f) = Some f
@@ -46,7 +46,7 @@ spare_of _ = None
 
 -- the same of any local state: none but a chain's has a spare
 abbrev pub spare_in : Local ℕ → Option ℕ
-spare_in (Local.Unbounded l) = spare_of l
+spare_in (Local.Chain l) = spare_of l
 spare_in _ = None
 
 -- the party has no spare but this

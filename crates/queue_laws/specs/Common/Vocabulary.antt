@@ -14,11 +14,11 @@ pub use Rattle.queue_steps.specs.declared.steps.types.Answer.{Answer}
 pub use Rattle.queue_steps.specs.declared.steps.looks.Look.{Look}
 pub use Rattle.queue_steps.specs.declared.steps.types.Local.{Local}
 pub use Rattle.queue_steps.specs.declared.steps.types.Next.{Next}
-pub use Rattle.queue_steps.specs.declared.steps.single.SingleLocal.{SingleLocal}
-pub use Rattle.queue_steps.specs.declared.steps.bounded.PushKind.{PushKind}
-pub use Rattle.queue_steps.specs.declared.steps.bounded.BoundedLocal.{BoundedLocal}
-pub use Rattle.queue_steps.specs.declared.steps.unbounded.UnboundedLocal.{UnboundedLocal}
+pub use Rattle.queue_steps.specs.declared.steps.slot.SlotLocal.{SlotLocal}
+pub use Rattle.queue_steps.specs.declared.steps.ring.PushKind.{PushKind}
+pub use Rattle.queue_steps.specs.declared.steps.ring.RingLocal.{RingLocal}
+pub use Rattle.queue_steps.specs.declared.steps.chain.ChainLocal.{ChainLocal}
 pub use Rattle.queue_steps.specs.declared.sizes.TheConstants.{LIMIT, MAX_CAPACITY, BLOCK_SLOTS, BLOCK_POSITIONS, SOLO_STEPS, MAX_PARTIES, WAIT_FREE_STEPS}
-pub use Rattle.queue_steps.specs.declared.steps.single.TheConstants.{LOCKED, PUSHED, CLOSED, UNLOCKED, UNPUSHED}
-pub use Rattle.queue_steps.specs.declared.steps.bounded.TheConstants.{MARK, TAIL_STEP}
-pub use Rattle.queue_steps.specs.declared.steps.unbounded.TheConstants.{WRITE, READ, DESTROY}
+pub use Rattle.queue_steps.specs.declared.steps.slot.TheConstants.{LOCKED, PUSHED, CLOSED, UNLOCKED, UNPUSHED}
+pub use Rattle.queue_steps.specs.declared.steps.ring.TheConstants.{MARK, TAIL_STEP}
+pub use Rattle.queue_steps.specs.declared.steps.chain.TheConstants.{WRITE, READ, DESTROY}

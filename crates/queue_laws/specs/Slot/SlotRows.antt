@@ -1,7 +1,7 @@
 -- One slot: how the word and the slot stand for the queue, where each call stands, and what is owed of each step.
 use Rattle.std.specs.Prelude.{◌≡◌, ℕ, ◌==◌, Bool, true, false, Option, Some, None, List, [], ◌∷◌, bit_or}
-use Rattle.queue_steps.specs.{State.State, Kinds.filled, Next.next_of, Replies.IsRightAt, Replies.Tells, SingleNext.is_marked, Looks.call_of_look, declared.steps.single.SingleLocal.TheVariants.Pushing, declared.steps.single.SingleLocal.TheVariants.Pushed, declared.steps.single.SingleLocal.TheVariants.Forcing, declared.steps.single.SingleLocal.TheVariants.Forced, declared.steps.single.SingleLocal.TheVariants.Popping, declared.steps.single.SingleLocal.TheVariants.Popped, declared.steps.single.SingleLocal.TheVariants.Closing, declared.steps.single.SingleLocal.TheVariants.Looking, declared.steps.types.Word.TheVariants.Lock}
-use Rattle.queue_laws.specs.Common.Vocabulary.{Call, Reply, Effect, Kind, Op, Touch, Answer, Look, Local, SingleLocal, PushKind, Next, LOCKED, PUSHED, CLOSED, UNLOCKED}
+use Rattle.queue_steps.specs.{State.State, Kinds.filled, Next.next_of, Replies.IsRightAt, Replies.Tells, SlotNext.is_marked, Looks.call_of_look, declared.steps.slot.SlotLocal.TheVariants.Pushing, declared.steps.slot.SlotLocal.TheVariants.Pushed, declared.steps.slot.SlotLocal.TheVariants.Forcing, declared.steps.slot.SlotLocal.TheVariants.Forced, declared.steps.slot.SlotLocal.TheVariants.Popping, declared.steps.slot.SlotLocal.TheVariants.Popped, declared.steps.slot.SlotLocal.TheVariants.Closing, declared.steps.slot.SlotLocal.TheVariants.Looking, declared.steps.types.Word.TheVariants.Lock}
+use Rattle.queue_laws.specs.Common.Vocabulary.{Call, Reply, Effect, Kind, Op, Touch, Answer, Look, Local, SlotLocal, PushKind, Next, LOCKED, PUSHED, CLOSED, UNLOCKED}
 use Rattle.queue_laws.specs.{Common.Moments.SeenIn, Common.Effects.Leads, Common.Effects.with_effect, Common.Effects.Whether, Common.Stand.Stand, Common.Stand.stand, Common.Stand.empty_handed, Common.Stand.brings, Slot.SlotShared.one_slot, Slot.SlotShared.answered, Slot.SlotShared.operated, Slot.SlotShared.touched, Slot.SlotShared.handed, Slot.SlotHolder.SlotHolder, Slot.SlotHolder.Nobody, Slot.SlotHolder.Filling, Slot.SlotHolder.Swapping, Slot.SlotHolder.Taking}
 
 -- the word, by its bits `LOCKED`, `PUSHED` and `CLOSED`
@@ -24,21 +24,21 @@ pub data Codes {T : Type 0} : ℕ → Option T → SlotHolder T → List T → B
   taking : (c : Bool) (x : T) → Codes (code true false c) (Some x) (Taking x) [] c
 
 -- a call that touches the slot, and then unlocks it
-abbrev pub unlocks : {T : Type 0} → SingleLocal → (ℕ → Touch) → Option T → Call T → List (Effect T) → Stand T
-unlocks l touch v k es = stand (Local.Single l) (touch 0) (Op.And Lock UNLOCKED) v k es
+abbrev pub unlocks : {T : Type 0} → SlotLocal → (ℕ → Touch) → Option T → Call T → List (Effect T) → Stand T
+unlocks l touch v k es = stand (Local.Slot l) (touch 0) (Op.And Lock UNLOCKED) v k es
 
 -- where a call stands, and what it holds
 pub data At {T : Type 0} : Stand T → SlotHolder T → Type 0 where
-  push_try : (v : T) → At (brings (Local.Single Pushing) (Op.Exchange Lock 0 (bit_or LOCKED PUSHED)) PushKind.Push v) Nobody
+  push_try : (v : T) → At (brings (Local.Slot Pushing) (Op.Exchange Lock 0 (bit_or LOCKED PUSHED)) PushKind.Push v) Nobody
   push_put : (v : T) → At (unlocks Pushed Touch.Put (Some v) (Call.Push v) (Effect.Append v ∷ [])) (Filling v)
-  force_try_empty : (v : T) → At (brings (Local.Single (Forcing 0)) (Op.Exchange Lock 0 (bit_or LOCKED PUSHED)) PushKind.Force v) Nobody
-  force_try_full : (v : T) → At (brings (Local.Single (Forcing 2)) (Op.Exchange Lock 2 (bit_or LOCKED PUSHED)) PushKind.Force v) Nobody
+  force_try_empty : (v : T) → At (brings (Local.Slot (Forcing 0)) (Op.Exchange Lock 0 (bit_or LOCKED PUSHED)) PushKind.Force v) Nobody
+  force_try_full : (v : T) → At (brings (Local.Slot (Forcing 2)) (Op.Exchange Lock 2 (bit_or LOCKED PUSHED)) PushKind.Force v) Nobody
   force_put_empty : (v : T) → At (unlocks (Forced 0) Touch.Put (Some v) (Call.ForcePush v) (Effect.Append v ∷ [])) (Filling v)
   force_put_full : (old v : T) → At (unlocks (Forced 2) Touch.Swap (Some v) (Call.ForcePush v) (Effect.Replace old v ∷ [])) (Swapping old v)
-  pop_try : (d : Bool) → At (empty_handed (Local.Single (Popping (code false true d))) (Op.Exchange Lock (code false true d) (code true false d)) Call.Pop) Nobody
+  pop_try : (d : Bool) → At (empty_handed (Local.Slot (Popping (code false true d))) (Op.Exchange Lock (code false true d) (code true false d)) Call.Pop) Nobody
   pop_take : (x : T) → At (unlocks Popped Touch.Take None Call.Pop (Effect.Take x ∷ [])) (Taking x)
-  close_try : At (empty_handed (Local.Single Closing) (Op.Or Lock CLOSED) Call.Close) Nobody
-  look_at : (l : Look) → At (empty_handed (Local.Single (Looking l)) (Op.Load Lock) (call_of_look l)) Nobody
+  close_try : At (empty_handed (Local.Slot Closing) (Op.Or Lock CLOSED) Call.Close) Nobody
+  look_at : (l : Look) → At (empty_handed (Local.Slot (Looking l)) (Op.Load Lock) (call_of_look l)) Nobody
 
 -- what a party has of the lock: all that is held, or nothing
 pub data Share {T : Type 0} : SlotHolder T → SlotHolder T → Type 0 where
@@ -64,12 +64,12 @@ NextOk {T} (Next.Reply x spare) v own k es ms =
 
 -- the effect of the step at this local state that got this answer: the exchange that wins, and the mark on an open queue
 abbrev pub IsEffect : {T : Type 0} → Local ℕ → Answer ℕ → Option (Effect T) → Type 0
-IsEffect {T} (Local.Single Pushing) (Answer.Found found) e = Whether (found == 0) ((v : T) × (e ≡ Some (Effect.Append v))) (e ≡ None)
-IsEffect {T} (Local.Single (Forcing seen)) (Answer.Found found) e =
+IsEffect {T} (Local.Slot Pushing) (Answer.Found found) e = Whether (found == 0) ((v : T) × (e ≡ Some (Effect.Append v))) (e ≡ None)
+IsEffect {T} (Local.Slot (Forcing seen)) (Answer.Found found) e =
     Whether (is_marked found) (e ≡ None) (Whether (found == seen) (Whether (seen == 0) ((v : T) × (e ≡ Some (Effect.Append v))) ((x : T × T) × (e ≡ Some (Effect.Replace x.0 x.1)))) (e ≡ None))
-IsEffect {T} (Local.Single (Popping seen)) (Answer.Found found) e = Whether (found == seen) ((x : T) × (e ≡ Some (Effect.Take x))) (e ≡ None)
-IsEffect (Local.Single Closing) (Answer.Found found) e = Whether (is_marked found) (e ≡ None) (e ≡ Some Effect.Close)
-IsEffect (Local.Single l) a e = e ≡ None
+IsEffect {T} (Local.Slot (Popping seen)) (Answer.Found found) e = Whether (found == seen) ((x : T) × (e ≡ Some (Effect.Take x))) (e ≡ None)
+IsEffect (Local.Slot Closing) (Answer.Found found) e = Whether (is_marked found) (e ≡ None) (e ≡ Some Effect.Close)
+IsEffect (Local.Slot l) a e = e ≡ None
 IsEffect _ a e = ⊥
 
 module _ {T : Type 0} (word : ℕ) (slot : Option T) (own h : SlotHolder T) (items : List T) (c : Bool) (n : ℕ) where

@@ -3,7 +3,7 @@ ghost use Rattle.std.specs.Prelude.{◌≡◌, true, false};
 ghost use Rattle.queue_steps.specs.CommonNext.{is_common_of, is_walk_of, is_passing_of};
 ghost use Rattle.queue_steps.specs.Next.{CanNext, next_of};
 
-use crate::steps::unbounded::following as unbounded;
+use crate::steps::chain::following;
 use crate::steps::{Answer, Kind, Local, Next};
 
 /// Whether a call passes from block to block, as `next_passing` tells where the step is no common one.
@@ -13,7 +13,7 @@ pub fn is_passing<B: Copy>(_kind: Kind, local: &Local<B>, answer: &Answer<B>) ->
     ensures { result ≡ is_passing_of _kind local.now answer.now }
 {
     match local {
-        Local::Unbounded(local) => unbounded::is_passing(local, answer),
+        Local::Chain(local) => following::is_passing(local, answer),
         _ => false,
     }
 }
@@ -27,7 +27,7 @@ pub fn next_passing<B: Copy>(_kind: Kind, local: Local<B>, answer: Answer<B>) ->
     ensures { result ≡ next_of _kind local answer }
 {
     match local {
-        Local::Unbounded(local) => unbounded::next_passing(local, answer),
+        Local::Chain(local) => following::next_passing(local, answer),
         _ => unreachable!(),
     }
 }
@@ -39,7 +39,7 @@ pub fn is_walk<B: Copy>(_kind: Kind, local: &Local<B>, answer: &Answer<B>) -> bo
     ensures { result ≡ is_walk_of _kind local.now answer.now }
 {
     match local {
-        Local::Unbounded(local) => unbounded::is_walk(local, answer),
+        Local::Chain(local) => following::is_walk(local, answer),
         _ => false,
     }
 }
@@ -52,7 +52,7 @@ pub fn next_walk<B: Copy>(_kind: Kind, local: Local<B>, answer: Answer<B>) -> Ne
     ensures { result ≡ next_of _kind local answer }
 {
     match local {
-        Local::Unbounded(local) => unbounded::next_walk(local, answer),
+        Local::Chain(local) => following::next_walk(local, answer),
         _ => unreachable!(),
     }
 }

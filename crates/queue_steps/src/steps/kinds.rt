@@ -5,10 +5,7 @@ ghost use Rattle.queue_steps.specs.Next.{CanNext, next_of};
 ghost use Rattle.queue_steps.specs.declared.steps.types.Kind.{Kind as SpecKind};
 ghost use Rattle.queue_steps.specs.declared.steps.types.Kind.TheVariants.{Single, Bounded, Unbounded};
 
-use crate::steps::bounded::{each as ring, following as bounded};
-use crate::steps::single::each as single;
-use crate::steps::unbounded::{each as chain, following as unbounded};
-use crate::steps::{Answer, Kind, Local, Next, blocks};
+use crate::steps::{Answer, Kind, Local, Next, blocks, chain, ring, slot};
 
 /// The steps of the calls on queues of one kind. The answer is `Start` at first, and then what the operation gave that was asked for.
 pub trait KindSteps {
@@ -51,8 +48,8 @@ impl KindSteps for SlotSteps {
     fn next<B: Copy>(kind: Kind, local: Local<B>, answer: Answer<B>) -> Next<B> {
         let _ = kind;
         match (local, answer) {
-            (Local::Begin(call), Answer::Start) => single::begin(call),
-            (Local::Single(local), Answer::Found(word)) => single::next(local, word),
+            (Local::Begin(call), Answer::Start) => slot::each::begin(call),
+            (Local::Slot(local), Answer::Found(word)) => slot::each::next(local, word),
             _ => unreachable!(),
         }
     }
@@ -80,7 +77,7 @@ impl KindSteps for RingSteps {
             return Self::next_common(kind, local, answer);
         }
         match (kind, local) {
-            (Kind::Bounded(cap), Local::Bounded(local)) => bounded::next_other(
+            (Kind::Bounded(cap), Local::Ring(local)) => ring::following::next_other(
                 cap as u64, local, answer,
             ),
             _ => unreachable!(),
@@ -91,7 +88,7 @@ impl KindSteps for RingSteps {
     fn is_common<B: Copy>(kind: Kind, local: &Local<B>, answer: &Answer<B>) -> bool {
         match (kind, local) {
             (Kind::Bounded(_), Local::Begin(_)) => true,
-            (Kind::Bounded(cap), Local::Bounded(local)) => bounded::is_common(
+            (Kind::Bounded(cap), Local::Ring(local)) => ring::following::is_common(
                 cap as u64, local, answer,
             ),
             _ => unreachable!(),
@@ -101,8 +98,8 @@ impl KindSteps for RingSteps {
     #[inline(always)]
     fn next_common<B: Copy>(kind: Kind, local: Local<B>, answer: Answer<B>) -> Next<B> {
         match (kind, local, answer) {
-            (Kind::Bounded(cap), Local::Begin(call), Answer::Start) => ring::begin(cap, call),
-            (Kind::Bounded(cap), Local::Bounded(local), answer) => bounded::next_common(
+            (Kind::Bounded(cap), Local::Begin(call), Answer::Start) => ring::each::begin(cap, call),
+            (Kind::Bounded(cap), Local::Ring(local), answer) => ring::following::next_common(
                 cap as u64, local, answer,
             ),
             _ => unreachable!(),
@@ -128,7 +125,7 @@ impl KindSteps for ChainSteps {
             return blocks::next_passing(kind, local, answer);
         }
         match local {
-            Local::Unbounded(local) => unbounded::next_other(local, answer),
+            Local::Chain(local) => chain::following::next_other(local, answer),
             _ => unreachable!(),
         }
     }
@@ -138,7 +135,7 @@ impl KindSteps for ChainSteps {
         let _ = kind;
         match local {
             Local::Begin(_) => true,
-            Local::Unbounded(local) => unbounded::is_common(local, answer),
+            Local::Chain(local) => chain::following::is_common(local, answer),
             _ => unreachable!(),
         }
     }
@@ -147,8 +144,8 @@ impl KindSteps for ChainSteps {
     fn next_common<B: Copy>(kind: Kind, local: Local<B>, answer: Answer<B>) -> Next<B> {
         let _ = kind;
         match (local, answer) {
-            (Local::Begin(call), Answer::Start) => chain::begin(call),
-            (Local::Unbounded(local), answer) => unbounded::next_common(local, answer),
+            (Local::Begin(call), Answer::Start) => chain::each::begin(call),
+            (Local::Chain(local), answer) => chain::following::next_common(local, answer),
             _ => unreachable!(),
         }
     }

@@ -1,5 +1,5 @@
 //! Where a call stands that passes from block to block, as numbers: a function that is made for one of them is made for that step alone.
-use crate::steps::{Local, UnboundedLocal};
+use crate::steps::{ChainLocal, Local};
 
 /// A push has asked for the pushers' block.
 pub const PUSH_BLOCK: u64 = 0;
@@ -40,22 +40,22 @@ pub const AWAITING: u64 = 11;
 /// Whether the call stands there.
 #[inline(always)]
 pub fn is_at<B: Copy>(stage: u64, local: &Local<B>) -> bool {
-    let Local::Unbounded(local) = local else {
+    let Local::Chain(local) = local else {
         return false;
     };
     match local {
-        UnboundedLocal::PushBlock(_, _, _) => stage == PUSH_BLOCK,
-        UnboundedLocal::Asking(_, _, _) => stage == ASKING,
-        UnboundedLocal::Claiming(_, _, _, _) => stage == CLAIMING,
-        UnboundedLocal::Laying(_, _, _, _) => stage == LAYING,
-        UnboundedLocal::Opening(_, _, _, _) => stage == OPENING,
-        UnboundedLocal::Chaining(_, _, _, _) => stage == CHAINING,
-        UnboundedLocal::Taking(_, _) => stage == TAKING,
-        UnboundedLocal::Following(_, _) => stage == FOLLOWING,
-        UnboundedLocal::Peeking(_, _, _) => stage == PEEKING,
-        UnboundedLocal::Passing(_, _, _) => stage == PASSING,
-        UnboundedLocal::Entering(_, _) => stage == ENTERING,
-        UnboundedLocal::Awaiting(_, _) => stage == AWAITING,
+        ChainLocal::PushBlock(_, _, _) => stage == PUSH_BLOCK,
+        ChainLocal::Asking(_, _, _) => stage == ASKING,
+        ChainLocal::Claiming(_, _, _, _) => stage == CLAIMING,
+        ChainLocal::Laying(_, _, _, _) => stage == LAYING,
+        ChainLocal::Opening(_, _, _, _) => stage == OPENING,
+        ChainLocal::Chaining(_, _, _, _) => stage == CHAINING,
+        ChainLocal::Taking(_, _) => stage == TAKING,
+        ChainLocal::Following(_, _) => stage == FOLLOWING,
+        ChainLocal::Peeking(_, _, _) => stage == PEEKING,
+        ChainLocal::Passing(_, _, _) => stage == PASSING,
+        ChainLocal::Entering(_, _) => stage == ENTERING,
+        ChainLocal::Awaiting(_, _) => stage == AWAITING,
         _ => false,
     }
 }

@@ -2,9 +2,9 @@
 ghost use Rattle.std.specs.Prelude.{◌≡◌, ⊤};
 
 use crate::model::{CallKind, ReplyKind};
-use crate::steps::bounded::BoundedLocal;
-use crate::steps::single::SingleLocal;
-use crate::steps::unbounded::UnboundedLocal;
+use crate::steps::chain::ChainLocal;
+use crate::steps::ring::RingLocal;
+use crate::steps::slot::SlotLocal;
 use std::alloc::AllocError;
 
 /// Which queue.
@@ -146,11 +146,11 @@ pub enum Local<B> {
     /// Before the first step.
     Begin(CallKind),
     /// Within a call on one slot.
-    Single(SingleLocal),
+    Slot(SlotLocal),
     /// Within a call on a ring.
-    Bounded(BoundedLocal),
+    Ring(RingLocal),
     /// Within a call on a chain of blocks.
-    Unbounded(UnboundedLocal<B>),
+    Chain(ChainLocal<B>),
 }
 
 impl<B: Copy> Clone for Local<B> {

@@ -5,7 +5,7 @@ use Rattle.queue_laws.specs.{Common.Vocabulary.BLOCK_SLOTS, Chain.ChainFacts.pla
 use Rattle.queue_steps.specs.{Legal.IsShown, Words.is_shut, Words.tail_of, ChainWords.offset_at, ChainWords.offset_of}
 use Rattle.queue_laws.proofs.{Common.Tails.position_tail, Common.Tails.shut_tail, Chain.ChainPlaces.place_offset, Chain.ChainAnswers.tail_items, Chain.ChainAnswers.head_items, Chain.ChainAnswers.resting_word, Chain.ChainAnswers.standing_word}
 use Rattle.mem_blocks.specs.{Web.Block, Web.block, Web.word_of, declared.block.BlockPtr.BlockPtr, declared.hub.TheConstants.TAIL, declared.hub.TheConstants.HEAD}
-use Rattle.own_cells.specs.OneChain.{OwnChainCells.Piece, OwnChainCells.OwnChain, OwnChainCells.piece_at, LinkedBlocks.name_at, LinkedBlocks.pieces_of, OwnChainOwned.taken, OwnChainOwned.accepted, OwnChainOwned.items_from, OwnChainOwned.own_chain_queue, OwnChainOwned.HoldsItems, OwnChainOwned.IsBare, OwnChainOwned.IsLaid, OwnChainOwned.IsIdle, ChainMemory.named_by, ChainMemory.own_chain_in}
+use Rattle.own_cells.specs.OneChain.{OwnChainCells.Piece, OwnChainCells.OwnChain, OwnChainCells.piece_at, OwnChain.name_at, OwnChain.pieces_of, OwnChainOwned.taken, OwnChainOwned.accepted, OwnChainOwned.items_from, OwnChainOwned.own_chain_queue, OwnChainOwned.HoldsItems, OwnChainOwned.IsBare, OwnChainOwned.IsLaid, OwnChainOwned.IsIdle, ChainMemory.named_by, ChainMemory.own_chain_in}
 use Rattle.shared_chain.specs.{Spots.spot, ChainCalls.OutChain, Ending.LeadsTo, Ending.IntoBlock, Rule.lead_of, Rule.Codes}
 use Rattle.shared_chain.proofs.Frames.Resting.{AtRest}
 use Rattle.shared_chain.proofs.Finishing.Ended.{lead_named, lead_none, items_are, left, pieces, long, long_pieces, stays, piece_is, holds, held_is, linked}

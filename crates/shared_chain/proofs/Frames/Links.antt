@@ -2,7 +2,7 @@
 use Rattle.std.proofs.Common.{ℕ, ◌+◌, ◌≡◌, ◌≢◌, ◌∙◌, inl, inr, Option, List, [], refl, sym, ap, subst}
 use denote.RawPtr.{Ptr}
 use Rattle.queue_laws.specs.{Common.Vocabulary.Op, Common.Vocabulary.Touch, Common.Vocabulary.Local, Common.Vocabulary.Next, Common.Stand.Stand, Chain.ChainFacts.IsNamed, Chain.ChainAt.At, Chain.ChainAnswers.Answers, Chain.ChainAfter.left_by, Chain.ChainAfter.chain_of, Chain.ChainAfter.after_of, Common.Operations.op_word}
-use Rattle.queue_steps.specs.{State.State, UnboundedNext.unbounded_next}
+use Rattle.queue_steps.specs.{State.State, ChainNext.chain_next}
 use Rattle.queue_laws.specs.Chain.ChainCells.{GivenUp, Chained, Chain, ChainOk, Write, Read, reader_of, HoldsOnly, Nothing}
 use Rattle.mem_blocks.specs.Web.{Block, Sitter, Act, block, Lives, Mays, blocks_after, sitter_after}
 use Rattle.shared_parties.specs.declared.known.CallState.{CallState}
@@ -43,7 +43,7 @@ module _ (tail_end head_end : Ptr) {A : Type 0} where
       (here : At g.chain who ms k) (number : ℕ) → Lives bs number (op_place tail_end head_end k.op) → (number ≡ 0 → word_index (op_word k.op) ≡ 0) → LeadsThere g.chain bs k.op number → Answers g.chain k.op (answered g.chain bs k.op number)
       → (acts : List (Act A)) → Mays (blocks_made k.op number bs) m acts
       → Leaves tail_end head_end (record { chain = after_of here (answered g.chain bs k.op number); out = g.out }) who (blocks_after (blocks_made k.op number bs) acts) (sitter_after (blocks_made k.op number bs) m acts)
-      (unbounded_next (chain_of k.local) (answered g.chain bs k.op number))
+      (chain_next (chain_of k.local) (answered g.chain bs k.op number))
       → BlockStep tail_end head_end g who bs m here
   step_by g who bs m here number lives counts leads found acts mays leaves = record {
     number = number;

@@ -1,8 +1,8 @@
 -- The steps of a chain ask nothing of the names of blocks: with other names the next step is the same, with those names.
 use Rattle.std.proofs.Common.{ℕ, ◌+◌, ◌%◌, ◌≡◌, ◌==◌, Bool, true, false, not, if◌then◌else◌, Option, Some, None, IsSome, refl, bit_and, nat_lt, is_some}
-use Rattle.queue_laws.specs.Common.Vocabulary.{Call, Kind, Answer, Local, Next, PushKind, UnboundedLocal, LIMIT, BLOCK_SLOTS, WRITE, READ, DESTROY}
-use Rattle.queue_steps.specs.{declared.steps.types.Answer.TheVariants.Start, declared.steps.types.Answer.TheVariants.Found, declared.steps.types.Answer.TheVariants.Linked, declared.steps.types.Answer.TheVariants.Granted, declared.steps.unbounded.UnboundedLocal.UnboundedLocal as chain, Words.position_of, Words.is_shut, ChainWords.block_at, ChainWords.offset_of, ChainWords.items_before, Next.CanNext, Next.next_of}
-use Rattle.queue_steps.specs.UnboundedNext.{is_last_slot, chain_tail_found, tail_block_found, granted, installed, lays, chain_head_found, head_block_found, chain_pop_tail_found, followed, walks_on, FitsChain, unbounded_begin, unbounded_next}
+use Rattle.queue_laws.specs.Common.Vocabulary.{Call, Kind, Answer, Local, Next, PushKind, ChainLocal, LIMIT, BLOCK_SLOTS, WRITE, READ, DESTROY}
+use Rattle.queue_steps.specs.{declared.steps.types.Answer.TheVariants.Start, declared.steps.types.Answer.TheVariants.Found, declared.steps.types.Answer.TheVariants.Linked, declared.steps.types.Answer.TheVariants.Granted, declared.steps.chain.ChainLocal.ChainLocal as chain, Words.position_of, Words.is_shut, ChainWords.block_at, ChainWords.offset_of, ChainWords.items_before, Next.CanNext, Next.next_of}
+use Rattle.queue_steps.specs.ChainNext.{is_last_slot, chain_tail_found, tail_block_found, granted, installed, lays, chain_head_found, head_block_found, chain_pop_tail_found, followed, walks_on, FitsChain, chain_begin, chain_next}
 use Rattle.shared_chain.specs.Names.{name_map, answer_map, chain_map, local_map, next_map}
 
 module _ {B C : Type 0} (f : B → C) where
@@ -52,25 +52,25 @@ module _ {B C : Type 0} (f : B → C) where
   walks_on_map b i = if_map (nat_lt (i + 2) BLOCK_SLOTS) _ _ _ _ refl refl
 
   -- the next step with other names
-  pub unbounded_next_map : (l : UnboundedLocal B) (a : Answer B) → FitsChain l a → unbounded_next (chain_map f l) (answer_map f a) ≡ next_map f (unbounded_next l a)
-  unbounded_next_map (chain.PushTail d s) (Found t) fits = tail_found_map d t s
-  unbounded_next_map (chain.PushBlock d t s) (Linked b) fits = block_found_map d t b s
-  unbounded_next_map (chain.Asking d t b) (Granted s) fits = granted_map d t b s
-  unbounded_next_map (chain.Installing d t s) (Linked b) fits = installed_map d t s b
-  unbounded_next_map (chain.Claiming d t b s) (Found x) fits = if_map (x == t) _ _ _ _ (if_map (is_last_slot t) _ _ _ _ (lays_map d t b s) refl) (tail_found_map d x s)
-  unbounded_next_map chain.PopHead (Found x) fits = head_found_map x
-  unbounded_next_map (chain.PopBlock h) (Linked b) fits = front_found_map h b
-  unbounded_next_map (chain.PopTail h b) (Found t) fits = pop_tail_map h b t
-  unbounded_next_map (chain.Taking h b) (Found x) fits = if_map (x == h) _ _ _ _ (if_map (is_last_slot h) _ _ _ _ refl refl) (head_found_map x)
-  unbounded_next_map (chain.Following h b) (Linked a) fits = followed_map h b a
-  unbounded_next_map (chain.Peeking h b a) (Linked x) fits = rw (some_map x) refl
-  unbounded_next_map (chain.Awaiting h b) (Found x) fits = if_map (bit_and x WRITE == 0) _ _ _ _ refl (if_map (is_last_slot h) _ _ _ _ refl refl)
-  unbounded_next_map (chain.Reading b i) (Found x) fits = if_map (not (bit_and x DESTROY == 0)) _ _ _ _ (walks_on_map b i) refl
-  unbounded_next_map (chain.Walking b i) (Found x) fits = if_map (not (bit_and x READ == 0)) _ _ _ _ (walks_on_map b i) refl
-  unbounded_next_map (chain.Destroying b i) (Found x) fits = if_map (not (bit_and x READ == 0)) _ _ _ _ (walks_on_map b i) refl
-  unbounded_next_map (chain.CountAgain g t h) (Found x) fits = if_map (x == t) _ _ _ _ refl refl
-  unbounded_next_map l (Found x) fits = refl
-  unbounded_next_map l a fits = refl
+  pub chain_next_map : (l : ChainLocal B) (a : Answer B) → FitsChain l a → chain_next (chain_map f l) (answer_map f a) ≡ next_map f (chain_next l a)
+  chain_next_map (chain.PushTail d s) (Found t) fits = tail_found_map d t s
+  chain_next_map (chain.PushBlock d t s) (Linked b) fits = block_found_map d t b s
+  chain_next_map (chain.Asking d t b) (Granted s) fits = granted_map d t b s
+  chain_next_map (chain.Installing d t s) (Linked b) fits = installed_map d t s b
+  chain_next_map (chain.Claiming d t b s) (Found x) fits = if_map (x == t) _ _ _ _ (if_map (is_last_slot t) _ _ _ _ (lays_map d t b s) refl) (tail_found_map d x s)
+  chain_next_map chain.PopHead (Found x) fits = head_found_map x
+  chain_next_map (chain.PopBlock h) (Linked b) fits = front_found_map h b
+  chain_next_map (chain.PopTail h b) (Found t) fits = pop_tail_map h b t
+  chain_next_map (chain.Taking h b) (Found x) fits = if_map (x == h) _ _ _ _ (if_map (is_last_slot h) _ _ _ _ refl refl) (head_found_map x)
+  chain_next_map (chain.Following h b) (Linked a) fits = followed_map h b a
+  chain_next_map (chain.Peeking h b a) (Linked x) fits = rw (some_map x) refl
+  chain_next_map (chain.Awaiting h b) (Found x) fits = if_map (bit_and x WRITE == 0) _ _ _ _ refl (if_map (is_last_slot h) _ _ _ _ refl refl)
+  chain_next_map (chain.Reading b i) (Found x) fits = if_map (not (bit_and x DESTROY == 0)) _ _ _ _ (walks_on_map b i) refl
+  chain_next_map (chain.Walking b i) (Found x) fits = if_map (not (bit_and x READ == 0)) _ _ _ _ (walks_on_map b i) refl
+  chain_next_map (chain.Destroying b i) (Found x) fits = if_map (not (bit_and x READ == 0)) _ _ _ _ (walks_on_map b i) refl
+  chain_next_map (chain.CountAgain g t h) (Found x) fits = if_map (x == t) _ _ _ _ refl refl
+  chain_next_map l (Found x) fits = refl
+  chain_next_map l a fits = refl
 
   none_map : (b s : Option B) → (b ≡ None → s ≡ None) → name_map f b ≡ None → name_map f s ≡ None
   none_map None None h e = refl
@@ -82,7 +82,7 @@ module _ {B C : Type 0} (f : B → C) where
   is_some_map (Some b) h = refl
 
   -- an answer fits with other names where it fits
-  pub fits_map : (l : UnboundedLocal B) (a : Answer B) → FitsChain l a → FitsChain (chain_map f l) (answer_map f a)
+  pub fits_map : (l : ChainLocal B) (a : Answer B) → FitsChain l a → FitsChain (chain_map f l) (answer_map f a)
   fits_map (chain.PushBlock d t s) (Linked b) fits = (fits.0, none_map b s fits.1)
   fits_map (chain.Claiming d t b s) (Found x) fits = (fits.0, λ e last. is_some_map s (fits.1 e last))
   fits_map (chain.PopBlock h) (Linked b) fits = (fits.0, λ e. is_some_map b (fits.1 e))
@@ -90,17 +90,17 @@ module _ {B C : Type 0} (f : B → C) where
   fits_map l a fits = fits
 
   -- a call begins so with any names
-  pub unbounded_begin_map : (c : Call Unit) → unbounded_begin c ≡ next_map f (unbounded_begin c)
-  unbounded_begin_map (Call.Push v) = refl
-  unbounded_begin_map c = refl
+  pub chain_begin_map : (c : Call Unit) → chain_begin c ≡ next_map f (chain_begin c)
+  chain_begin_map (Call.Push v) = refl
+  chain_begin_map c = refl
 
   pub can_next_map : (l : Local B) (a : Answer B) → CanNext Kind.Unbounded l a → CanNext Kind.Unbounded (local_map f l) (answer_map f a)
   can_next_map (Local.Begin c) Start can = tt
-  can_next_map (Local.Unbounded l) a can = fits_map l a can
+  can_next_map (Local.Chain l) a can = fits_map l a can
   can_next_map _ _ can = absurd can
 
   -- what a call does next, with other names
   pub next_of_map : (l : Local B) (a : Answer B) → CanNext Kind.Unbounded l a → next_of Kind.Unbounded (local_map f l) (answer_map f a) ≡ next_map f (next_of Kind.Unbounded l a)
-  next_of_map (Local.Begin c) Start can = unbounded_begin_map c
-  next_of_map (Local.Unbounded l) a can = unbounded_next_map l a can
+  next_of_map (Local.Begin c) Start can = chain_begin_map c
+  next_of_map (Local.Chain l) a can = chain_next_map l a can
   next_of_map _ _ can = absurd can

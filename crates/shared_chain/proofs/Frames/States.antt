@@ -5,7 +5,7 @@ use denote.RawPtr.{Ptr}
 use Rattle.queue_laws.specs.{Common.Puts.put, Common.Stand.Stand, Common.Stand.stand, Chain.ChainTransitions.walk_after, Chain.ChainFacts.IsNamed, Chain.ChainAt.At, Chain.ChainAt.Only, Chain.ChainAnswers.StateAnswers, Chain.ChainAnswers.IsState, Chain.ChainAnswers.Answers, Chain.ChainAfter.chain_of, Chain.ChainAfter.after_of, Chain.ChainAfter.left_by, Common.Operations.op_word}
 use Rattle.queue_laws.proofs.{Common.Puts.put_other, Chain.ChainWalk.after_walker}
 use Rattle.queue_laws.specs.Common.Vocabulary.{Call, Reply, Effect, Word, Op, Touch, Answer, Local, Next, BLOCK_SLOTS}
-use Rattle.queue_steps.specs.{State.State, declared.steps.unbounded.UnboundedLocal.UnboundedLocal as chain, UnboundedNext.unbounded_next, UnboundedNext.walks_on}
+use Rattle.queue_steps.specs.{State.State, declared.steps.chain.ChainLocal.ChainLocal as chain, ChainNext.chain_next, ChainNext.walks_on}
 use Rattle.queue_laws.specs.Chain.ChainCells.{Reading, Done, Walk, Walker, GivenUp, Chained, Chain, ChainOk, Part, Write, Read, Passed, HoldsOnly, reader_of, item_at, LAST}
 use Rattle.mem_blocks.specs.Web.{Block, Sitter, Act, lifts, block, Lives, word_of, with_word, without, AllVacant, acted, May, Mays, blocks_after, sitter_acted, sitter_after}
 use Rattle.shared_parties.specs.declared.known.CallState.{CallState}
@@ -62,7 +62,7 @@ module _ {A : Type 0} (te he : Ptr) where
     -- an operation, and what it leaves
     op_step : (number : ℕ) {ms : List (State A)} {k : Stand A} (here : At g.chain who ms k)
         → Lives bs number (op_place te he k.op) → (number ≡ 0 → word_index (op_word k.op) ≡ 0) → LeadsThere g.chain bs k.op number → Answers g.chain k.op (answered g.chain bs k.op number)
-        → Leaves g who (blocks_made k.op number bs) m (after_of here (answered g.chain bs k.op number)) (unbounded_next (chain_of k.local) (answered g.chain bs k.op number)) → BlockStep te he g who bs m here
+        → Leaves g who (blocks_made k.op number bs) m (after_of here (answered g.chain bs k.op number)) (chain_next (chain_of k.local) (answered g.chain bs k.op number)) → BlockStep te he g who bs m here
     op_step number here lives counts leads found left = record {
       number = number;
       lives = lives;
@@ -83,18 +83,18 @@ module _ {A : Type 0} (te he : Ptr) where
     -- a load of a slot's state
     pub load_step : (b name i : ℕ) {ms : List (State A)} {l : Local ℕ} {t : Touch} {v : Option A} {k : Call A} {es : List (Effect A)} (here : At g.chain who ms (stand l t (Op.Load (Word.State name i)) v k es))
         → ChainOk g.chain → Codes te he g bs → IsNamed g.chain b name → g.chain.walks b ≢ GivenUp → IsState g.chain b i (word_of bs (b + 2) i)
-        → Leaves g who bs m (after_of here (Answer.Found (word_of bs (b + 2) i))) (unbounded_next (chain_of l) (Answer.Found (word_of bs (b + 2) i))) → BlockStep te he g who bs m here
+        → Leaves g who bs m (after_of here (Answer.Found (word_of bs (b + 2) i))) (chain_next (chain_of l) (Answer.Found (word_of bs (b + 2) i))) → BlockStep te he g who bs m here
     load_step b name i {l = l} here ok codes named on state left =
         let there = alive_is te he g bs b codes named.0 on in
         let r = after_of here (Answer.Found (word_of bs (b + 2) i)) in
-        let x = unbounded_next (chain_of l) (Answer.Found (word_of bs (b + 2) i)) in
+        let x = chain_next (chain_of l) (Answer.Found (word_of bs (b + 2) i)) in
         op_step (b + 2) here (subst (λ f. Lives bs (b + 2) (spot f)) (sym named.1) there.0) (λ e. absurd (omega arith)) tt (state_answers g bs b name i ok named state)
         (subst (λ (cs : List (Block A)). Leaves g who cs m r x) (sym (word_same bs (b + 2) i)) left)
 
     -- bits of a slot's state that are set
     pub or_step : (b name i y : ℕ) {ms : List (State A)} {l : Local ℕ} {t : Touch} {v : Option A} {k : Call A} {es : List (Effect A)} (here : At g.chain who ms (stand l t (Op.Or (Word.State name i) y) v k es))
         → ChainOk g.chain → Codes te he g bs → IsNamed g.chain b name → g.chain.walks b ≢ GivenUp → IsState g.chain b i (word_of bs (b + 2) i)
-        → Leaves g who (with_word bs (b + 2) i (bit_or (word_of bs (b + 2) i) y)) m (after_of here (Answer.Found (word_of bs (b + 2) i))) (unbounded_next (chain_of l) (Answer.Found (word_of bs (b + 2) i))) → BlockStep te he g who bs m here
+        → Leaves g who (with_word bs (b + 2) i (bit_or (word_of bs (b + 2) i) y)) m (after_of here (Answer.Found (word_of bs (b + 2) i))) (chain_next (chain_of l) (Answer.Found (word_of bs (b + 2) i))) → BlockStep te he g who bs m here
     or_step b name i y here ok codes named on state z =
         let there = alive_is te he g bs b codes named.0 on in
         op_step (b + 2) here (subst (λ f. Lives bs (b + 2) (spot f)) (sym named.1) there.0) (λ e. absurd (omega arith)) tt (state_answers g bs b name i ok named state) z
@@ -155,7 +155,7 @@ module _ {A : Type 0} (te he : Ptr) where
           (idles g who (without cs (b + 2)) (sitter_acted cs m (lifts (b + 2))) (r GivenUp) x out last.0 others tt (walks_none (record { chain = r GivenUp; out = out }) who b (holds GivenUp))
           (free.0, (block cs (b + 2), refl, last.1.lives.1, last.1.lives.0, last.1.homes, last.1.vacant))))
       go (inr h) =
-          let x : Next ℕ = Next.Step (Local.Unbounded (chain.Walking name (slot + 1))) Touch.Nothing (Op.Load (Word.State name (slot + 1))) in
+          let x : Next ℕ = Next.Step (Local.Chain (chain.Walking name (slot + 1))) Touch.Nothing (Op.Load (Word.State name (slot + 1))) in
           let none = walks_none (record { chain = r (Walker who (slot + 1)); out = out }) who b (holds (Walker who (slot + 1))) in
           rw (h.0, lt-ltb (slot + 2) BLOCK_SLOTS (let ne = h.1 in omega arith))
           (idles g who cs m (r (Walker who (slot + 1))) x out (on h.1) others (λ n e. absurd (let z : Read n ≡ Passed b = holds (Walker who (slot + 1)) (Read n) (ap reader_of e) in cc)) none free)

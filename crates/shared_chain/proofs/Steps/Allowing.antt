@@ -5,7 +5,7 @@ use mathlib.Core.Option.{some}
 use lib.ListN.{get_elem?}
 use denote.RawPtr.{Ptr}
 use Rattle.queue_laws.specs.{Common.Vocabulary.Call, Common.Vocabulary.Effect, Common.Vocabulary.Kind, Common.Vocabulary.Answer, Common.Vocabulary.Local, Common.Vocabulary.Next, Common.Effects.Leads, Common.Effects.with_effect, Common.Effects.MayFront, Common.Stand.Stand, Chain.ChainCells.Reading, Chain.ChainCells.Chain, Chain.ChainCells.queue_of, Chain.ChainAt.At, Chain.ChainAnswers.Answers, Chain.ChainAfter.chain_of, Chain.ChainAfter.carried_of, Chain.ChainAfter.after_of}
-use Rattle.queue_steps.specs.{Next.CanNext, Next.next_of, State.State as Queue, UnboundedNext.FitsChain, UnboundedNext.unbounded_next}
+use Rattle.queue_steps.specs.{Next.CanNext, Next.next_of, State.State as Queue, ChainNext.FitsChain, ChainNext.chain_next}
 use Rattle.queue_laws.proofs.Chain.{ChainRight.NextOkSpares, ChainRight.Right, ChainRight.step_right, ChainStep.is_chain}
 use Rattle.mem_blocks.specs.{Web.Block, Web.State, Web.Sitter, Web.word_of, Web.viewed, declared.hub.TheConstants.PARTIES}
 use Rattle.shared_parties.specs.{declared.known.CallState.CallState, declared.known.InCall.InCall, Calling.Standing, Calling.NextOk, Calling.handed_by, Calling.stand_of, CallsAt.CallsAt}
@@ -13,7 +13,7 @@ use Rattle.shared_parties.proofs.{Callings.grown, CallSteps.Stepping, CallSteps.
 use Rattle.shared_chain.specs.{ChainCalls.OutChain, ChainCalls.ChainLent, ChainCalls.chain_calls, Rule.Codes, Rule.Rule, Steps.HoldsFor, Steps.chain_then, Steps.SlotsFor, Steps.MayGoOn, Steps.After, Steps.Follows}
 use Rattle.shared_chain.proofs.{CallLaws.chain_call_laws, Steps.Carrying.carried_is, Steps.MaySteps.may_go_on}
 
-can_next : (l : Local ℕ) (a : Answer ℕ) → l ≡ Local.Unbounded (chain_of l) → FitsChain (chain_of l) a → CanNext Kind.Unbounded l a × (next_of Kind.Unbounded l a ≡ unbounded_next (chain_of l) a)
+can_next : (l : Local ℕ) (a : Answer ℕ) → l ≡ Local.Chain (chain_of l) → FitsChain (chain_of l) a → CanNext Kind.Unbounded l a × (next_of Kind.Unbounded l a ≡ chain_next (chain_of l) a)
 can_next l a is fits = (subst (λ z. CanNext Kind.Unbounded z a) (sym is) fits, ap (λ z. next_of Kind.Unbounded z a) is)
 
 module _ {A : Type 0} where
@@ -40,10 +40,10 @@ module _ {A : Type 0} where
       pub out : ℕ → Bool
       pub codes : Codes te he (record { chain = chain_then here a; out = out }) bs
       pub others : (j : ℕ) → j ≢ who → (n : ℕ) → g.chain.readers n ≡ Reading j → out n ≡ g.out n
-      pub slots : SlotsFor (record { chain = chain_then here a; out = out }) who (unbounded_next (chain_of k.local) a)
+      pub slots : SlotsFor (record { chain = chain_then here a; out = out }) who (chain_next (chain_of k.local) a)
       pub lends : List (ℕ × Option A)
       pub lent : ChainLent (record { chain = chain_then here a; out = out }) who lends
-      pub holds : HoldsFor lends (unbounded_next (chain_of k.local) a) q
+      pub holds : HoldsFor lends (chain_next (chain_of k.local) a) q
 
     -- it keeps the rule, and tells how the call goes on
     pub follows : (s : State A (CallState A)) (r : Rule te he s) (id : ℕ) (u : CallState A) (c : InCall A) → get_elem? s.views id ≡ some u → (st : Standing chain_calls r.cells r.history id u.known c) → (a : Answer ℕ) (bs : List (Block A)) (q : Sitter A (CallState A))
@@ -65,7 +65,7 @@ module _ {A : Type 0} where
         right = step_right here a r.all.ok f.found st.here.1
 
         todo : Next ℕ
-        todo = unbounded_next (chain_of c.local) a
+        todo = chain_next (chain_of c.local) a
 
         after : OutChain A
         after = record { chain = chain_then here a; out = f.out }

@@ -4,7 +4,7 @@ use mathlib.Core.Option.{some}
 use denote.RawPtr.{Ptr}
 use Rattle.queue_laws.specs.{Common.Puts.put, Common.Vocabulary.Word, Common.Vocabulary.Op, Common.Vocabulary.Touch, Common.Vocabulary.Local, Common.Vocabulary.Next, Common.Vocabulary.BLOCK_SLOTS, Common.Vocabulary.WRITE, Common.Vocabulary.READ, Chain.ChainFacts.head_of, Chain.ChainFacts.Got, Chain.ChainAt.Only, Chain.ChainAt.awaiting, Chain.ChainAnswers.IsState, Chain.ChainAnswers.is_wrote, Chain.ChainPasses.spare_in}
 use Rattle.queue_laws.proofs.{Common.Puts.put_same, Common.Puts.put_other, Chain.ChainReads.own_item, Chain.ChainAnswers.head_offset}
-use Rattle.queue_steps.specs.{State.State, ChainWords.offset_of, UnboundedNext.at, UnboundedNext.walks, UnboundedNext.awaits, UnboundedNext.is_last_slot, UnboundedNext.written_found, declared.steps.unbounded.UnboundedLocal.UnboundedLocal as chain}
+use Rattle.queue_steps.specs.{State.State, ChainWords.offset_of, ChainNext.at, ChainNext.walks, ChainNext.awaits, ChainNext.is_last_slot, ChainNext.written_found, declared.steps.chain.ChainLocal.ChainLocal as chain}
 use Rattle.queue_laws.specs.Chain.ChainCells.{Writer, Wrote, Reading, Done, GivenUp, ChainOk, Write, Read, HoldsOnly, value, reader_of, item_at}
 use Rattle.mem_blocks.specs.Web.{Block, Sitter, takes, block, Lives, word_of, with_home, away, full}
 use Rattle.shared_parties.specs.declared.known.CallState.{CallState}
@@ -97,8 +97,8 @@ module _ {A : Type 0} (te he : Ptr) (g : OutChain A) (who : ℕ) (bs : List (Blo
   await_left = go (is_wrote (g.chain.writers (item_at (n / BLOCK_SLOTS) i))) refl
     where
       last : g.chain.writers n ≡ Wrote x → (u : Bool) → found false u
-      last wrote true = took wrote (Local.Unbounded (chain.Walking name 0)) (Touch.Take (offset_of (head_of n more))) (Op.Load (Word.State name 0)) refl refl refl
-      last wrote false = took wrote (Local.Unbounded (chain.Reading name (offset_of (head_of n more)))) (Touch.Take (offset_of (head_of n more))) (Op.Or (Word.State name (offset_of (head_of n more))) READ) refl refl refl
+      last wrote true = took wrote (Local.Chain (chain.Walking name 0)) (Touch.Take (offset_of (head_of n more))) (Op.Load (Word.State name 0)) refl refl refl
+      last wrote false = took wrote (Local.Chain (chain.Reading name (offset_of (head_of n more)))) (Touch.Take (offset_of (head_of n more))) (Op.Or (Word.State name (offset_of (head_of n more))) READ) refl refl refl
 
       go : (t : Bool) → is_wrote (g.chain.writers (item_at (n / BLOCK_SLOTS) i)) ≡ t → found (bit_and (word_of bs (n / BLOCK_SLOTS + 2) i) WRITE == 0) (is_last_slot (head_of n more))
       go false e = subst (λ t. found t (is_last_slot (head_of n more))) (sym (state.written ∙ ap not e)) waits
@@ -108,11 +108,11 @@ module _ {A : Type 0} (te he : Ptr) (g : OutChain A) (who : ℕ) (bs : List (Blo
 module _ {A : Type 0} (te he : Ptr) where
   module _ (g : OutChain A) (who : ℕ) (bs : List (Block A)) (m : Sitter A (CallState A)) (ms : List (State A)) where
     pub step_awaiting : (x : A) (n name : ℕ) (more : Bool) (holds : HoldsOnly g.chain who (Only (Read n))) (got : Got g.chain who n x name)
-        → ChainOk g.chain → Codes te he g bs → SlotsAs g who (Local.Unbounded (chain.Awaiting (head_of n more) name)) → (xs : List (ℕ × Option A)) → ChainLent g who xs
-        → HoldsBy (Local.Unbounded (chain.Awaiting (head_of n more) name)) (Op.Load (Word.State name (offset_of (head_of n more)))) xs m → BlockStep te he g who bs m {ms = ms} (awaiting x n name more holds got)
+        → ChainOk g.chain → Codes te he g bs → SlotsAs g who (Local.Chain (chain.Awaiting (head_of n more) name)) → (xs : List (ℕ × Option A)) → ChainLent g who xs
+        → HoldsBy (Local.Chain (chain.Awaiting (head_of n more) name)) (Op.Load (Word.State name (offset_of (head_of n more)))) xs m → BlockStep te he g who bs m {ms = ms} (awaiting x n name more holds got)
     step_awaiting x n name more holds got ok codes slots xs lent has =
         let not_yet = slots n got.mine in
-        let free : (m.hand ≡ None) × (m.spare ≡ None) = subst (λ ys. HoldsBy (Local.Unbounded (chain.Awaiting (head_of n more) name)) (Op.Load (Word.State name (offset_of (head_of n more)))) ys m) (no_lent te he g who xs (none g who n holds not_yet) lent) has in
+        let free : (m.hand ≡ None) × (m.spare ≡ None) = subst (λ ys. HoldsBy (Local.Chain (chain.Awaiting (head_of n more) name)) (Op.Load (Word.State name (offset_of (head_of n more)))) ys m) (no_lent te he g who xs (none g who n holds not_yet) lent) has in
         let i = offset_of (head_of n more) in
         let offset = head_offset n more in
         load_step te he g who bs m (n / BLOCK_SLOTS) name i {ms = ms} (awaiting x n name more holds got) ok codes got.named (on te he g who bs m x n i name more holds got offset ok codes not_yet free)

@@ -4,7 +4,7 @@ use Rattle.std.proofs.lemmas.Bool.Decides.{eqb_tells}
 use denote.RawPtr.{Ptr}
 use mathlib.Core.Option.{some}
 use Rattle.queue_laws.specs.{Common.Vocabulary.Word, Common.Vocabulary.Op, Common.Vocabulary.Answer, Common.Vocabulary.Local, Common.Vocabulary.Next, Common.Vocabulary.PushKind, Common.Vocabulary.BLOCK_SLOTS, Common.Vocabulary.TAIL_STEP, Common.Puts.put, Common.Stand.brings, Chain.ChainTransitions.appended, Chain.ChainAfter.if_claimed, Chain.ChainFacts.open_tail_of, Chain.ChainFacts.IsNamed, Chain.ChainFacts.TailBlockIs, Chain.ChainFacts.HasSpare, Chain.ChainFacts.SawTail, Chain.ChainAt.At, Chain.ChainAt.IsLast, Chain.ChainAt.claiming, Chain.ChainAnswers.Answers, Chain.ChainAnswers.tail_word, Chain.ChainAnswers.tail_place, Chain.ChainAnswers.is_wrote, Chain.ChainPasses.spare_in}
-use Rattle.queue_steps.specs.{State.State, Words.tail_of, ChainWords.offset_of, UnboundedNext.unbounded_next, UnboundedNext.chain_tail_found, UnboundedNext.lays, UnboundedNext.writes, declared.steps.unbounded.UnboundedLocal.UnboundedLocal as chain}
+use Rattle.queue_steps.specs.{State.State, Words.tail_of, ChainWords.offset_of, ChainNext.chain_next, ChainNext.chain_tail_found, ChainNext.lays, ChainNext.writes, declared.steps.chain.ChainLocal.ChainLocal as chain}
 use Rattle.queue_laws.proofs.{Common.Puts.put_ok, Common.Puts.put_same, Common.Puts.put_other, Chain.ChainTransitions.item_free, Chain.ChainTransitions.next_free, Chain.ChainAnswers.same_tail}
 use Rattle.queue_laws.specs.Chain.ChainCells.{Free, Writing, Unread, Done, Mover, Rests, Laying, GivenUp, Chain, ChainOk, WalkOk, Read, HoldsOnly, Nothing, writer_of, reader_of, item_at, LAST}
 use Rattle.mem_blocks.specs.Web.{Block, Sitter, block, Lives, Rests as AtHome, worded, homed, takes, away, word_of, with_word, with_home}
@@ -87,7 +87,7 @@ module _ {A : Type 0} (te he : Ptr) (g : OutChain A) (who : ℕ) (bs : List (Blo
     pub step_claiming : (d : PushKind) (v : A) (q name : ℕ) (spare : Option ℕ) (none : HoldsOnly g.chain who Nothing) (spare_is : HasSpare g.chain who spare) (saw : SawTail g.chain q ms) (found : TailBlockIs g.chain q name)
         (enough : IsLast q → IsSome spare)
         → ChainOk g.chain → Codes te he g bs → (xs : List (ℕ × Option A)) → ChainLent g who xs
-        → HoldsBy (Local.Unbounded (chain.Claiming d (open_tail_of q) name spare)) (Op.Exchange Word.Tail (open_tail_of q) (open_tail_of q + TAIL_STEP)) xs m
+        → HoldsBy (Local.Chain (chain.Claiming d (open_tail_of q) name spare)) (Op.Exchange Word.Tail (open_tail_of q) (open_tail_of q + TAIL_STEP)) xs m
         → BlockStep te he g who bs m {ms = ms} (claiming d v q name spare none spare_is saw found enough)
     step_claiming d v q name spare none spare_is saw found enough ok codes xs lent held = elim (eqb_tells (word_of bs 0 TAIL) (open_tail_of q)) [
       | inl e ↦ elim (eqb_tells (offset_of (open_tail_of q) + 1) BLOCK_SLOTS) [
@@ -98,7 +98,7 @@ module _ {A : Type 0} (te he : Ptr) (g : OutChain A) (who : ℕ) (bs : List (Blo
           codes none (tail_spare d (word_of bs 0 TAIL) spare) empty
     ]
       where
-        here : At g.chain who ms (brings (Local.Unbounded (chain.Claiming d (open_tail_of q) name spare)) (Op.Exchange Word.Tail (open_tail_of q) (open_tail_of q + TAIL_STEP)) d v)
+        here : At g.chain who ms (brings (Local.Chain (chain.Claiming d (open_tail_of q) name spare)) (Op.Exchange Word.Tail (open_tail_of q) (open_tail_of q + TAIL_STEP)) d v)
         here = claiming d v q name spare none spare_is saw found enough
 
         answers : Answers g.chain (Op.Exchange Word.Tail (open_tail_of q) (open_tail_of q + TAIL_STEP)) (Answer.Found (word_of bs 0 TAIL))
@@ -108,10 +108,10 @@ module _ {A : Type 0} (te he : Ptr) (g : OutChain A) (who : ℕ) (bs : List (Blo
         same_bit b e = ap (λ w. w == open_tail_of q) (sym codes.tail_is) ∙ e
 
         empty : (m.hand ≡ None) × (m.spare ≡ carried_by spare)
-        empty = none_held g who (Local.Unbounded (chain.Claiming d (open_tail_of q) name spare)) (Op.Exchange Word.Tail (open_tail_of q) (open_tail_of q + TAIL_STEP)) xs m none lent held
+        empty = none_held g who (Local.Chain (chain.Claiming d (open_tail_of q) name spare)) (Op.Exchange Word.Tail (open_tail_of q) (open_tail_of q + TAIL_STEP)) xs m none lent held
 
         won : (word_of bs 0 TAIL == open_tail_of q) ≡ true → word_of bs 0 TAIL ≡ open_tail_of q → (p : Mover) → Moves_on who q p → if_claimed g.chain who q v ≡ appended g.chain who v p
-            → (n : Next ℕ) → unbounded_next (chain.Claiming d (open_tail_of q) name spare) (Answer.Found (word_of bs 0 TAIL)) ≡ n → HoldsOn name spare n → BlockStep te he g who bs m here
+            → (n : Next ℕ) → chain_next (chain.Claiming d (open_tail_of q) name spare) (Answer.Found (word_of bs 0 TAIL)) ≡ n → HoldsOn name spare n → BlockStep te he g who bs m here
         won bit e p moves claimed_is (Next.Reply y s) goes on = absurd on
         won bit e p moves claimed_is (Next.Step l t o) goes on =
             step_by te he g who bs m here 0 codes.tail (λ z. refl) tt answers ws (rw bit refl) (appended g.chain who v p) claimed_is (Next.Step l t o) goes

@@ -5,7 +5,7 @@ use Rattle.atomic_table.proofs.Lists.{at_index}
 use mathlib.Core.Option.{some}
 use denote.RawPtr.{Ptr, Testable}
 use Rattle.queue_laws.specs.Common.Vocabulary.{Word, Link, Op, Touch, Answer, Local, PushKind, BLOCK_SLOTS, TAIL_STEP}
-use Rattle.queue_steps.specs.{declared.steps.unbounded.UnboundedLocal.UnboundedLocal as chain, Words.tail_of, State.State, UnboundedNext.unbounded_next}
+use Rattle.queue_steps.specs.{declared.steps.chain.ChainLocal.ChainLocal as chain, Words.tail_of, State.State, ChainNext.chain_next}
 use Rattle.queue_laws.specs.{Common.Puts.put, Chain.ChainFacts.open_tail_of, Chain.ChainFacts.SawTail, Chain.ChainFacts.Claimed, Chain.ChainAt.Either, Chain.ChainAt.installing, Chain.ChainAt.laying, Chain.ChainAfter.if_installed, Chain.ChainAnswers.tail_place, Chain.ChainAnswers.last_of, Chain.ChainAnswers.shown_of, Chain.ChainAnswers.linked_of, Chain.ChainAnswers.is_wrote, Chain.ChainAnswers.is_done, Chain.ChainAnswers.waits_at, Chain.ChainAnswers.IsState}
 use Rattle.queue_laws.proofs.{Common.Puts.put_ok, Common.Puts.put_same, Common.Puts.put_other, Chain.ChainTransitions.item_free, Chain.ChainTransitions.no_block, Chain.ChainTransitions.no_front}
 use Rattle.queue_laws.specs.Chain.ChainCells.{Free, Unread, Done, Mover, Laying, Opening, Passer, LinkState, Linking, Linked, Shown, Showing, Seen, Walk, Before, GivenUp, Unused, Spare, Chained, Chain, BlocksOk, LinkOk, ShownOk, WalkOk, item_at, LAST, ChainOk, Write, Tail, HoldsOnly, Nothing}
@@ -132,15 +132,15 @@ module _ {A : Type 0} where
     module _ (g : OutChain A) (who : ℕ) (bs : List (Block A)) (m : Sitter A (CallState A)) (ms : List (State A)) where
       -- the install of the first block: where another was there before, this one is kept
       pub step_installing : (d : PushKind) (v : A) (f : ℕ) (none : HoldsOnly g.chain who Nothing) (saw : SawTail g.chain 0 ms) (mine : g.chain.uses f ≡ Spare who)
-          → ChainOk g.chain → Codes tail_end head_end g bs → SlotsAs g who (Local.Unbounded (chain.Installing d (open_tail_of 0) f)) → (xs : List (ℕ × Option A)) → ChainLent g who xs
-          → HoldsBy (Local.Unbounded (chain.Installing d (open_tail_of 0) f)) (Op.Install f) xs m → BlockStep tail_end head_end g who bs m {ms = ms} (installing d v f none saw mine)
+          → ChainOk g.chain → Codes tail_end head_end g bs → SlotsAs g who (Local.Chain (chain.Installing d (open_tail_of 0) f)) → (xs : List (ℕ × Option A)) → ChainLent g who xs
+          → HoldsBy (Local.Chain (chain.Installing d (open_tail_of 0) f)) (Op.Install f) xs m → BlockStep tail_end head_end g who bs m {ms = ms} (installing d v f none saw mine)
       step_installing d v f none saw mine ok codes slots xs lent holds =
           let s = go g.chain.blocks refl in step_by tail_end head_end g who bs m (installing d v f none saw mine) 0 codes.tail (λ e. refl) codes.last_is refl s.0 s.1 s.2
         where
           Installs : ℕ → Type 0
           Installs n = (acts : List (Act A)) × Mays (blocks_made (Op.Install f) 0 bs) m acts
               × Leaves tail_end head_end (record { chain = if_installed g.chain who f n; out = g.out }) who (blocks_after (blocks_made (Op.Install f) 0 bs) acts) (sitter_after (blocks_made (Op.Install f) 0 bs) m acts)
-              (unbounded_next (chain.Installing d (open_tail_of 0) f) (Answer.Linked (last_of g.chain.names n)))
+              (chain_next (chain.Installing d (open_tail_of 0) f) (Answer.Linked (last_of g.chain.names n)))
 
           leads : (n : ℕ) → g.chain.blocks ≡ n → (block bs 0).next ≡ lead_of (last_of g.chain.names n)
           leads n e = codes.last_is ∙ ap (λ i. lead_of (last_of g.chain.names i)) e
@@ -154,14 +154,14 @@ module _ {A : Type 0} where
                 lays (fresh_at (spot f)) ∷ [],
                 (holds.1, tt),
                 goes_on tail_end head_end (record { chain = moves.installed g.chain who f; out = g.out }) who (blocks_made (Op.Install f) 0 bs ++ fresh_at (spot f) ∷ []) (sitter_after (blocks_made (Op.Install f) 0 bs) m (lays (fresh_at (spot f)) ∷ []))
-                    (Local.Unbounded (chain.Showing d (open_tail_of 0) f)) Touch.Nothing (Op.StoreLink Link.HeadBlock f) xs
+                    (Local.Chain (chain.Showing d (open_tail_of 0) f)) Touch.Nothing (Op.StoreLink Link.HeadBlock f) xs
                     (subst (λ q. Codes tail_end head_end (record { chain = moves.installed g.chain who f; out = g.out }) (with_next bs 0 (if_unset (spot f) q) ++ fresh_at (spot f) ∷ [])) (sym (leads zero e)) laid)
                     slots lent (holds.0, refl),
               )
           go (suc b) e = (
             [],
             tt,
-            goes_on tail_end head_end g who (blocks_made (Op.Install f) 0 bs) m (Local.Unbounded (chain.PushTail d (Some f))) Touch.Nothing (Op.Load Word.Tail) xs (subst (λ ys. Codes tail_end head_end g ys) (sym kept) codes) slots lent holds,
+            goes_on tail_end head_end g who (blocks_made (Op.Install f) 0 bs) m (Local.Chain (chain.PushTail d (Some f))) Touch.Nothing (Op.Load Word.Tail) xs (subst (λ ys. Codes tail_end head_end g ys) (sym kept) codes) slots lent holds,
           )
             where
               kept : blocks_made (Op.Install f) 0 bs ≡ bs
@@ -170,12 +170,12 @@ module _ {A : Type 0} where
       -- the store of the link to the block that is laid behind the pushers' block
       pub step_laying : (d : PushKind) (v : A) (n name f : ℕ) (parts : HoldsOnly g.chain who (Either (Write n) Tail)) (claims : Claimed g.chain who n v name)
           (moving : (g.chain.mover ≡ Laying who) × (g.chain.tail ≡ n + 1)) (mine : g.chain.uses f ≡ Spare who)
-          → ChainOk g.chain → Codes tail_end head_end g bs → SlotsAs g who (Local.Unbounded (chain.Laying d (open_tail_of n) name f)) → (xs : List (ℕ × Option A)) → ChainLent g who xs
-          → HoldsBy (Local.Unbounded (chain.Laying d (open_tail_of n) name f)) (Op.StoreLink Link.TailBlock f) xs m → BlockStep tail_end head_end g who bs m {ms = ms} (laying d v n name f parts claims moving mine)
+          → ChainOk g.chain → Codes tail_end head_end g bs → SlotsAs g who (Local.Chain (chain.Laying d (open_tail_of n) name f)) → (xs : List (ℕ × Option A)) → ChainLent g who xs
+          → HoldsBy (Local.Chain (chain.Laying d (open_tail_of n) name f)) (Op.StoreLink Link.TailBlock f) xs m → BlockStep tail_end head_end g who bs m {ms = ms} (laying d v n name f parts claims moving mine)
       step_laying d v n name f parts claims moving mine ok codes slots xs lent holds =
           step_by tail_end head_end g who bs m (laying d v n name f parts claims moving mine) 0 codes.tail (λ e. refl) tt refl (lays (fresh_at (spot f)) ∷ []) (holds.1, tt)
           (goes_on tail_end head_end (record { chain = moves.laid_out g.chain who f; out = g.out }) who (with_next bs 0 (spot f) ++ fresh_at (spot f) ∷ []) (sitter_after (with_next bs 0 (spot f)) m (lays (fresh_at (spot f)) ∷ []))
-          (Local.Unbounded (chain.Opening d (open_tail_of n) name f)) Touch.Nothing (Op.Add Word.Tail TAIL_STEP) xs laid slots lent (holds.0, refl))
+          (Local.Chain (chain.Opening d (open_tail_of n) name f)) Touch.Nothing (Op.Add Word.Tail TAIL_STEP) xs laid slots lent (holds.0, refl))
         where
           full : BlocksOk g.chain.tail g.chain.blocks (Laying who)
           full = subst (λ k. BlocksOk g.chain.tail g.chain.blocks k) moving.0 ok.laid

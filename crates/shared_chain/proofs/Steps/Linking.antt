@@ -3,7 +3,7 @@ use Rattle.std.proofs.Common.{ℕ, ◌+◌, ◌*◌, ◌/◌, ◌%◌, ◌<◌, 
 use Rattle.std.proofs.lemmas.Bool.Decides.{eqb_tells}
 use denote.RawPtr.{Ptr}
 use Rattle.queue_laws.specs.Common.Vocabulary.{Word, Link, Op, Touch, Local, PushKind, BLOCK_SLOTS, TAIL_STEP, WRITE}
-use Rattle.queue_steps.specs.{declared.steps.unbounded.UnboundedLocal.UnboundedLocal as chain, ChainWords.offset_of, Words.position_of, Words.tail_of, State.State}
+use Rattle.queue_steps.specs.{declared.steps.chain.ChainLocal.ChainLocal as chain, ChainWords.offset_of, Words.position_of, Words.tail_of, State.State}
 use Rattle.queue_laws.proofs.{Common.Puts.put_same, Common.Puts.put_other, Common.Tails.position_tail, Chain.ChainReads.passer_sees, Chain.ChainReads.not_given_up}
 use Rattle.queue_laws.specs.Chain.{ChainFacts.place, ChainFacts.head_of, ChainFacts.open_tail_of, ChainFacts.IsNamed, ChainFacts.SawTail, ChainFacts.Claimed, ChainFacts.Got, ChainTransitions.displayed, ChainTransitions.chained, ChainTransitions.passed, ChainTransitions.entered, ChainAt.Only, ChainAt.Either, ChainAt.IsBehind, ChainAt.IsFurther, ChainAt.showing, ChainAt.chaining, ChainAt.passing, ChainAt.entering, ChainAnswers.head_place, ChainAnswers.head_word, ChainAnswers.shown_of, ChainAnswers.linked_of}
 use Rattle.queue_laws.specs.Chain.ChainCells.{Writer, Writing, Reader, Done, Passer, Stands, Passing, Entering, Linking, Linked, Shown, Showing, Seen, ItemOk, FrontOk, ShownOk, ChainOk, Write, Read, Head, Next, First, HoldsOnly}
@@ -54,26 +54,26 @@ module _ (tail_end head_end : Ptr) {A : Type 0} where
     -- the store of the link to the first block, for the poppers
     pub step_showing : (d : PushKind) (v : A) (name : ℕ) (first : HoldsOnly g.chain who (Only First)) (saw : SawTail g.chain 0 ms) (is : g.chain.shown ≡ Showing who)
         (named : IsNamed g.chain 0 name)
-        → ChainOk g.chain → Codes tail_end head_end g bs → SlotsAs g who (Local.Unbounded (chain.Showing d (open_tail_of 0) name)) → (xs : List (ℕ × Option A)) → ChainLent g who xs
-        → HoldsBy (Local.Unbounded (chain.Showing d (open_tail_of 0) name)) (Op.StoreLink Link.HeadBlock name) xs m → BlockStep tail_end head_end g who bs m {ms = ms} (showing d v name first saw is named)
+        → ChainOk g.chain → Codes tail_end head_end g bs → SlotsAs g who (Local.Chain (chain.Showing d (open_tail_of 0) name)) → (xs : List (ℕ × Option A)) → ChainLent g who xs
+        → HoldsBy (Local.Chain (chain.Showing d (open_tail_of 0) name)) (Op.StoreLink Link.HeadBlock name) xs m → BlockStep tail_end head_end g who bs m {ms = ms} (showing d v name first saw is named)
     step_showing d v name first saw is named ok codes slots xs lent holds =
         let at_first : g.chain.front ≡ 0 = front_first g.chain.blocks g.chain.head g.chain.front g.chain.known g.chain.passer who (subst (λ s. ShownOk g.chain.blocks g.chain.head g.chain.front g.chain.known g.chain.passer s) is ok.seen) in
         step_by tail_end head_end g who bs m (showing d v name first saw is named) 1 codes.head (λ e. refl) tt refl [] tt
-        (goes_on tail_end head_end (record { chain = displayed g.chain; out = g.out }) who (with_next bs 1 (spot name)) m (Local.Unbounded (chain.Claiming d (open_tail_of 0) name None)) Touch.Nothing
+        (goes_on tail_end head_end (record { chain = displayed g.chain; out = g.out }) who (with_next bs 1 (spot name)) m (Local.Chain (chain.Claiming d (open_tail_of 0) name None)) Touch.Nothing
         (Op.Exchange Word.Tail (open_tail_of 0) (open_tail_of 0 + TAIL_STEP)) xs (codes_front g bs Seen g.chain.front g.chain.passer name refl (ap (λ b. Some (g.chain.names b)) at_first ∙ ap (λ x. Some x) (sym named.1)) codes) slots lent holds)
 
     -- the store of the link to the next block, for the poppers
     pub step_passing : (x : A) (n name after : ℕ) (more further : Bool) (parts : HoldsOnly g.chain who (Either (Read n) Head)) (got : Got g.chain who n x name)
         (moves : (g.chain.passer ≡ Passing who) × (g.chain.head ≡ n + 1)) (behind : IsBehind g.chain n after) (room : IsFurther g.chain n further)
-        → ChainOk g.chain → Codes tail_end head_end g bs → SlotsAs g who (Local.Unbounded (chain.Passing (head_of n more) name further)) → (xs : List (ℕ × Option A)) → ChainLent g who xs
-        → HoldsBy (Local.Unbounded (chain.Passing (head_of n more) name further)) (Op.StoreLink Link.HeadBlock after) xs m → BlockStep tail_end head_end g who bs m {ms = ms} (passing x n name after more further parts got moves behind room)
+        → ChainOk g.chain → Codes tail_end head_end g bs → SlotsAs g who (Local.Chain (chain.Passing (head_of n more) name further)) → (xs : List (ℕ × Option A)) → ChainLent g who xs
+        → HoldsBy (Local.Chain (chain.Passing (head_of n more) name further)) (Op.StoreLink Link.HeadBlock after) xs m → BlockStep tail_end head_end g who bs m {ms = ms} (passing x n name after more further parts got moves behind room)
     step_passing x n name after more further parts got moves behind room ok codes slots xs lent holds =
         let seen : g.chain.shown ≡ Seen = passer_sees g.chain ok (λ e. let z : Passing who ≡ Stands = sym moves.0 ∙ e in cc) in
         let stood : FrontOk g.chain.head g.chain.front (Passing who) = subst (λ p. FrontOk g.chain.head g.chain.front p) moves.0 ok.fronted in
         let at_next : g.chain.front + 1 ≡ n / BLOCK_SLOTS + 1 = let at_n = moves.1 in omega arith in
         let leads : shown_of g.chain.shown (g.chain.names (g.chain.front + 1)) ≡ Some after = ap (λ s. shown_of s (g.chain.names (g.chain.front + 1))) seen ∙ (ap (λ b. Some (g.chain.names b)) at_next ∙ ap (λ f. Some f) (sym behind.1.1)) in
         step_by tail_end head_end g who bs m (passing x n name after more further parts got moves behind room) 1 codes.head (λ e. refl) tt refl [] tt
-        (goes_on tail_end head_end (record { chain = passed g.chain who; out = g.out }) who (with_next bs 1 (spot after)) m (Local.Unbounded (chain.Entering (head_of n more) name)) Touch.Nothing
+        (goes_on tail_end head_end (record { chain = passed g.chain who; out = g.out }) who (with_next bs 1 (spot after)) m (Local.Chain (chain.Entering (head_of n more) name)) Touch.Nothing
         (Op.Store Word.Head ((position_of (head_of n more) + 2) * 2 + (if further then 1 else 0))) xs (codes_front g bs g.chain.shown (g.chain.front + 1) (Entering who) after (ap (λ p. head_place g.chain.head p) (sym moves.0)) leads codes) slots lent holds)
 
   -- another link of the block b
@@ -144,13 +144,13 @@ module _ (tail_end head_end : Ptr) {A : Type 0} where
     -- the store of the link from the block that was the last to the one behind it
     pub step_chaining : (d : PushKind) (v : A) (n name f : ℕ) (parts : HoldsOnly g.chain who (Either (Write n) (Next (n / BLOCK_SLOTS)))) (claims : Claimed g.chain who n v name)
         (links : g.chain.links (n / BLOCK_SLOTS) ≡ Linking who) (named : IsNamed g.chain (n / BLOCK_SLOTS + 1) f)
-        → ChainOk g.chain → Codes tail_end head_end g bs → SlotsAs g who (Local.Unbounded (chain.Chaining d (open_tail_of n) name f)) → (xs : List (ℕ × Option A)) → ChainLent g who xs
-        → HoldsBy (Local.Unbounded (chain.Chaining d (open_tail_of n) name f)) (Op.StoreLink (Link.Next name) f) xs m → BlockStep tail_end head_end g who bs m {ms = ms} (chaining d v n name f parts claims links named)
+        → ChainOk g.chain → Codes tail_end head_end g bs → SlotsAs g who (Local.Chain (chain.Chaining d (open_tail_of n) name f)) → (xs : List (ℕ × Option A)) → ChainLent g who xs
+        → HoldsBy (Local.Chain (chain.Chaining d (open_tail_of n) name f)) (Op.StoreLink (Link.Next name) f) xs m → BlockStep tail_end head_end g who bs m {ms = ms} (chaining d v n name f parts claims links named)
     step_chaining d v n name f parts claims links named ok codes slots xs lent holds =
         let on = not_given_up g.chain n ok (unread g.chain.head g.chain.tail g.chain.items n who v (g.chain.writers n) (g.chain.readers n) claims.mine (ok.item n)) in
         let alive = named_alive tail_end head_end g bs (n / BLOCK_SLOTS) name codes claims.named on in
         step_by tail_end head_end g who bs m (chaining d v n name f parts claims links named) (n / BLOCK_SLOTS + 2) alive.0 (λ e. refl) tt refl [] tt
-        (goes_on tail_end head_end (record { chain = chained g.chain (n / BLOCK_SLOTS); out = g.out }) who (with_next bs (n / BLOCK_SLOTS + 2) (spot f)) m (Local.Unbounded (chain.Writing d None)) (Touch.Put (offset_of (open_tail_of n)))
+        (goes_on tail_end head_end (record { chain = chained g.chain (n / BLOCK_SLOTS); out = g.out }) who (with_next bs (n / BLOCK_SLOTS + 2) (spot f)) m (Local.Chain (chain.Writing d None)) (Touch.Put (offset_of (open_tail_of n)))
         (Op.Or (Word.State name (offset_of (open_tail_of n))) WRITE) xs (codes_chained g bs (n / BLOCK_SLOTS) f named codes) slots lent holds)
 
   -- another word of the head
@@ -181,12 +181,12 @@ module _ (tail_end head_end : Ptr) {A : Type 0} where
     -- the store of the head's word, behind the block that was passed
     pub step_entering : (x : A) (n name : ℕ) (more further : Bool) (parts : HoldsOnly g.chain who (Either (Read n) Head)) (got : Got g.chain who n x name)
         (enters : (g.chain.passer ≡ Entering who) × (g.chain.head ≡ n + 1)) (room : IsFurther g.chain n further)
-        → ChainOk g.chain → Codes tail_end head_end g bs → SlotsAs g who (Local.Unbounded (chain.Entering (head_of n more) name)) → (xs : List (ℕ × Option A)) → ChainLent g who xs
-        → HoldsBy (Local.Unbounded (chain.Entering (head_of n more) name)) (Op.Store Word.Head ((position_of (head_of n more) + 2) * 2 + (if further then 1 else 0))) xs m
+        → ChainOk g.chain → Codes tail_end head_end g bs → SlotsAs g who (Local.Chain (chain.Entering (head_of n more) name)) → (xs : List (ℕ × Option A)) → ChainLent g who xs
+        → HoldsBy (Local.Chain (chain.Entering (head_of n more) name)) (Op.Store Word.Head ((position_of (head_of n more) + 2) * 2 + (if further then 1 else 0))) xs m
         → BlockStep tail_end head_end g who bs m {ms = ms} (entering x n name more further parts got enters room)
     step_entering x n name more further parts got enters room ok codes slots xs lent holds =
         let stood : FrontOk g.chain.head g.chain.front (Entering who) = subst (λ p. FrontOk g.chain.head g.chain.front p) enters.0 ok.fronted in
         let is = next_head n more further (let at_n = enters.1 in let at_front = stood.0 in omega arith) ∙ ap (λ i. tail_of (head_place i Stands) further) (sym enters.1) in
         step_by tail_end head_end g who bs m (entering x n name more further parts got enters room) 1 codes.head (λ e. refl) tt refl [] tt
-        (goes_on tail_end head_end (record { chain = entered g.chain further; out = g.out }) who (with_word bs 1 0 ((position_of (head_of n more) + 2) * 2 + (if further then 1 else 0))) m (Local.Unbounded (chain.Awaiting (head_of n more) name)) Touch.Nothing
+        (goes_on tail_end head_end (record { chain = entered g.chain further; out = g.out }) who (with_word bs 1 0 ((position_of (head_of n more) + 2) * 2 + (if further then 1 else 0))) m (Local.Chain (chain.Awaiting (head_of n more) name)) Touch.Nothing
         (Op.Load (Word.State name (offset_of (head_of n more)))) xs (codes_entered g bs further ((position_of (head_of n more) + 2) * 2 + (if further then 1 else 0)) is codes) slots lent holds)

@@ -2,7 +2,7 @@
 use Rattle.std.proofs.Common.{ℕ, ◌+◌, ◌-◌, ◌/◌, ◌%◌, ◌^◌, ◌≤◌, ◌≡◌, ◌==◌, ◌∙◌, ◌⊎◌, Option, List, [], refl, ap, arith, bit_or}
 use denote.RawPtr.{Ptr}
 use Rattle.queue_laws.specs.Common.Vocabulary.{Reply, Word, Op, Answer, Local, PushKind, LIMIT, BLOCK_SLOTS, MARK, TAIL_STEP}
-use Rattle.queue_steps.specs.{State.State, Words.tail_of, declared.steps.types.Next.Next as next, BoundedNext.closed_reply, UnboundedNext.ends, declared.steps.unbounded.UnboundedLocal.UnboundedLocal as chain}
+use Rattle.queue_steps.specs.{State.State, Words.tail_of, declared.steps.types.Next.Next as next, RingNext.closed_reply, ChainNext.ends, declared.steps.chain.ChainLocal.ChainLocal as chain}
 use Rattle.queue_laws.proofs.{Common.Tails.mark_tail, Common.Tails.next_tail, Chain.ChainAnswers.tail_small}
 use Rattle.queue_laws.specs.Chain.{ChainFacts.place, ChainFacts.open_tail_of, ChainFacts.IsNamed, ChainFacts.HasSpare, ChainFacts.Claimed, ChainTransitions.opened, ChainTransitions.marked, ChainAt.opening, ChainAt.spending, ChainAt.closing, ChainAnswers.tail_place, ChainAnswers.tail_word}
 use Rattle.queue_laws.specs.Chain.ChainCells.{Opening, Linking, Chain, ChainOk, Write, Tail, Next, HoldsOnly, Nothing}
@@ -24,8 +24,8 @@ opened_word c who n ok (is, at) =
 module _ {A : Type 0} (te he : Ptr) (g : OutChain A) (who : ℕ) (bs : List (Block A)) (m : Sitter A (CallState A)) (ms : List (State A)) where
   pub step_opening : (d : PushKind) (v : A) (n name f : ℕ) (holds : HoldsOnly g.chain who (λ x. (x ≡ Write n) ⊎ (x ≡ Tail) ⊎ (x ≡ Next (n / BLOCK_SLOTS)))) (mine : Claimed g.chain who n v name) (opens : (g.chain.mover ≡ Opening who) × (g.chain.tail ≡ n + 1))
       (links : g.chain.links (n / BLOCK_SLOTS) ≡ Linking who) (named : IsNamed g.chain (n / BLOCK_SLOTS + 1) f)
-      → ChainOk g.chain → Codes te he g bs → SlotsAs g who (Local.Unbounded (chain.Opening d (open_tail_of n) name f)) → (xs : List (ℕ × Option A)) → ChainLent g who xs
-      → HoldsBy (Local.Unbounded (chain.Opening d (open_tail_of n) name f)) (Op.Add Word.Tail TAIL_STEP) xs m → BlockStep te he g who bs m {ms = ms} (opening d v n name f holds mine opens links named)
+      → ChainOk g.chain → Codes te he g bs → SlotsAs g who (Local.Chain (chain.Opening d (open_tail_of n) name f)) → (xs : List (ℕ × Option A)) → ChainLent g who xs
+      → HoldsBy (Local.Chain (chain.Opening d (open_tail_of n) name f)) (Op.Add Word.Tail TAIL_STEP) xs m → BlockStep te he g who bs m {ms = ms} (opening d v n name f holds mine opens links named)
   step_opening d v n name f holds mine opens links named ok codes slots xs lent held = record {
     number = 0;
     lives = codes.tail;
@@ -52,16 +52,16 @@ module _ {A : Type 0} (te he : Ptr) (g : OutChain A) (who : ℕ) (bs : List (Blo
       (λ b y lt. there_same g (record { chain = marked g.chain; out = g.out }) b y (record { name = refl; link = refl; walk = refl; writers = λ i low. refl; readers = λ i low. refl; out = λ i low. refl }))
 
   pub step_spending : (d : PushKind) (v : A) (spare : Option ℕ) (none : HoldsOnly g.chain who Nothing) (spare_is : HasSpare g.chain who spare) (spent : LIMIT ≤ g.chain.tail)
-      → Codes te he g bs → (xs : List (ℕ × Option A)) → ChainLent g who xs → HoldsBy (Local.Unbounded (chain.ClosingAtLimit d spare)) (Op.Or Word.Tail MARK) xs m
+      → Codes te he g bs → (xs : List (ℕ × Option A)) → ChainLent g who xs → HoldsBy (Local.Chain (chain.ClosingAtLimit d spare)) (Op.Or Word.Tail MARK) xs m
       → BlockStep te he g who bs m {ms = ms} (spending d v spare none spare_is spent)
   step_spending d v spare none spare_is spent codes xs lent held =
       step_none te he g who bs m (spending d v spare none spare_is spent) 0 codes.tail (λ e. refl) tt (ap (λ w. Answer.Found w) codes.tail_is)
       (with_word bs 0 TAIL (bit_or (word_of bs 0 TAIL) MARK)) refl (marked g.chain) refl (next.Reply (closed_reply d) spare) refl (codes_marked codes) none refl
-      (none_held g who (Local.Unbounded (chain.ClosingAtLimit d spare)) (Op.Or Word.Tail MARK) xs m none lent held)
+      (none_held g who (Local.Chain (chain.ClosingAtLimit d spare)) (Op.Or Word.Tail MARK) xs m none lent held)
 
   pub step_closing : (none : HoldsOnly g.chain who Nothing)
-      → Codes te he g bs → (xs : List (ℕ × Option A)) → ChainLent g who xs → HoldsBy (Local.Unbounded chain.Closing) (Op.Or Word.Tail MARK) xs m → BlockStep te he g who bs m {ms = ms} (closing none)
+      → Codes te he g bs → (xs : List (ℕ × Option A)) → ChainLent g who xs → HoldsBy (Local.Chain chain.Closing) (Op.Or Word.Tail MARK) xs m → BlockStep te he g who bs m {ms = ms} (closing none)
   step_closing none codes xs lent held =
       step_none te he g who bs m (closing none) 0 codes.tail (λ e. refl) tt (ap (λ w. Answer.Found w) codes.tail_is)
       (with_word bs 0 TAIL (bit_or (word_of bs 0 TAIL) MARK)) refl (marked g.chain) refl (ends (Reply.Close (word_of bs 0 TAIL % 2 == 0))) refl (codes_marked codes) none refl
-      (none_held g who (Local.Unbounded chain.Closing) (Op.Or Word.Tail MARK) xs m none lent held)
+      (none_held g who (Local.Chain chain.Closing) (Op.Or Word.Tail MARK) xs m none lent held)

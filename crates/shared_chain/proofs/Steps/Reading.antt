@@ -7,7 +7,7 @@ use denote.RawPtr.{Ptr}
 use Rattle.queue_laws.specs.{Common.Puts.put, Chain.ChainTransitions.reads, Chain.ChainTransitions.walk_after, Chain.ChainFacts.head_of, Chain.ChainFacts.Got, Chain.ChainAt.Only, Chain.ChainAt.IsLast, Chain.ChainAt.reading, Chain.ChainAt.beginning, Chain.ChainAnswers.IsState, Chain.ChainAnswers.is_done, Chain.ChainAnswers.waits_at, Chain.ChainPasses.spare_in}
 use Rattle.queue_laws.proofs.{Common.Puts.put_same, Common.Puts.put_other, Chain.ChainReads.own_item, Chain.ChainRead.waits_is, Chain.ChainAnswers.head_offset, Chain.ChainHolds.after_read, Chain.ChainHolds.after_read_on}
 use Rattle.queue_laws.specs.Common.Vocabulary.{Reply, Word, Op, Touch, Local, Next, BLOCK_SLOTS, WRITE, READ, DESTROY}
-use Rattle.queue_steps.specs.{State.State, ChainWords.offset_of, UnboundedNext.at, UnboundedNext.ends, UnboundedNext.walks_on, declared.steps.unbounded.UnboundedLocal.UnboundedLocal as chain}
+use Rattle.queue_steps.specs.{State.State, ChainWords.offset_of, ChainNext.at, ChainNext.ends, ChainNext.walks_on, declared.steps.chain.ChainLocal.ChainLocal as chain}
 use Rattle.queue_laws.specs.Chain.ChainCells.{Wrote, Reader, Reading, Done, Walk, Before, Walker, Waits, GivenUp, ChainOk, WalkOk, Read, Passed, HoldsOnly, Nothing, reader_of, item_at, LAST}
 use Rattle.mem_blocks.specs.Web.{Block, Sitter, gives, block, Lives, word_of, with_word, with_home, vacant, May, sitter_acted}
 use Rattle.shared_parties.specs.{declared.known.CallState.CallState, Calling.touched_list}
@@ -158,7 +158,7 @@ module _ {A : Type 0} (te he : Ptr) where
   module _ (g : OutChain A) (who : ℕ) (bs : List (Block A)) (m : Sitter A (CallState A)) (ms : List (State A)) where
     pub step_reading : (x : A) (n name : ℕ) (more : Bool) (holds : HoldsOnly g.chain who (Only (Read n))) (got : Got g.chain who n x name) (wrote : g.chain.writers n ≡ Wrote x) (inner : IsLast n → ⊥)
         → ChainOk g.chain → Codes te he g bs → (xs : List (ℕ × Option A))
-        → HoldsBy (Local.Unbounded (chain.Reading name (offset_of (head_of n more)))) (Op.Or (Word.State name (offset_of (head_of n more))) READ) (touched_list (Touch.Take (offset_of (head_of n more))) None xs) m
+        → HoldsBy (Local.Chain (chain.Reading name (offset_of (head_of n more)))) (Op.Or (Word.State name (offset_of (head_of n more))) READ) (touched_list (Touch.Take (offset_of (head_of n more))) None xs) m
         → BlockStep te he g who bs m {ms = ms} (reading x n name more holds got wrote inner)
     step_reading x n name more holds got wrote inner ok codes xs has =
         or_step te he g who bs m b name i READ {ms = ms} (reading x n name more holds got wrote inner) ok codes got.named (on te he g who bs bs m x n i name holds got wrote offset ok codes has none) here
@@ -197,7 +197,7 @@ module _ {A : Type 0} (te he : Ptr) where
         set = word_set bs (b + 2) i (bit_or (word_of bs (b + 2) i) READ) long (omega (arith, (there te he g who bs bs m x n i name holds got wrote offset ok codes has none).1.words, offset))
 
     pub step_beginning : (x : A) (n name : ℕ) (more : Bool) (holds : HoldsOnly g.chain who (Only (Read n))) (got : Got g.chain who n x name) (wrote : g.chain.writers n ≡ Wrote x) (last : IsLast n)
-        → ChainOk g.chain → Codes te he g bs → (xs : List (ℕ × Option A)) → HoldsBy (Local.Unbounded (chain.Walking name 0)) (Op.Load (Word.State name 0)) (touched_list (Touch.Take (offset_of (head_of n more))) None xs) m
+        → ChainOk g.chain → Codes te he g bs → (xs : List (ℕ × Option A)) → HoldsBy (Local.Chain (chain.Walking name 0)) (Op.Load (Word.State name 0)) (touched_list (Touch.Take (offset_of (head_of n more))) None xs) m
         → BlockStep te he g who bs m {ms = ms} (beginning x n name more holds got wrote last)
     step_beginning x n name more holds got wrote last ok codes xs has =
         load_step te he g who bs m b name 0 {ms = ms} (beginning x n name more holds got wrote last) ok codes got.named begun state
@@ -228,5 +228,5 @@ module _ {A : Type 0} (te he : Ptr) where
         starts t u = Leaves te he g who bs m (reads g.chain n (if t then walk_after who 0 else Walker who 0)) (if not u then walks_on name 0 else at (chain.Destroying name 0) Touch.Nothing (Op.Or (Word.State name 0) DESTROY))
 
         goes_from : (t : Bool) → starts t (not t)
-        goes_from true = begins te he g who bs bs m x n i name holds got wrote offset ok codes has none at_end 1 (Local.Unbounded (chain.Walking name 1)) Touch.Nothing (Op.Load (Word.State name 1)) refl
-        goes_from false = begins te he g who bs bs m x n i name holds got wrote offset ok codes has none at_end 0 (Local.Unbounded (chain.Destroying name 0)) Touch.Nothing (Op.Or (Word.State name 0) DESTROY) refl
+        goes_from true = begins te he g who bs bs m x n i name holds got wrote offset ok codes has none at_end 1 (Local.Chain (chain.Walking name 1)) Touch.Nothing (Op.Load (Word.State name 1)) refl
+        goes_from false = begins te he g who bs bs m x n i name holds got wrote offset ok codes has none at_end 0 (Local.Chain (chain.Destroying name 0)) Touch.Nothing (Op.Or (Word.State name 0) DESTROY) refl

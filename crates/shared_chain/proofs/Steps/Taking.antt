@@ -3,7 +3,7 @@ use Rattle.std.proofs.Common.{ℕ, ◌+◌, ◌*◌, ◌%◌, ◌<◌, ◌≡◌
 use Rattle.std.proofs.lemmas.Bool.Decides.{eqb_tells}
 use denote.RawPtr.{Ptr}
 use Rattle.queue_laws.specs.Common.Vocabulary.{Call, Word, Link, Op, Touch, Answer, Local, Next, BLOCK_SLOTS, TAIL_STEP}
-use Rattle.queue_steps.specs.{State.State, Words.tail_of, ChainWords.offset_of, UnboundedNext.unbounded_next, UnboundedNext.chain_head_found, declared.steps.unbounded.UnboundedLocal.UnboundedLocal as chain}
+use Rattle.queue_steps.specs.{State.State, Words.tail_of, ChainWords.offset_of, ChainNext.chain_next, ChainNext.chain_head_found, declared.steps.chain.ChainLocal.ChainLocal as chain}
 use Rattle.queue_laws.specs.{Common.Puts.put, Common.Stand.empty_handed, Chain.ChainFacts.place, Chain.ChainFacts.head_of, Chain.ChainFacts.HeadIs, Chain.ChainFacts.HeadBlockIs, Chain.ChainFacts.IsMore, Chain.ChainTransitions.taken, Chain.ChainAfter.if_taken, Chain.ChainAt.At, Chain.ChainAt.taking, Chain.ChainAnswers.Answers, Chain.ChainAnswers.head_word, Chain.ChainAnswers.head_place, Chain.ChainAnswers.is_done, Chain.ChainPasses.spare_in}
 use Rattle.queue_laws.proofs.{Common.Puts.put_ok, Common.Puts.put_other, Chain.ChainReads.front_is, Chain.ChainAnswers.head_offset, Chain.ChainAnswers.same_head}
 use Rattle.queue_laws.specs.Chain.ChainCells.{Writer, Free, Unread, Reading, Passer, Stands, Passing, ChainOk, Write, Read, HoldsOnly, Nothing, reader_of, item_at}
@@ -63,19 +63,19 @@ module _ {A : Type 0} (te he : Ptr) (g : OutChain A) (who : ℕ) where
   module _ (bs : List (Block A)) (m : Sitter A (CallState A)) (ms : List (State A)) where
     pub step_taking : (n name after : ℕ) (more new : Bool) (none : HoldsOnly g.chain who Nothing) (is : HeadIs g.chain n) (front : HeadBlockIs g.chain n name) (there : n < g.chain.tail)
         (word_is : after ≡ place n * 2 + TAIL_STEP + (if new then 1 else 0)) (room : IsMore g.chain n new)
-        → ChainOk g.chain → Codes te he g bs → (xs : List (ℕ × Option A)) → ChainLent g who xs → HoldsBy (Local.Unbounded (chain.Taking (head_of n more) name)) (Op.Exchange Word.Head (head_of n more) after) xs m
+        → ChainOk g.chain → Codes te he g bs → (xs : List (ℕ × Option A)) → ChainLent g who xs → HoldsBy (Local.Chain (chain.Taking (head_of n more) name)) (Op.Exchange Word.Head (head_of n more) after) xs m
         → BlockStep te he g who bs m {ms = ms} (taking n name after more new none is front there word_is room)
     step_taking n name after more new none is front there word_is room ok codes xs lent held = elim (eqb_tells (word_of bs 1 HEAD) (head_of n more)) [
       | inl e ↦ elim (eqb_tells (offset_of (head_of n more) + 1) BLOCK_SLOTS) [
         | inl t ↦ won e.0 e.1 (Passing who) (inr (refl, (let last = t.1 in let off = head_offset n more in omega arith))) (rw (same_bit true e.0, t.0) refl)
-            (Local.Unbounded (chain.Following (head_of n more) name)) Touch.Nothing (Op.LoadLink (Link.Next name)) (rw (e.0, t.0) refl) refl refl
+            (Local.Chain (chain.Following (head_of n more) name)) Touch.Nothing (Op.LoadLink (Link.Next name)) (rw (e.0, t.0) refl) refl refl
         | inr t ↦ won e.0 e.1 Stands (inl (refl, (λ z. t.1 (let off = head_offset n more in omega arith)))) (rw (same_bit true e.0, t.0) refl)
-            (Local.Unbounded (chain.Awaiting (head_of n more) name)) Touch.Nothing (Op.Load (Word.State name (offset_of (head_of n more)))) (rw (e.0, t.0) refl) refl refl
+            (Local.Chain (chain.Awaiting (head_of n more) name)) Touch.Nothing (Op.Load (Word.State name (offset_of (head_of n more)))) (rw (e.0, t.0) refl) refl refl
       ]
       | inr e ↦ lost e.0
     ]
       where
-        here : At g.chain who ms (empty_handed (Local.Unbounded (chain.Taking (head_of n more) name)) (Op.Exchange Word.Head (head_of n more) after) Call.Pop)
+        here : At g.chain who ms (empty_handed (Local.Chain (chain.Taking (head_of n more) name)) (Op.Exchange Word.Head (head_of n more) after) Call.Pop)
         here = taking n name after more new none is front there word_is room
 
         found : Answers g.chain (Op.Exchange Word.Head (head_of n more) after) (Answer.Found (word_of bs 1 HEAD))
@@ -85,14 +85,14 @@ module _ {A : Type 0} (te he : Ptr) (g : OutChain A) (who : ℕ) where
         same_bit b e = ap (λ w. w == head_of n more) (sym codes.head_is) ∙ e
 
         empty : (m.hand ≡ None) × (m.spare ≡ None)
-        empty = none_held g who (Local.Unbounded (chain.Taking (head_of n more) name)) (Op.Exchange Word.Head (head_of n more) after) xs m none lent held
+        empty = none_held g who (Local.Chain (chain.Taking (head_of n more) name)) (Op.Exchange Word.Head (head_of n more) after) xs m none lent held
 
         lost : (word_of bs 1 HEAD == head_of n more) ≡ false → BlockStep te he g who bs m here
         lost e = step_none te he g who bs m here 1 codes.head (λ z. refl) tt found bs (rw e (word_same bs 1 HEAD)) g.chain (rw (same_bit false e) refl) (chain_head_found (word_of bs 1 HEAD)) (rw e refl)
             codes none (head_spare (word_of bs 1 HEAD)) empty
 
         won : (word_of bs 1 HEAD == head_of n more) ≡ true → word_of bs 1 HEAD ≡ head_of n more → (p : Passer) → Passes_on who n p → if_taken g.chain who n more new ≡ taken g.chain who p new
-            → (l : Local ℕ) (t : Touch) (o : Op ℕ) → unbounded_next (chain.Taking (head_of n more) name) (Answer.Found (word_of bs 1 HEAD)) ≡ Next.Step l t o → has_slot l ≡ false → spare_in l ≡ None
+            → (l : Local ℕ) (t : Touch) (o : Op ℕ) → chain_next (chain.Taking (head_of n more) name) (Answer.Found (word_of bs 1 HEAD)) ≡ Next.Step l t o → has_slot l ≡ false → spare_in l ≡ None
             → BlockStep te he g who bs m here
         won b e p moves taken_is l t o goes slot spare =
             step_by te he g who bs m here 1 codes.head (λ z. refl) tt found (with_word bs 1 HEAD after) (rw b refl) (taken g.chain who p new) taken_is (Next.Step l t o) goes

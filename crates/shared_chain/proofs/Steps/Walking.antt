@@ -6,7 +6,7 @@ use lib.ListN.{get_elem?}
 use denote.RawPtr.{Ptr}
 use Rattle.queue_laws.specs.{Common.Puts.put, Common.Vocabulary.Reply, Common.Vocabulary.Word, Common.Vocabulary.Op, Common.Vocabulary.Touch, Common.Vocabulary.Local, Common.Vocabulary.WRITE, Common.Vocabulary.READ, Common.Vocabulary.DESTROY, Chain.ChainTransitions.walked, Chain.ChainTransitions.walk_after, Chain.ChainFacts.IsNamed, Chain.ChainAt.Only, Chain.ChainAt.walking, Chain.ChainAt.destroying, Chain.ChainAnswers.IsState, Chain.ChainAnswers.is_wrote, Chain.ChainAnswers.is_done, Chain.ChainAnswers.waits_at}
 use Rattle.queue_laws.proofs.{Common.Puts.put_same, Common.Puts.put_other, Chain.ChainAnswers.done_is, Chain.ChainHolds.after_walk_on}
-use Rattle.queue_steps.specs.{State.State, UnboundedNext.at, UnboundedNext.ends, UnboundedNext.walks_on, declared.steps.unbounded.UnboundedLocal.UnboundedLocal as chain}
+use Rattle.queue_steps.specs.{State.State, ChainNext.at, ChainNext.ends, ChainNext.walks_on, declared.steps.chain.ChainLocal.ChainLocal as chain}
 use Rattle.queue_laws.specs.Chain.ChainCells.{Reader, Reading, Done, Walk, Before, Walker, Waits, GivenUp, Chain, ChainOk, WalkOk, IsWalked, Read, Passed, HoldsOnly, reader_of, item_at, LAST}
 use Rattle.mem_blocks.specs.Web.{Block, Sitter, block, Lives, word_of, with_word, without, vacant}
 use Rattle.shared_parties.specs.declared.known.CallState.{CallState}
@@ -111,16 +111,16 @@ module _ {A : Type 0} (te he : Ptr) where
 
   module _ (g : OutChain A) (who : ℕ) (bs : List (Block A)) (m : Sitter A (CallState A)) (ms : List (State A)) where
     pub step_walking : (x : A) (b name slot : ℕ) (holds : HoldsOnly g.chain who (Only (Passed b))) (is : g.chain.walks b ≡ Walker who slot) (named : IsNamed g.chain b name)
-        → ChainOk g.chain → Codes te he g bs → (xs : List (ℕ × Option A)) → ChainLent g who xs → HoldsBy (Local.Unbounded (chain.Walking name slot)) (Op.Load (Word.State name slot)) xs m
+        → ChainOk g.chain → Codes te he g bs → (xs : List (ℕ × Option A)) → ChainLent g who xs → HoldsBy (Local.Chain (chain.Walking name slot)) (Op.Load (Word.State name slot)) xs m
         → BlockStep te he g who bs m {ms = ms} (walking x b name slot holds is named)
     step_walking x b name slot holds is named ok codes xs lent has =
         let none = no_hand g who b holds xs lent in
-        let free : (m.hand ≡ None) × (m.spare ≡ None) = subst (λ ys. HoldsBy (Local.Unbounded (chain.Walking name slot)) (Op.Load (Word.State name slot)) ys m) none has in
+        let free : (m.hand ≡ None) × (m.spare ≡ None) = subst (λ ys. HoldsBy (Local.Chain (chain.Walking name slot)) (Op.Load (Word.State name slot)) ys m) none has in
         load_step te he g who bs m b name slot {ms = ms} (walking x b name slot holds is named) ok codes named (on g who bs m x b name slot holds is named ok codes) (state g who bs m x b name slot holds is named ok codes)
         (walk_left g who bs m x b name slot holds is named ok codes free (is_done (g.chain.readers (item_at b slot))) refl)
 
     pub step_destroying : (x : A) (b name slot : ℕ) (holds : HoldsOnly g.chain who (Only (Passed b))) (is : g.chain.walks b ≡ Walker who slot) (named : IsNamed g.chain b name)
-        → ChainOk g.chain → Codes te he g bs → (xs : List (ℕ × Option A)) → ChainLent g who xs → HoldsBy (Local.Unbounded (chain.Destroying name slot)) (Op.Or (Word.State name slot) DESTROY) xs m
+        → ChainOk g.chain → Codes te he g bs → (xs : List (ℕ × Option A)) → ChainLent g who xs → HoldsBy (Local.Chain (chain.Destroying name slot)) (Op.Or (Word.State name slot) DESTROY) xs m
         → BlockStep te he g who bs m {ms = ms} (destroying x b name slot holds is named)
     step_destroying x b name slot holds is named ok codes xs lent has =
         or_step te he g who bs m b name slot DESTROY {ms = ms} (destroying x b name slot holds is named) ok codes named (on g who bs m x b name slot holds is named ok codes) here (left (is_done (g.chain.readers (item_at b slot))) refl)
@@ -141,7 +141,7 @@ module _ {A : Type 0} (te he : Ptr) where
         long = omega (arith, codes.size, named.0)
 
         free : (m.hand ≡ None) × (m.spare ≡ None)
-        free = subst (λ ys. HoldsBy (Local.Unbounded (chain.Destroying name slot)) (Op.Or (Word.State name slot) DESTROY) ys m) (no_hand g who b holds xs lent) has
+        free = subst (λ ys. HoldsBy (Local.Chain (chain.Destroying name slot)) (Op.Or (Word.State name slot) DESTROY) ys m) (no_hand g who b holds xs lent) has
 
         set : word_of cs (b + 2) slot ≡ bit_or (word_of bs (b + 2) slot) DESTROY
         set = word_set bs (b + 2) slot (bit_or (word_of bs (b + 2) slot) DESTROY) long (omega (arith, block_is.words, low))

@@ -6,7 +6,7 @@ use denote.RawPtr.{Ptr}
 use Rattle.queue_laws.specs.{Common.Puts.put, Chain.ChainTransitions.written, Chain.ChainFacts.open_tail_of, Chain.ChainFacts.Claimed, Chain.ChainFacts.HasSpare, Chain.ChainAt.Only, Chain.ChainAt.writing, Chain.ChainAnswers.IsState, Chain.ChainAnswers.is_wrote}
 use Rattle.queue_laws.proofs.{Common.Puts.put_same, Common.Puts.put_other, Chain.ChainReads.own_item, Chain.ChainHolds.after_write}
 use Rattle.queue_laws.specs.Common.Vocabulary.{Word, Op, Touch, Local, Next, PushKind, BLOCK_SLOTS, WRITE, READ, DESTROY}
-use Rattle.queue_steps.specs.{State.State, BoundedNext.pushed_reply, ChainWords.offset_of, declared.steps.unbounded.UnboundedLocal.UnboundedLocal as chain}
+use Rattle.queue_steps.specs.{State.State, RingNext.pushed_reply, ChainWords.offset_of, declared.steps.chain.ChainLocal.ChainLocal as chain}
 use Rattle.queue_laws.specs.Chain.ChainCells.{Writing, Wrote, Reader, Unread, Reading, Done, GivenUp, ChainOk, ItemOk, Write, HoldsOnly, Nothing, item_at}
 use Rattle.mem_blocks.specs.Web.{Block, Sitter, gives, block, Lives, word_of, with_word, with_home, vacant, full, AllVacant, sitter_acted}
 use Rattle.shared_parties.specs.{declared.known.CallState.CallState, Calling.touched_list}
@@ -128,7 +128,7 @@ module _ {A : Type 0} (te he : Ptr) where
 
   module _ (g : OutChain A) (who : ℕ) (bs : List (Block A)) (m : Sitter A (CallState A)) (ms : List (State A)) where
     pub step_writing : (d : PushKind) (x : A) (n name : ℕ) (spare : Option ℕ) (holds : HoldsOnly g.chain who (Only (Write n))) (mine : Claimed g.chain who n x name) (spare_is : HasSpare g.chain who spare)
-        → ChainOk g.chain → Codes te he g bs → (xs : List (ℕ × Option A)) → HoldsBy (Local.Unbounded (chain.Writing d spare)) (Op.Or (Word.State name (offset_of (open_tail_of n))) WRITE) (touched_list (Touch.Put (offset_of (open_tail_of n))) (Some x) xs) m → OutWrote g
+        → ChainOk g.chain → Codes te he g bs → (xs : List (ℕ × Option A)) → HoldsBy (Local.Chain (chain.Writing d spare)) (Op.Or (Word.State name (offset_of (open_tail_of n))) WRITE) (touched_list (Touch.Put (offset_of (open_tail_of n))) (Some x) xs) m → OutWrote g
         → BlockStep te he g who bs m {ms = ms} (writing d x n name spare holds mine spare_is)
     step_writing d x n name spare holds mine spare_is ok codes xs has ready =
         let i = offset_of (open_tail_of n) in

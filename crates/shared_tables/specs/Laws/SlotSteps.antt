@@ -3,8 +3,8 @@ use Rattle.std.proofs.Common.{◌≡◌, ℕ, ◌==◌, ◌||◌, not, Bool, tru
 use mathlib.Core.Option.{some}
 use mathlib.Core.Option as maybe
 use Rattle.atomic_table.specs.Table.{Act, keeps, takes, gives, Valid, carried_after, homes_after}
-use Rattle.queue_laws.specs.Common.Vocabulary.{Call, Reply, Effect, Kind, Op, Touch, Answer, Local, Next, SingleLocal}
-use Rattle.queue_steps.specs.{declared.steps.single.SingleLocal.TheVariants.Pushing, declared.steps.single.SingleLocal.TheVariants.Closing, declared.steps.single.SingleLocal.TheVariants.Looking, State.State, Kinds.call_kind, Next.CanNext, Next.next_of, SingleNext.single_begin, Looks.call_of_look, WaitFree.is_wait_free, WaitFree.EndsBefore, WaitFree.EndsWaitFree}
+use Rattle.queue_laws.specs.Common.Vocabulary.{Call, Reply, Effect, Kind, Op, Touch, Answer, Local, Next, SlotLocal}
+use Rattle.queue_steps.specs.{declared.steps.slot.SlotLocal.TheVariants.Pushing, declared.steps.slot.SlotLocal.TheVariants.Closing, declared.steps.slot.SlotLocal.TheVariants.Looking, State.State, Kinds.call_kind, Next.CanNext, Next.next_of, SlotNext.slot_begin, Looks.call_of_look, WaitFree.is_wait_free, WaitFree.EndsBefore, WaitFree.EndsWaitFree}
 use Rattle.queue_laws.specs.{Common.Effects.Leads, Common.Effects.with_effect, Common.Effects.MayFront, Common.Stand.Stand, Common.Stand.stand, Slot.SlotShared.Shared, Slot.SlotShared.one_slot, Slot.SlotShared.answered, Slot.SlotShared.operated, Slot.SlotShared.touched, Slot.SlotShared.handed, Slot.SlotHolder.SlotHolder, Slot.SlotHolder.Nobody, Slot.SlotCells.Slot, Slot.SlotCells.queue_of, Slot.SlotCells.own_in, Slot.SlotCells.lent_by, Slot.SlotCells.Lent, Slot.SlotCells.IsHeld, Common.Operations.op_makes, Common.Operations.answer_for}
 use Rattle.queue_laws.specs.Slot.SlotRows.{Codes, filling, swapping, taking, At, push_try, push_put, force_try_empty, force_try_full, force_put_empty, force_put_full, pop_try, pop_take, close_try, look_at, Share, fills, swaps, takes as takes_share, Passes, stays, changes, single, NextOk as SlotNextOk, StepOk}
 use Rattle.queue_laws.proofs.{Slot.SlotEarly.early, Slot.SlotSteps.step_good, Slot.SlotRanks.can_operate, Slot.SlotHolder.share_of, Slot.SlotHolder.next_who, Slot.SlotHolder.own_self, Slot.SlotHolder.own_other, Slot.SlotCells.nobody_if, Slot.SlotCells.held_lent, Slot.SlotCells.at_stays, Slot.SlotCells.lent_stays, Slot.SlotCells.at_whole, Slot.SlotCells.at_lock, Slot.SlotCells.on_lock, Slot.SlotCells.at_touches, Common.Moments.seen_map}
@@ -12,29 +12,29 @@ use Rattle.shared_parties.specs.Calling.{touched_list, lies_in, handed_by, NextO
 use Rattle.shared_tables.specs.{TableRule.TakesOff, TableRule.TableStepOk, TableRule.OpensIn, TableRule.TableLaws, SlotTable.home_under, SlotTable.SlotCoded, SlotTable.slot_calls, SlotTable.slot_table}
 
 -- the wait-free calls take one step
-ends_next : (l : SingleLocal) → ((n : ℕ) → EndsBefore {B = ℕ} 2 Kind.Single (next_of Kind.Single (Local.Single l) (Answer.Found n))) → (a : Answer ℕ) → CanNext Kind.Single (Local.Single l) a → EndsBefore {B = ℕ} 2 Kind.Single (next_of Kind.Single (Local.Single l) a)
+ends_next : (l : SlotLocal) → ((n : ℕ) → EndsBefore {B = ℕ} 2 Kind.Single (next_of Kind.Single (Local.Slot l) (Answer.Found n))) → (a : Answer ℕ) → CanNext Kind.Single (Local.Slot l) a → EndsBefore {B = ℕ} 2 Kind.Single (next_of Kind.Single (Local.Slot l) a)
 ends_next l ends (Answer.Found n) can = ends n
 ends_next l ends a can = absurd can
 
 -- where those calls begin; a look that is not wait-free takes one step here too
-abbrev is_quick : SingleLocal → Bool
+abbrev is_quick : SlotLocal → Bool
 is_quick Closing = true
 is_quick (Looking look) = is_wait_free (call_of_look {T = Unit} look)
 is_quick _ = false
 
-quick_ends : (l : SingleLocal) → is_quick l ≡ true → (a : Answer ℕ) → CanNext Kind.Single (Local.Single l) a → EndsBefore {B = ℕ} 2 Kind.Single (next_of Kind.Single (Local.Single l) a)
+quick_ends : (l : SlotLocal) → is_quick l ≡ true → (a : Answer ℕ) → CanNext Kind.Single (Local.Slot l) a → EndsBefore {B = ℕ} 2 Kind.Single (next_of Kind.Single (Local.Slot l) a)
 quick_ends Closing h = λ a can. ends_next Closing (λ n. tt) a can
 quick_ends (Looking look) h = λ a can. ends_next (Looking look) (λ n. tt) a can
 quick_ends l h = cc
 
 -- the place that a call begins at
-abbrev place_of : Next ℕ → SingleLocal
-place_of (Next.Step (Local.Single l) t o) = l
+abbrev place_of : Next ℕ → SlotLocal
+place_of (Next.Step (Local.Slot l) t o) = l
 place_of _ = Pushing
 
 slot_wait_free : {T : Type 0} (c : Call T) → is_wait_free c ≡ true → EndsWaitFree ℕ Kind.Single (call_kind c)
 slot_wait_free Call.Capacity h = tt
-slot_wait_free c h = quick_ends (place_of (single_begin (call_kind c))) h
+slot_wait_free c h = quick_ends (place_of (slot_begin (call_kind c))) h
 
 module _ {T : Type 0} where
   -- a touch leaves the word

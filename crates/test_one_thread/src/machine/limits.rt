@@ -6,7 +6,7 @@ use queue_steps::errors::{ForcePushError, PushError};
 use queue_steps::model::Reply;
 use queue_steps::sizes::{BLOCK_POSITIONS, BLOCK_SLOTS, LIMIT};
 use queue_steps::steps::{
-    Answer, BoundedLocal, Kind, Local, Next, Op, PushKind, UnboundedLocal, Word, next,
+    Answer, ChainLocal, Kind, Local, Next, Op, PushKind, RingLocal, Word, next,
 };
 
 /// Whether a push closes the queue next, and whether it is answered that the queue is closed.
@@ -36,8 +36,8 @@ const CHAIN_END: u64 = 2 * (LIMIT / BLOCK_SLOTS * BLOCK_POSITIONS + LIMIT % BLOC
 fn once_read(push: PushKind, ring: u64, chain: u64) -> [AtLimit; 3]
     requires { IsWord ring × IsWord chain }
 {
-    let of_ring = Local::Bounded(BoundedLocal::PushTail(push));
-    let of_chain = Local::Unbounded(UnboundedLocal::PushTail(push, None));
+    let of_ring = Local::Ring(RingLocal::PushTail(push));
+    let of_chain = Local::Chain(ChainLocal::PushTail(push, None));
     [
         at_limit(next(Kind::Bounded(2), of_ring, Answer::Found(ring))),
         at_limit(next(Kind::Bounded(3), of_ring, Answer::Found(ring))),
@@ -47,8 +47,8 @@ fn once_read(push: PushKind, ring: u64, chain: u64) -> [AtLimit; 3]
 
 /// What it does once it has closed the queue.
 fn once_closed(push: PushKind, ring: u64, chain: u64) -> [AtLimit; 3] {
-    let of_ring = Local::Bounded(BoundedLocal::ClosingAtLimit(push));
-    let of_chain = Local::Unbounded(UnboundedLocal::ClosingAtLimit(push, None));
+    let of_ring = Local::Ring(RingLocal::ClosingAtLimit(push));
+    let of_chain = Local::Chain(ChainLocal::ClosingAtLimit(push, None));
     [
         at_limit(next(Kind::Bounded(2), of_ring, Answer::Found(ring))),
         at_limit(next(Kind::Bounded(3), of_ring, Answer::Found(ring))),

@@ -1,7 +1,7 @@
 //! Runs of calls, on each kind of queue and on a form without its queue.
 use crate::asserts::{is, is_in};
 use crate::owner::rows::{Made, open};
-use exclusive_queue::{Exclusive, Single, Store, run};
+use exclusive_queue::{Exclusive, OwnSlot, Store, run};
 use queue_steps::errors::PushError;
 use queue_steps::model::{Call, Reply};
 use std::alloc::Global;
@@ -135,7 +135,7 @@ fn one_long_run(rt: HostRuntime) {
 
 #[test]
 fn one_run_on_a_slot(rt: HostRuntime) {
-    let mut slot = Single {
+    let mut slot = OwnSlot {
         lock: 0,
         item: None,
     };

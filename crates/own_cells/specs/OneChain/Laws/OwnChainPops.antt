@@ -2,8 +2,8 @@
 use Rattle.std.specs.Prelude.{◌==◌, slice_set, get_or, bit_or, is_some, IsSome, if◌then◌else◌}
 use Rattle.std.proofs.Common.{◌≡◌, ◌≢◌, ◌⊎◌, ℕ, suc, ◌+◌, ◌-◌, ◌*◌, ◌/◌, ◌%◌, ◌<◌, Bool, true, false, List, length, Option, Some, None, Ok, Err, refl, arith, sym, ap, ◌∙◌, subst, inl, inr}
 use Rattle.std.proofs.lemmas.List.{get_or-set_same, get_or-set_other, length-set}
-use Rattle.queue_steps.specs.{declared.sizes.TheConstants.BLOCK_SLOTS, declared.sizes.TheConstants.SOLO_STEPS, declared.model.Call.Call as call, declared.model.Reply.Reply as reply, declared.errors.PopError.PopError as pop, declared.steps.types.Word.Word as word, declared.steps.bounded.TheConstants.TAIL_STEP, declared.steps.unbounded.TheConstants.WRITE, declared.steps.unbounded.TheConstants.READ, declared.steps.unbounded.UnboundedLocal.UnboundedLocal as chain, Effect.rest, Words.position_of, Words.is_shut, ChainWords.block_at, ChainWords.offset_of, UnboundedNext.loads, UnboundedNext.takes}
-use Rattle.own_cells.specs.{declared.chain.unbounded.Name.Name, OneRing.Laws.Numbers.equal_nat, OneRing.Laws.Numbers.apart_nat, OneRing.Laws.Numbers.is_equal, OneRing.Laws.Numbers.is_apart, OneRing.Laws.Numbers.same_or_not, OneRing.Laws.Numbers.equal_or_above, OneRing.Laws.Numbers.last_or_not, OneChain.OwnChainOwned.taken, OneChain.OwnChainOwned.accepted, OneChain.OwnChainOwned.cell_of, OneChain.OwnChainOwned.own_chain_owned, OneChain.OwnChainOwned.IsBare, OneChain.OwnChainOwned.IsIdle, OneChain.Laws.OwnChainRuns.OwnChainEnds, OneChain.Laws.OwnChainRuns.Named-with, OneChain.Laws.OwnChainRuns.place_below, OneChain.Laws.OwnChainRuns.set_cell, OneChain.Laws.OwnChainKeeps.cell_in, OneChain.Laws.OwnChainChains.rest-set, OneChain.Laws.OwnChainChains.IsEmptied-all, OneChain.Laws.OwnChainPop.run-empty, OneChain.Laws.OwnChainPop.run-known, OneChain.Laws.OwnChainPop.run-tail, OneChain.Laws.OwnChainPop.run-taken, OneChain.Laws.OwnChainPop.run-passed, OneChain.Laws.OwnChainPushes.place-is, OneChain.Laws.OwnChainPushes.named-at, OneChain.Laws.OwnChainPushes.last_name, OneChain.Laws.OwnChainPushes.last-is, OneChain.Laws.OwnChainSequential.Right, OneChain.Laws.OwnChainSequential.sequential}
+use Rattle.queue_steps.specs.{declared.sizes.TheConstants.BLOCK_SLOTS, declared.sizes.TheConstants.SOLO_STEPS, declared.model.Call.Call as call, declared.model.Reply.Reply as reply, declared.errors.PopError.PopError as pop, declared.steps.types.Word.Word as word, declared.steps.ring.TheConstants.TAIL_STEP, declared.steps.chain.TheConstants.WRITE, declared.steps.chain.TheConstants.READ, declared.steps.chain.ChainLocal.ChainLocal as chain, Effect.rest, Words.position_of, Words.is_shut, ChainWords.block_at, ChainWords.offset_of, ChainNext.loads, ChainNext.takes}
+use Rattle.own_cells.specs.{declared.chain.own_chain.Name.Name, OneRing.Laws.Numbers.equal_nat, OneRing.Laws.Numbers.apart_nat, OneRing.Laws.Numbers.is_equal, OneRing.Laws.Numbers.is_apart, OneRing.Laws.Numbers.same_or_not, OneRing.Laws.Numbers.equal_or_above, OneRing.Laws.Numbers.last_or_not, OneChain.OwnChainOwned.taken, OneChain.OwnChainOwned.accepted, OneChain.OwnChainOwned.cell_of, OneChain.OwnChainOwned.own_chain_owned, OneChain.OwnChainOwned.IsBare, OneChain.OwnChainOwned.IsIdle, OneChain.Laws.OwnChainRuns.OwnChainEnds, OneChain.Laws.OwnChainRuns.Named-with, OneChain.Laws.OwnChainRuns.place_below, OneChain.Laws.OwnChainRuns.set_cell, OneChain.Laws.OwnChainKeeps.cell_in, OneChain.Laws.OwnChainChains.rest-set, OneChain.Laws.OwnChainChains.IsEmptied-all, OneChain.Laws.OwnChainPop.run-empty, OneChain.Laws.OwnChainPop.run-known, OneChain.Laws.OwnChainPop.run-tail, OneChain.Laws.OwnChainPop.run-taken, OneChain.Laws.OwnChainPop.run-passed, OneChain.Laws.OwnChainPushes.place-is, OneChain.Laws.OwnChainPushes.named-at, OneChain.Laws.OwnChainPushes.last_name, OneChain.Laws.OwnChainPushes.last-is, OneChain.Laws.OwnChainSequential.Right, OneChain.Laws.OwnChainSequential.sequential}
 use Rattle.call_driver.specs.EndsIn.{Replied}
 use Rattle.own_cells.specs.OneChain.OwnChainCells.{Piece, OwnChain, piece_at, place_of, piece_of, with_piece, Named, CanFollow, IsEmptied}
 use Rattle.own_cells.specs.OneChain.Laws.OwnChainLeaves.{Laid, head-offset, head-word, Moved, popped, passed, idle-popped, idle-passed, items-front, queue-popped, queue-passed}

@@ -2,8 +2,8 @@
 use Rattle.std.specs.Prelude.{slice_set, bit_or}
 use Rattle.std.proofs.Common.{◌≡◌, ℕ, suc, ◌+◌, ◌<◌, List, length, Option, Some, None, refl, arith, sym, ap, ◌∙◌, subst}
 use Rattle.std.proofs.lemmas.List.{get_or-set_same, set-set, length-set}
-use Rattle.queue_steps.specs.{declared.sizes.TheConstants.BLOCK_SLOTS, declared.model.Reply.Reply, declared.steps.types.Kind.Kind as kind, declared.steps.types.Answer.Answer, declared.steps.types.Answer.Answer as answer, declared.steps.types.Next.Next, declared.steps.types.Op.Op, declared.steps.types.Op.Op as op, declared.steps.types.Word.Word as word, declared.steps.types.Touch.Touch, declared.steps.types.Touch.Touch as touch, declared.steps.unbounded.UnboundedLocal.UnboundedLocal, UnboundedNext.at, UnboundedNext.FitsChain, UnboundedNext.unbounded_next}
-use Rattle.own_cells.specs.declared.chain.unbounded.Name.{Name}
+use Rattle.queue_steps.specs.{declared.sizes.TheConstants.BLOCK_SLOTS, declared.model.Reply.Reply, declared.steps.types.Kind.Kind as kind, declared.steps.types.Answer.Answer, declared.steps.types.Answer.Answer as answer, declared.steps.types.Next.Next, declared.steps.types.Op.Op, declared.steps.types.Op.Op as op, declared.steps.types.Word.Word as word, declared.steps.types.Touch.Touch, declared.steps.types.Touch.Touch as touch, declared.steps.chain.ChainLocal.ChainLocal, ChainNext.at, ChainNext.FitsChain, ChainNext.chain_next}
+use Rattle.own_cells.specs.declared.chain.own_chain.Name.{Name}
 use Rattle.call_driver.specs.EndsIn.{EndsIn}
 use Rattle.own_cells.specs.OneChain.OwnChainCells.{Piece, OwnChain, piece_at, state_in, item_in, place_of, piece_of, with_piece, exchanged, Named, own_chain_can_touch, own_chain_touched, own_chain_touches, own_chain_can_perform, own_chain_performed, own_chain_performs}
 
@@ -20,9 +20,9 @@ abbrev pub IsSettled : {T : Type 0} → OwnChain T → Op (Name T) → Type 0
 IsSettled {T} r q = (x : Answer (Name T)) (y : OwnChain T) → own_chain_performs r q x y → (x, y) ≡ own_chain_performed r q
 
 -- one step, from what it finds
-pub own_chain_step : {T : Type 0} (steps : ℕ) (l : UnboundedLocal (Name T)) (t : Touch) (q : Op (Name T)) (r mid done : OwnChain T) (carried left : Option T) (a : Answer (Name T)) (todo : Next (Name T)) (P : Ending T)
+pub own_chain_step : {T : Type 0} (steps : ℕ) (l : ChainLocal (Name T)) (t : Touch) (q : Op (Name T)) (r mid done : OwnChain T) (carried left : Option T) (a : Answer (Name T)) (todo : Next (Name T)) (P : Ending T)
     → own_chain_can_touch r t q → own_chain_touched r t q carried ≡ (mid, left) → own_chain_can_perform mid q → IsSettled mid q → own_chain_performed mid q ≡ (a, done)
-    → FitsChain l a → unbounded_next l a ≡ todo → OwnChainEnds steps todo done left P → OwnChainEnds (suc steps) (at l t q) r carried P
+    → FitsChain l a → chain_next l a ≡ todo → OwnChainEnds steps todo done left P → OwnChainEnds (suc steps) (at l t q) r carried P
 own_chain_step {T} steps l t q r mid done carried left a todo P can_touch touched can_perform settled performed fits next_is more = (
   can_touch,
   λ after rest is.
@@ -34,33 +34,33 @@ own_chain_step {T} steps l t q r mid done carried left a todo P can_touch touche
     Todo x = OwnChainEnds steps x done left P
 
     Done : Answer (Name T) × OwnChain T → Type 0
-    Done x = FitsChain l x.0 × OwnChainEnds steps (unbounded_next l x.0) x.1 left P
+    Done x = FitsChain l x.0 × OwnChainEnds steps (chain_next l x.0) x.1 left P
 
     After : OwnChain T × Option T → Type 0
-    After u = own_chain_can_perform u.0 q × ((x : Answer (Name T)) (y : OwnChain T) → own_chain_performs u.0 q x y → FitsChain l x × OwnChainEnds steps (unbounded_next l x) y u.1 P)
+    After u = own_chain_can_perform u.0 q × ((x : Answer (Name T)) (y : OwnChain T) → own_chain_performs u.0 q x y → FitsChain l x × OwnChainEnds steps (chain_next l x) y u.1 P)
 
 -- a step that touches no slot
-pub bare_step : {T : Type 0} (steps : ℕ) (l : UnboundedLocal (Name T)) (q : Op (Name T)) (r done : OwnChain T) (carried : Option T) (a : Answer (Name T)) (todo : Next (Name T)) (P : Ending T)
+pub bare_step : {T : Type 0} (steps : ℕ) (l : ChainLocal (Name T)) (q : Op (Name T)) (r done : OwnChain T) (carried : Option T) (a : Answer (Name T)) (todo : Next (Name T)) (P : Ending T)
     → own_chain_can_perform r q → IsSettled r q → own_chain_performed r q ≡ (a, done)
-    → FitsChain l a → unbounded_next l a ≡ todo → OwnChainEnds steps todo done carried P → OwnChainEnds (suc steps) (at l touch.Nothing q) r carried P
+    → FitsChain l a → chain_next l a ≡ todo → OwnChainEnds steps todo done carried P → OwnChainEnds (suc steps) (at l touch.Nothing q) r carried P
 bare_step steps l q r done carried a todo P can_perform settled performed fits next_is more = own_chain_step steps l touch.Nothing q r r done carried carried a todo P tt refl can_perform settled performed fits next_is more
 
 -- a request, which may be refused
-pub ask_step : {T : Type 0} (steps : ℕ) (l : UnboundedLocal (Name T)) (r : OwnChain T) (carried : Option T) (P : Ending T)
-    → r.spare ≡ None → FitsChain {B = Name T} l answer.Refused → OwnChainEnds steps (unbounded_next l answer.Refused) r carried P
-    → ((b : Name T) → b.number ≡ r.first + length r.pieces → FitsChain l (answer.Granted b) × OwnChainEnds steps (unbounded_next l (answer.Granted b)) (record r { spare = Some b }) carried P)
+pub ask_step : {T : Type 0} (steps : ℕ) (l : ChainLocal (Name T)) (r : OwnChain T) (carried : Option T) (P : Ending T)
+    → r.spare ≡ None → FitsChain {B = Name T} l answer.Refused → OwnChainEnds steps (chain_next l answer.Refused) r carried P
+    → ((b : Name T) → b.number ≡ r.first + length r.pieces → FitsChain l (answer.Granted b) × OwnChainEnds steps (chain_next l (answer.Granted b)) (record r { spare = Some b }) carried P)
     → OwnChainEnds (suc steps) (at l touch.Nothing op.Ask) r carried P
 ask_step {T} steps l r carried P free can_refuse refused granted = (
   tt,
   λ after rest is.
-      let After : OwnChain T × Option T → Type 0 = λ u. own_chain_can_perform u.0 op.Ask × ((x : Answer (Name T)) (y : OwnChain T) → own_chain_performs u.0 op.Ask x y → FitsChain l x × OwnChainEnds steps (unbounded_next l x) y u.1 P) in
+      let After : OwnChain T × Option T → Type 0 = λ u. own_chain_can_perform u.0 op.Ask × ((x : Answer (Name T)) (y : OwnChain T) → own_chain_performs u.0 op.Ask x y → FitsChain l x × OwnChainEnds steps (chain_next l x) y u.1 P) in
       let here : After (after, rest) = subst After (sym is) (free, answers) in
       here,
 )
   where
-    answers : (x : Answer (Name T)) (y : OwnChain T) → own_chain_performs r op.Ask x y → FitsChain l x × OwnChainEnds steps (unbounded_next l x) y carried P
-    answers answer.Refused y e = let Left : OwnChain T → Type 0 = λ z. FitsChain {B = Name T} l answer.Refused × OwnChainEnds steps (unbounded_next l answer.Refused) z carried P in subst Left (sym e) (can_refuse, refused)
-    answers (answer.Granted b) y e = let Left : OwnChain T → Type 0 = λ z. FitsChain l (answer.Granted b) × OwnChainEnds steps (unbounded_next l (answer.Granted b)) z carried P in subst Left (sym e.1) (granted b e.0)
+    answers : (x : Answer (Name T)) (y : OwnChain T) → own_chain_performs r op.Ask x y → FitsChain l x × OwnChainEnds steps (chain_next l x) y carried P
+    answers answer.Refused y e = let Left : OwnChain T → Type 0 = λ z. FitsChain {B = Name T} l answer.Refused × OwnChainEnds steps (chain_next l answer.Refused) z carried P in subst Left (sym e) (can_refuse, refused)
+    answers (answer.Granted b) y e = let Left : OwnChain T → Type 0 = λ z. FitsChain l (answer.Granted b) × OwnChainEnds steps (chain_next l (answer.Granted b)) z carried P in subst Left (sym e.1) (granted b e.0)
     answers _ y e = absurd e
 
 -- the state and the content of a slot of the block at this place change
@@ -80,9 +80,9 @@ Named-with {T} r b p named is =
     (named.0, omega arith, ap Name_of got ∙ is)
 
 -- the call's own place and a slot change their content, and the slot's state gets bits
-pub slot_step : {T : Type 0} (steps : ℕ) (l : UnboundedLocal (Name T)) (t : Touch) (b : Name T) (slot bits : ℕ) (r : OwnChain T) (carried : Option T) (todo : Next (Name T)) (P : Ending T)
+pub slot_step : {T : Type 0} (steps : ℕ) (l : ChainLocal (Name T)) (t : Touch) (b : Name T) (slot bits : ℕ) (r : OwnChain T) (carried : Option T) (todo : Next (Name T)) (P : Ending T)
     → Named r b → slot < BLOCK_SLOTS → own_chain_can_touch r t (op.Or (word.State b slot) bits) → own_chain_touched r t (op.Or (word.State b slot) bits) carried ≡ exchanged r (Some b) slot carried
-    → FitsChain {B = Name T} l (answer.Found (state_in (piece_of r b) slot)) → unbounded_next l (answer.Found (state_in (piece_of r b) slot)) ≡ todo
+    → FitsChain {B = Name T} l (answer.Found (state_in (piece_of r b) slot)) → chain_next l (answer.Found (state_in (piece_of r b) slot)) ≡ todo
     → OwnChainEnds steps todo (record r { pieces = set_cell r.pieces (place_of r b) slot (bit_or (state_in (piece_of r b) slot) bits) carried }) (item_in (piece_of r b) slot) P
     → OwnChainEnds (suc steps) (at l t (op.Or (word.State b slot) bits)) r carried P
 slot_step {T} steps l t b slot bits r carried todo P named inside can_touch touched fits next_is more =

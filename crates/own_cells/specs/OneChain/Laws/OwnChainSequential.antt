@@ -1,7 +1,7 @@
 -- What a call on a chain of blocks has to end with, and that it does where it leaves what the table of one owner says.
 use Rattle.std.specs.Prelude.{◌==◌, if◌then◌else◌}
 use Rattle.std.proofs.Common.{◌≡◌, ◌⊎◌, ℕ, ◌+◌, ◌-◌, ◌/◌, ◌<◌, Bool, true, false, [], ◌∷◌, ◌++◌, length, Some, None, Ok, Err, refl, arith, ap, ◌∙◌, subst, inl, inr}
-use Rattle.queue_steps.specs.{declared.sizes.TheConstants.LIMIT, declared.sizes.TheConstants.BLOCK_SLOTS, declared.model.Call.Call, declared.model.Call.Call as call, declared.model.Reply.Reply, declared.model.Reply.Reply as reply, declared.errors.PushError.PushError as push, declared.errors.ForcePushError.ForcePushError as force, declared.steps.bounded.PushKind.PushKind, declared.steps.bounded.PushKind.PushKind as push_kind, State.State, Legal.IsSoundOwned, Replies.MayAsk, Sequential.Sequential, Sequential.HoldsBlocks, Sequential.blocks_of, Sequential.sequential_reply, Sequential.sequential_state, Sequential.moved, Words.is_shut, BoundedNext.closed_reply, BoundedNext.pushed_reply, UnboundedNext.gives_up}
+use Rattle.queue_steps.specs.{declared.sizes.TheConstants.LIMIT, declared.sizes.TheConstants.BLOCK_SLOTS, declared.model.Call.Call, declared.model.Call.Call as call, declared.model.Reply.Reply, declared.model.Reply.Reply as reply, declared.errors.PushError.PushError as push, declared.errors.ForcePushError.ForcePushError as force, declared.steps.ring.PushKind.PushKind, declared.steps.ring.PushKind.PushKind as push_kind, State.State, Legal.IsSoundOwned, Replies.MayAsk, Sequential.Sequential, Sequential.HoldsBlocks, Sequential.blocks_of, Sequential.sequential_reply, Sequential.sequential_state, Sequential.moved, Words.is_shut, RingNext.closed_reply, RingNext.pushed_reply, ChainNext.gives_up}
 use Rattle.call_driver.specs.EndsIn.{EndsRight, Answered}
 use Rattle.own_cells.specs.{OneRing.Laws.Numbers.is_equal, OneRing.Laws.Numbers.is_apart, OneRing.Laws.Numbers.equal_or_above, OneChain.OwnChainCells.OwnChain, OneChain.OwnChainCells.kind_of_own_chain, OneChain.OwnChainCells.own_chain_can_touch, OneChain.OwnChainCells.own_chain_touches, OneChain.OwnChainCells.own_chain_can_perform, OneChain.OwnChainCells.own_chain_performs, OneChain.OwnChainCells.own_chain_can_release, OneChain.OwnChainCells.own_chain_releases, OneChain.OwnChainOwned.taken, OneChain.OwnChainOwned.accepted, OneChain.OwnChainOwned.own_chain_queue, OneChain.OwnChainOwned.own_chain_owned, OneChain.OwnChainOwned.IsBare, OneChain.OwnChainOwned.IsLaid, OneChain.OwnChainOwned.IsIdle, OneChain.Laws.OwnChainRuns.Ending, OneChain.Laws.OwnChainKeeps.length-items_from, OneChain.Laws.OwnChainLeaves.marked, OneChain.Laws.OwnChainLeaves.idle-marked, OneChain.Laws.OwnChainLeaves.queue-marked}
 

@@ -1,11 +1,11 @@
 -- Every call on a ring ends with its reply: it is a call of the only party, whose steps are those of the laws of parties.
 use Rattle.std.specs.Prelude.{◌==◌, if◌then◌else◌}
 use Rattle.std.proofs.Common.{◌≡◌, ◌||◌, ℕ, zero, suc, ◌<◌, ◌≤◌, not, Bool, true, false, List, [], ◌∷◌, Option, Some, None, Err, refl, arith, sym, ap, ◌∙◌, subst, inl, inr}
-use Rattle.queue_steps.specs.{State.State, State.is_single_cap, Effect.after_from, Kinds.call_kind, Kinds.call_value, Kinds.filled, Legal.IsShown, Next.CanNext, Next.next_of, BoundedNext.bounded_begin, Replies.IsRightAt, Replies.LacksMemory, Replies.Tells, Words.position_of, Sequential.Sequential, Sequential.sequential_reply, Sequential.sequential_state, Sequential.moved}
+use Rattle.queue_steps.specs.{State.State, State.is_slot_cap, Effect.after_from, Kinds.call_kind, Kinds.call_value, Kinds.filled, Legal.IsShown, Next.CanNext, Next.next_of, RingNext.ring_begin, Replies.IsRightAt, Replies.LacksMemory, Replies.Tells, Words.position_of, Sequential.Sequential, Sequential.sequential_reply, Sequential.sequential_state, Sequential.moved}
 use Rattle.queue_steps.proofs.Rows.{does_row}
 use Rattle.queue_laws.specs.Common.Vocabulary.{Call, Reply, Effect, PushError, ForcePushError, Kind, Op, Touch, Answer, Next, SOLO_STEPS}
 use Rattle.queue_laws.specs.{Common.Effects.FrontOpen, Common.Effects.with_effect, Common.Moments.SeenIn, Ring.RingShared.answered, Ring.RingShared.touched, Ring.RingShared.handed, Ring.RingCells.Ring, Ring.RingCells.queue_of, Ring.RingCells.RingOk, Ring.RingCells.HoldsNone, Ring.RingWords.Codes}
-use Rattle.queue_laws.proofs.{Common.Alone.Alone, Common.Alone.alone_first, Common.Alone.alone_more, Common.Alone.only_seen, Ring.RingIdle.AtRest, Ring.RingIdle.at_rest, Ring.RingTransitions.not_single, Ring.RingRanks.rank, Ring.RingRanks.rank_some, Ring.RingSlots.nobody, Ring.RingStepOk.IsQuiet, Ring.RingStepOk.NextOk, Ring.RingFronts.may_front, Ring.RingStart.at_first, Ring.RingStep.step_good}
+use Rattle.queue_laws.proofs.{Common.Alone.Alone, Common.Alone.alone_first, Common.Alone.alone_more, Common.Alone.only_seen, Ring.RingIdle.AtRest, Ring.RingIdle.at_rest, Ring.RingTransitions.not_slot, Ring.RingRanks.rank, Ring.RingRanks.rank_some, Ring.RingSlots.nobody, Ring.RingStepOk.IsQuiet, Ring.RingStepOk.NextOk, Ring.RingFronts.may_front, Ring.RingStart.at_first, Ring.RingStep.step_good}
 use Rattle.call_driver.specs.EndsIn.{EndsIn, EndsRight, Released, Replied, Answered}
 use Rattle.own_cells.specs.OneRing.RingCells.{RingState, kind_of_ring, ring_touchable, ring_touched, ring_operable, ring_performed, ring_can_touch, ring_touches, ring_can_perform, ring_performs, ring_can_release, ring_releases}
 use Rattle.own_cells.specs.{OneRing.RingOwned.IsIdle, OneRing.RingOwned.ring_queue, OneRing.RingOwned.ring_owned, OneSlot.Laws.ComputedRuns.EndsIn-step, OneRing.Laws.RingParty.part, OneRing.Laws.RingParty.ring_of, OneRing.Laws.RingParty.nobody_holds, OneRing.Laws.RingParty.party_ok, OneRing.Laws.RingParty.party_codes, OneRing.Laws.RingRests.rested_idle, OneRing.Laws.RingRests.rested_queue, OneRing.Laws.RingSame.is_done, OneRing.Laws.RingSame.same_step}
@@ -25,7 +25,7 @@ module _ {T : Type 0} where
       either false = refl
 
   -- states that are shown as the same are the same, where there are more slots than one
-  shown_same : (R P : State T) → is_single_cap R.cap ≡ false → IsShown R P → R ≡ P
+  shown_same : (R P : State T) → is_slot_cap R.cap ≡ false → IsShown R P → R ≡ P
   shown_same R P many h =
       let accepted : R.accepted ≡ P.accepted = elim h.accepted [ inl e ↦ (let f : true ≡ false = sym e ∙ many in cc) | inr e ↦ e ] in
       λ i. record { items = h.items i; cap = h.cap i; closed = h.closed i; coming = h.coming i; accepted = accepted i }
@@ -72,7 +72,7 @@ module _ {T : Type 0} where
             elim (does_row Q Q.accepted (inr refl) c y es tells alone.runs (λ e. inl (only_seen Q ms (λ m. IsRightAt m c y) (alone.only e) (right e))) (λ old w e. subst (FrontOpen Q) e alone.first)) [
               | inl d ↦
                   let shown : IsShown (sequential_state Q c) (ring_queue r) = subst (IsShown (sequential_state Q c)) leads d.1 in
-                  let many : is_single_cap (sequential_state Q c).cap ≡ false = ap is_single_cap shown.cap ∙ (ap (λ n. is_single_cap (Some n)) h.same ∙ not_single cap h.ok.ring) in
+                  let many : is_slot_cap (sequential_state Q c).cap ≡ false = ap is_slot_cap shown.cap ∙ (ap (λ n. is_slot_cap (Some n)) h.same ∙ not_slot cap h.ok.ring) in
                   sequential first r c y d.0 (sym (shown_same (sequential_state Q c) (ring_queue r) many shown))
               | inr l ↦ absurd (let f : Some cap ≡ None = lacks_none Q c y l.0 in cc)
             ],
@@ -116,7 +116,7 @@ ring_answers {T} r c i =
     let g : Ring T = ring_of r in
     let none = nobody_holds r in (
       i.ring,
-      runs r c SOLO_STEPS SOLO_STEPS r g g (bounded_begin r.cap (call_kind c)) (call_value c) [] false []
+      runs r c SOLO_STEPS SOLO_STEPS r g g (ring_begin r.cap (call_kind c)) (call_value c) [] false []
           (record { same = refl; ok = party_ok r i; codes = party_codes r i; quiet = λ other ne. none other }) (λ other ne. none other) (alone_first (ring_queue r))
           (at_first r.cap g 0 c (none 0), λ calm. omega arith) (omega arith) (omega arith),
     )

@@ -19,16 +19,16 @@ is_lone d e is rests entire = subst (λ x. IsLoneSeat x) (sym is) (rests, entire
 
 pub end_slot-requires-clause-table : goal.end_slot-requires-clause-table
 end_slot-requires-clause-table g c =
-    let b = c.in-Single-Table in
+    let b = c.in-Slot-Table in
     same_table b.seat.table_id b.slot.table.shared.table_id (sym (ap name_at b.is-1) ∙ (c.is_only.ensures.same.0.0 ∙ ap (λ f. (form_id f).name) b.is-0))
 
 pub end_slot-requires-clause-alone : goal.end_slot-requires-clause-alone
 end_slot-requires-clause-alone g c =
-    let b = c.in-Single-Table in
+    let b = c.in-Slot-Table in
     is_lone b.seat.me.0 (known_at c.party.inside.place) (sym (ap known_at b.is-1) ∙ c.is_only.ensures.same.2) c.party.invariant.0.0 c.if-not-is_only.ensures.counted
 
-pub of_single-requires : goal.of_single-requires
-of_single-requires g c = c.end_slot.ensures.0
+pub of_slot-requires : goal.of_slot-requires
+of_slot-requires g c = c.end_slot.ensures.0
 
 pub end_ring-requires-clause-table : goal.end_ring-requires-clause-table
 end_ring-requires-clause-table g c =
@@ -57,13 +57,13 @@ end-requires-clause-alone g c =
     let known = ap (λ m. m.view) c.wake-seat.ensures.seat.1 ∙ (sym (ap known_at b.is-1) ∙ c.is_only.ensures.same.2) in
     is_lone c.wake-seat.result.sitter.view (known_at c.party.inside.place) known c.party.invariant.0.0 c.if-not-is_only.ensures.counted
 
-pub returns-in-Single-Table : goal.returns-in-Single-Table
-returns-in-Single-Table g c =
+pub returns-in-Slot-Table : goal.returns-in-Slot-Table
+returns-in-Slot-Table g c =
     let one : c.args.party.queue.cap ≡ Some 1 = search rules in
-    let p = c.party.inside.place in let b = c.in-Single-Table in let s = b.seat in
+    let p = c.party.inside.place in let b = c.in-Slot-Table in let s = b.seat in
     let same = sym (ap known_at b.is-1) ∙ c.is_only.ensures.same.2 in
-    let shown : IsShown c.of_single.result.queue (after (Some 1) s.me.0.known.seen) = subst (λ z. IsShown z.queue (after (Some 1) s.me.0.known.seen)) (sym c.of_single.ensures) c.end_slot.ensures.1 in
-    finishes (Some 1) c.args.party (name_at p) (known_at p) s.me.0 c.of_single.result c.party.view_is one same c.if-not-is_only.ensures.counted shown c.end_slot.ensures.2 (λ _. search rules)
+    let shown : IsShown c.of_slot.result.queue (after (Some 1) s.me.0.known.seen) = subst (λ z. IsShown z.queue (after (Some 1) s.me.0.known.seen)) (sym c.of_slot.ensures) c.end_slot.ensures.1 in
+    finishes (Some 1) c.args.party (name_at p) (known_at p) s.me.0 c.of_slot.result c.party.view_is one same c.if-not-is_only.ensures.counted shown c.end_slot.ensures.2 (λ _. search rules)
 
 pub returns-in-Ring-Table : goal.returns-in-Ring-Table
 returns-in-Ring-Table g c =

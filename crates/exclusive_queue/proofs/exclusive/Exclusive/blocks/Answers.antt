@@ -2,10 +2,10 @@ use Rattle.std.proofs.Common.{rules}
 use Rattle.own_cells.specs.OneChain.Laws.OwnChainSequential.{holds-blocks}
 use Rattle.exclusive_queue.proofs.exclusive.Exclusive.blocks.Goals as goal
 
-pub returns-in-Unbounded-clause-held : goal.returns-in-Unbounded-clause-held
-returns-in-Unbounded-clause-held g c =
-    let idle = rw c.in-Unbounded.is at c.self.invariant in
-    rw (← c.self.view_is, c.in-Unbounded.is) (holds-blocks c.in-Unbounded.blocks idle)
+pub returns-in-Chain-clause-held : goal.returns-in-Chain-clause-held
+returns-in-Chain-clause-held g c =
+    let idle = rw c.in-Chain.is at c.self.invariant in
+    rw (← c.self.view_is, c.in-Chain.is) (holds-blocks c.in-Chain.blocks idle)
 
-pub returns-in-Unbounded-clause-count : goal.returns-in-Unbounded-clause-count
-returns-in-Unbounded-clause-count g c = search rules
+pub returns-in-Chain-clause-count : goal.returns-in-Chain-clause-count
+returns-in-Chain-clause-count g c = search rules

@@ -4,7 +4,7 @@ use Rattle.concurrent_queue.specs.Shared.{known_at, number_at}
 use Rattle.concurrent_queue.proofs.shared.count.FormPartyCountSeatPlace.act.Goals as goal
 
 pub act-requires-clause-may : goal.act-requires-clause-may
-act-requires-clause-may g c = subst (λ p. MayAct g.M.CountAct.changes g.M.CountAct.tells (number_at p) (known_at p)) c.in-Single-Table.is-1 c.requires.may
+act-requires-clause-may g c = subst (λ p. MayAct g.M.CountAct.changes g.M.CountAct.tells (number_at p) (known_at p)) c.in-Slot-Table.is-1 c.requires.may
 
 pub act-requires-in-Ring-Table-clause-may : goal.act-requires-in-Ring-Table-clause-may
 act-requires-in-Ring-Table-clause-may g c = subst (λ p. MayAct g.M.CountAct.changes g.M.CountAct.tells (number_at p) (known_at p)) c.in-Ring-Table.is-1 c.requires.may

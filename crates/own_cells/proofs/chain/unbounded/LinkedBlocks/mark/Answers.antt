@@ -1,5 +1,0 @@
-use Rattle.std.proofs.Common.{rules}
-use Rattle.own_cells.proofs.chain.unbounded.LinkedBlocks.mark.Goals as goal
-
-pub returns : goal.returns
-returns g c = search rules

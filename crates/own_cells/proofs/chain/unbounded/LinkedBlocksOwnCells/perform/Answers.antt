@@ -1,5 +1,0 @@
-use Rattle.std.proofs.Common.{rules}
-use Rattle.own_cells.proofs.chain.unbounded.LinkedBlocksOwnCells.perform.Goals as goal
-
-pub returns-in-Exchange-Head-default-default : goal.returns-in-Exchange-Head-default-default
-returns-in-Exchange-Head-default-default g c = search rules

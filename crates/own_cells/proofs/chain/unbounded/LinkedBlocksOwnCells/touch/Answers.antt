@@ -1,5 +1,0 @@
-use Rattle.std.proofs.Common.{rules}
-use Rattle.own_cells.proofs.chain.unbounded.LinkedBlocksOwnCells.touch.Goals as goal
-
-pub returns-in-Some : goal.returns-in-Some
-returns-in-Some g c = search rules

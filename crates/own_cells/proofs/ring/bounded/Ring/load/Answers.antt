@@ -1,5 +1,0 @@
-use Rattle.std.proofs.Common.{rules}
-use Rattle.own_cells.proofs.ring.bounded.Ring.load.Goals as goal
-
-pub returns-in-Head : goal.returns-in-Head
-returns-in-Head g c = search rules

@@ -1,6 +1,0 @@
-use Rattle.std.proofs.Common.{refl}
-use Rattle.own_cells.proofs.OneSlot.Slots.{after_op-load}
-use Rattle.own_cells.proofs.slot.single.SingleOwnCells.look.Goals as goal
-
-pub returns : goal.returns
-returns g c = rw (after_op-load c.args.op.now c.args.self.now.lock c.requires.load) refl

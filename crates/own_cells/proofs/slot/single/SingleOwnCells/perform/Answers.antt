@@ -1,5 +1,0 @@
-use Rattle.std.proofs.Common.{rules}
-use Rattle.own_cells.proofs.slot.single.SingleOwnCells.perform.Goals as goal
-
-pub returns-in-Or-Lock-default : goal.returns-in-Or-Lock-default
-returns-in-Or-Lock-default g c = search rules

@@ -1,5 +1,0 @@
-use Rattle.std.proofs.Common.{rules, tests}
-use Rattle.queue_steps.proofs.steps.bounded.each.popping.after_empty_slot.Goals as goal
-
-pub returns-else-stamp-head : goal.returns-else-stamp-head
-returns-else-stamp-head g c = search (rules, tests)

@@ -1,4 +1,0 @@
-use Rattle.queue_steps.proofs.steps.bounded.each.popping.empty.Goals as goal
-
-pub returns : goal.returns
-returns g c = search (c.step.ensures, c.slot_of-slot.ensures)

@@ -1,4 +1,0 @@
-use Rattle.queue_steps.proofs.steps.bounded.each.popping.take.Goals as goal
-
-pub returns : goal.returns
-returns g c = search

@@ -1,5 +1,0 @@
-use Rattle.std.proofs.Common.{rules}
-use Rattle.queue_steps.proofs.steps.bounded.each.pushing.after_push_head.Goals as goal
-
-pub returns-else-head-cap : goal.returns-else-head-cap
-returns-else-head-cap g c = search rules

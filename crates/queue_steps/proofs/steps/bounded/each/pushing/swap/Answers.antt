@@ -1,5 +1,0 @@
-use Rattle.std.proofs.Common.{rules}
-use Rattle.queue_steps.proofs.steps.bounded.each.pushing.swap.Goals as goal
-
-pub returns : goal.returns
-returns g c = search rules

@@ -1,5 +1,0 @@
-use Rattle.std.proofs.Common.{rules}
-use Rattle.queue_steps.proofs.steps.single.each.next.Goals as goal
-
-pub returns-in-Closing : goal.returns-in-Closing
-returns-in-Closing g c = search rules

@@ -1,5 +1,0 @@
-use Rattle.std.proofs.Common.{rules, tests}
-use Rattle.queue_steps.proofs.steps.unbounded.each.popping.after_mark.Goals as goal
-
-pub returns-else-state-ne0 : goal.returns-else-state-ne0
-returns-else-state-ne0 g c = search (rules, tests)

@@ -1,5 +1,0 @@
-use Rattle.std.proofs.Common.{refl}
-use Rattle.queue_steps.proofs.steps.unbounded.each.popping.goes_on.Goals as goal
-
-pub returns : goal.returns
-returns c = refl

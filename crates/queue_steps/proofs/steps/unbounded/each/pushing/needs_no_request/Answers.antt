@@ -1,5 +1,0 @@
-use Rattle.std.proofs.Common.{rules}
-use Rattle.queue_steps.proofs.steps.unbounded.each.pushing.needs_no_request.Goals as goal
-
-pub returns-else-is_some : goal.returns-else-is_some
-returns-else-is_some g c = search rules
