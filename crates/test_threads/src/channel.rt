@@ -1,8 +1,6 @@
-//! Channels.
-pub mod ends;
+//! Channels, beside their stories.
+pub mod by_reference;
+pub mod leaving;
 pub mod many_ends;
 pub mod memory;
-pub mod opening;
-pub mod rows;
-pub mod stories;
 pub mod threads;
