@@ -1,5 +1,5 @@
-use Rattle.counted_channel.proofs.{QueueCalls.Closing.ended_last, QueueCalls.Closing.ended_other, sides.end_one.Goals.then-last, sides.end_one.Goals.else-last}
-use Rattle.counted_channel.proofs.sides.end_one.Goals as goal
+use Rattle.counted_channel.proofs.{QueueCalls.Closing.ended_last, QueueCalls.Closing.ended_other, either.SideEndChannelEnd.end_on.Goals.then-last, either.SideEndChannelEnd.end_on.Goals.else-last}
+use Rattle.counted_channel.proofs.either.SideEndChannelEnd.end_on.Goals as goal
 
 pub returns-clause-party : goal.returns-clause-party
 returns-clause-party g c =

@@ -1,7 +1,7 @@
 use Rattle.std.proofs.Common.{ap}
 use Rattle.counted_channel.specs.Counting.{stake_at}
 use Rattle.counted_channel.proofs.Parting.{rejoined}
-use Rattle.counted_channel.proofs.sides.split_end.Goals as goal
+use Rattle.counted_channel.proofs.either.SideEndChannelEnd.split_on.Goals as goal
 
 pub returns-in-None-clause-parted : goal.returns-in-None-clause-parted
 returns-in-None-clause-parted g c =
