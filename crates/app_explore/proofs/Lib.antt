@@ -10,3 +10,5 @@ pub mod Waiting
 pub mod OutcomeLines
 pub mod Tallies
 pub mod Mapped
+pub mod Stopping
+pub mod Ordered

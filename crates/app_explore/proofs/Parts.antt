@@ -85,9 +85,6 @@ pub record IsCut (text rest : List ℕ) (calls : List (Call ℕ)) : Type 0 where
   pub each : AllByRecursion IsCallOfWord calls
   pub parts : parts_of text ≡ map spaced_call calls ++ parts_of rest
 
-pub cut_none : (text : List ℕ) → IsCut text text []
-cut_none text = record { each = tt; parts = refl }
-
 each_more : (cs : List (Call ℕ)) (c : Call ℕ) → AllByRecursion IsCallOfWord cs → IsCallOfWord c → AllByRecursion IsCallOfWord (cs ++ c ∷ [])
 each_more [] c each is = (is, tt)
 each_more (d ∷ ds) c each is = (each.0, each_more ds c each.1 is)
@@ -95,13 +92,6 @@ each_more (d ∷ ds) c each is = (each.0, each_more ds c each.1 is)
 parts_more : (text part : List ℕ) (cs : List (Call ℕ)) (c : Call ℕ) (more : List (List ℕ)) → parts_of text ≡ map spaced_call cs ++ part ∷ more → spaced_call c ≡ part → parts_of text ≡ map spaced_call (cs ++ c ∷ []) ++ more
 parts_more text part cs c more parts same =
     parts ∙ ap (λ p. map spaced_call cs ++ p ∷ more) (sym same) ∙ sym (append_assoc (map spaced_call cs) (spaced_call c ∷ []) more) ∙ ap (λ ps. ps ++ more) (sym (map-append spaced_call cs (c ∷ [])))
-
--- one part more is read
-pub cut_more : (text rest part after : List ℕ) (calls : List (Call ℕ)) (c : Call ℕ) → IsCut text rest calls → parts_of rest ≡ part ∷ parts_of after → IsCallOfWord c × (spaced_call c ≡ part) → IsCut text after (calls ++ c ∷ [])
-cut_more text rest part after calls c so_far first read = record {
-  each = each_more calls c so_far.each read.0;
-  parts = parts_more text part calls c (parts_of after) (so_far.parts ∙ ap (λ ps. map spaced_call calls ++ ps) first) read.1;
-}
 
 -- the last part is read
 pub cut_all : (text rest part : List ℕ) (most : ℕ) (calls : List (Call ℕ)) (c : Call ℕ) → IsCut text rest calls → parts_of rest ≡ part ∷ [] → IsCallOfWord c × (spaced_call c ≡ part) → length calls < most → IsCalls most (calls ++ c ∷ []) × (calls_text (calls ++ c ∷ []) ≡ text)

@@ -4,7 +4,7 @@ use Rattle.std.proofs.lemmas.{List.append-nil, Fmt.decimal_digit}
 use Rattle.std.specs.{Fmt.decimal, List.AllByRecursion}
 use Rattle.queue_steps.specs.declared.model.Call.{Call, Call as call}
 use Rattle.app_text.specs.Lines.{lines_of}
-use Rattle.app_explore.specs.{Parsing.IsParsing, declared.limits.TheConstants.MOST_PARTIES, declared.limits.TheConstants.MOST_CALLS, declared.limits.TheConstants.MOST_CALLS_BEFORE, Faults.IsCallsFault, Faults.IsPartyFault, declared.read_faults.LineFault.LineFault, declared.read_faults.LineFault.LineFault as reason, Reads.IsReadAs, Reads.BeginsProgram, Reads.IsFirstWrong, Reads.HasNoBefore}
+use Rattle.app_explore.specs.{Parsing.IsParsing, declared.limits.TheConstants.MOST_PARTIES, declared.limits.TheConstants.MOST_CALLS, declared.limits.TheConstants.MOST_CALLS_BEFORE, Faults.IsCallsFault, Faults.IsPartyFault, declared.read_faults.LineFault.LineFault, declared.read_faults.LineFault.LineFault as reason, Reads.BeginsProgram, Reads.IsFirstWrong, Reads.HasNoBefore}
 use Rattle.app_explore.specs.Programs.{calls_text, before_line, before_lines, party_line, party_lines, program_lines, IsCalls, IsPartyCalls, IsBefore, IsProgram}
 
 -- why the text behind the party's number is that of no calls is why the line is not the party's
@@ -45,9 +45,6 @@ pub record IsReadTo (text rest : List ℕ) (parties : List (List (Call ℕ))) : 
   pub few : length parties ≤ MOST_PARTIES
   pub lines : lines_of text ≡ party_lines 0 parties ++ lines_of rest
 
-pub read_none : (text : List ℕ) → IsReadTo text text []
-read_none text = record { each = tt; few = omega arith; lines = refl }
-
 each_more : (ps : List (List (Call ℕ))) (p : List (Call ℕ)) → AllByRecursion (IsCalls MOST_CALLS) ps → IsCalls MOST_CALLS p → AllByRecursion (IsCalls MOST_CALLS) (ps ++ p ∷ [])
 each_more [] p each is = (is, tt)
 each_more (q ∷ qs) p each is = (each.0, each_more qs p each.1 is)
@@ -62,13 +59,6 @@ read_more text rest line after parties p so_far first read = record {
   each = each_more parties p so_far.each read.0.1;
   few = let count = length-append parties (p ∷ []) in omega (arith, count, read.0.0);
   lines = so_far.lines ∙ ap (λ ls. party_lines 0 parties ++ ls) (first ∙ ap (λ l. l ∷ lines_of after) (sym read.1)) ∙ sym (lines_more 0 (length parties) parties p (lines_of after) (omega arith));
-}
-
--- all lines are read
-pub read_all : (text rest : List ℕ) (before : List (Call ℕ)) (parties : List (List (Call ℕ))) → IsBefore before → IsReadTo text rest parties → lines_of rest ≡ [] → 0 < length parties → IsReadAs (before_lines before ++ lines_of text) before parties
-read_all text rest before parties is so_far end some = record {
-  is_program = record { is_before = is; some = some; few = so_far.few; each = so_far.each };
-  lines_are = ap (λ ls. before_lines before ++ ls) (sym (so_far.lines ∙ ap (λ ls. party_lines 0 parties ++ ls) end ∙ append-nil (party_lines 0 parties)));
 }
 
 length-party_lines : (n : ℕ) (ps : List (List (Call ℕ))) → length (party_lines n ps) ≡ length ps
@@ -187,8 +177,3 @@ wrong_before lines line spelled after are is none = record {
 
     wrong : BeginsProgram (line ∷ []) → ⊥
     wrong b = no_calls b.before b.parties b.more b.is_program b.lines_are
-
--- the calls before are read
-pub before_read : (lines : List (List ℕ)) (line spelled : List ℕ) (after : List (List ℕ)) (before : List (Call ℕ)) → lines ≡ (codes "before:" ++ spelled) ∷ after → IsCalls MOST_CALLS_BEFORE before × (calls_text before ≡ spelled) → before_lines before ++ after ≡ lines
-before_read lines line spelled after [] are read = absurd (omega (arith, read.0.0))
-before_read lines line spelled after (c ∷ cs) are read = ap (λ t. (codes "before:" ++ t) ∷ after) read.1 ∙ sym are

@@ -11,6 +11,7 @@ pub mod Lanes
 pub mod WaitLines
 pub mod Stops
 pub mod Tails
+pub mod Listed
 pub mod Listings
 pub mod Commands
 pub mod Waits

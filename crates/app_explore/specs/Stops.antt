@@ -2,7 +2,7 @@
 use Rattle.std.specs.Prelude.{ℕ, List, ◌∷◌, ◌++◌, codes}
 use Rattle.std.specs.Fmt.{decimal}
 use Rattle.app_text.specs.{Faults.fault_text, Faults.fault_status, declared.faults.Fault.Fault as fault}
-use Rattle.app_explore.specs.{Faults.line_fault_text, Usage.usage_text, declared.faults.Stop.Stop, declared.faults.Stop.Stop as stop}
+use Rattle.app_explore.specs.{Faults.line_fault_text, Usage.usage_text, declared.faults.Stop.Stop, declared.faults.Stop.Stop as stop, declared.read_faults.ReadFault.ReadFault, declared.read_faults.ReadFault.ReadFault as read}
 use Rattle.machine_explore.specs.declared.search.faults.SearchFault.{SearchFault, SearchFault as sought}
 
 abbrev pub stop_text : Stop → List ℕ
@@ -22,16 +22,14 @@ stop_status (stop.NoOutcome n) = 2
 stop_status (stop.NoWait n) = 2
 stop_status _ = 3
 
+-- why the explorer stops where no program was read
+abbrev pub read_stop : ReadFault → Stop
+read_stop (read.Unreadable n why) = stop.Line n why
+read_stop read.NoMemory = stop.Fault fault.NoMemory
+
 -- why the explorer stops where a search gives no answer
 abbrev pub search_stop : SearchFault → Stop
 search_stop sought.NoMemory = stop.Fault fault.NoMemory
 search_stop sought.TooManyStates = stop.TooManyStates
 search_stop sought.EndlessCall = stop.NotShown
 search_stop sought.NotShown = stop.NotShown
-
--- as a search may end that gives no answer
-abbrev pub IsSearchStop : Stop → Type 0
-IsSearchStop (stop.Fault fault.NoMemory) = Unit {0}
-IsSearchStop stop.TooManyStates = Unit {0}
-IsSearchStop stop.NotShown = Unit {0}
-IsSearchStop _ = ⊥

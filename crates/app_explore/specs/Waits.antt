@@ -2,12 +2,8 @@
 use Rattle.std.specs.Prelude.{◌≡◌, ℕ, ◌-◌, ◌<◌, Bool, Some, List, length, map, slice_get}
 use Rattle.std.specs.List.{All}
 use Rattle.queue_steps.specs.declared.{model.Call.Call, steps.types.Kind.Kind}
-use Rattle.machine_explore.specs.{declared.schedule.Move.Move, Waiting.HasNoOtherWait, Waiting.IsWaitOf, Waiting.Waiting}
+use Rattle.machine_explore.specs.{Reports.IsShownWait, Waiting.HasNoOtherWait, Waiting.Waiting}
 use Rattle.app_explore.specs.{Outcomes.AreInOrder, Schedules.MakeAll, Schedules.move_lines, Schedules.schedule_text, WaitLines.wait_text, WaitLines.waits_text}
-
--- a schedule shows that the one waits for the other at its end
-abbrev pub IsShownWait : Kind → Bool → List (Call ℕ) → List (List (Call ℕ)) → Waiting → Type 0
-IsShownWait k refuses before calls x = (schedule : List Move) × IsWaitOf k refuses before calls schedule x
 
 -- these are the waits of the program, each of which a schedule shows, in the order of their texts, each once; and it has no other
 pub record AreWaits (k : Kind) (refuses : Bool) (before : List (Call ℕ)) (calls : List (List (Call ℕ))) (waits : List Waiting) : Type 0 where

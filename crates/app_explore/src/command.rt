@@ -1,23 +1,21 @@
 //! The whole explorer as a function of its arguments, its input and its two outputs.
-ghost use Rattle.std.specs.Prelude.{◌≡◌, ◌⊎◌, Err, IfErr, IfOk, MatchResult, None, Ok, Some, map, string_bytes};
+ghost use Rattle.std.specs.Prelude.{◌≡◌, MatchResult, map, string_bytes};
 ghost use Rattle.machine_replay.specs.Replays.{CanReplay};
 ghost use Rattle.app_text.specs.KindNames.{queue_named};
 ghost use Rattle.app_explore.specs.Listings.{MayStop, MayTellNothing, IsTold, TellsWanted};
 ghost use Rattle.app_explore.specs.Requests.{IsRequest, IsWanted};
 ghost use Rattle.app_explore.specs.Commands.{IsExplorerEnd, IsExplored, IsStopOf};
-ghost use Rattle.app_explore.specs.Stops.{IsSearchStop, search_stop, stop_status};
+ghost use Rattle.app_explore.specs.Stops.{stop_status};
 
 use crate::args::{Request, Wanted, parse_request};
 use crate::faults::Stop;
 use crate::limits::MOST_STATES;
-use crate::listing::{Problem, draw_lanes, list_outcomes, list_schedule};
-use crate::read_faults::ReadFault;
+use crate::listing::{draw_lanes, list_outcomes, list_schedule};
 use crate::reading::read_program;
 use crate::waits::{list_waits, wait_schedule};
-use app_text::faults::Fault;
 use app_text::streams::{read_input, write_output};
+use machine_explore::problem::Problem;
 use machine_explore::program::Program;
-use machine_explore::search::faults::SearchFault;
 use std::alloc::Allocator;
 use std::io::{Read, Write};
 
@@ -59,22 +57,11 @@ fn explore<A: Allocator, I: Read, O: Write>(
         (λ _. IsExplored (map string_bytes args.now) (I.remaining input.old) (O.contents output.old) (O.contents output.new))
         (IsStopOf (map string_bytes args.now) (I.remaining input.old) (O.contents output.old) (O.contents output.new)) }
 {
-    let request = match parse_request(args) {
-        Ok(request) => request,
-        Err(why) => return Err(Stop::Usage(why)),
-    };
-    let bytes = match read_input(alloc, input) {
-        Ok(bytes) => bytes,
-        Err(fault) => return Err(Stop::Fault(fault)),
-    };
-    let text = match told(alloc, request, &bytes, MOST_STATES) {
-        Ok(text) => text,
-        Err(stop) => return Err(stop),
-    };
-    match write_output(output, text.as_bytes()) {
-        Ok(()) => Ok(()),
-        Err(fault) => Err(Stop::Fault(fault)),
-    }
+    let request = parse_request(args)?;
+    let bytes = read_input(alloc, input)?;
+    let text = told(alloc, request, &bytes, MOST_STATES)?;
+    write_output(output, text.as_bytes())?;
+    Ok(())
 }
 
 /// What is told of the program that the text names, if it has no more states than this.
@@ -82,6 +69,7 @@ fn explore<A: Allocator, I: Read, O: Write>(
 /// # Errors
 ///
 /// `Line`, `NoMemory`, also where no queue may have the capacity, `TooManyStates`, `NoOutcome`, `NoWait`, and `NotShown`, which no program is known to meet.
+#[tactic(auto, using(crate::proofs::Stopping::unread))]
 pub fn told<'a, A: Allocator>(
     alloc: &'a A,
     request: Request,
@@ -91,11 +79,7 @@ pub fn told<'a, A: Allocator>(
     requires { IsRequest request }
     ensures { MatchResult result (λ told. IsTold request text.now (string_bytes told)) (MayStop request text.now) }
 {
-    let program = match read_program(alloc, text) {
-        Ok(program) => program,
-        Err(ReadFault::Unreadable(number, why)) => return Err(Stop::Line(number, why)),
-        Err(ReadFault::NoMemory) => return Err(Stop::Fault(Fault::NoMemory)),
-    };
+    let program = read_program(alloc, text)?;
     let problem = problem_of(request, program, most_states);
     answer(alloc, &problem, request.wanted)
 }
@@ -122,6 +106,7 @@ fn problem_of<A: Allocator>(request: Request, program: Program<A>, most_states: 
 /// # Errors
 ///
 /// As of `told`, without `Line`.
+#[tactic(auto, using(crate::proofs::Stopping::searched))]
 pub fn answer<A: Allocator + Copy>(
     alloc: A,
     problem: &Problem<A>,
@@ -134,53 +119,16 @@ pub fn answer<A: Allocator + Copy>(
         (MayTellNothing problem.now.kind problem.now.refuses problem.now.program.before problem.now.program.parties.items wanted) }
 {
     match wanted {
-        Wanted::Outcomes => match list_outcomes(alloc, problem) {
-            Ok(text) => Ok(text),
-            Err(fault) => Err(stop_of(fault)),
-        },
+        Wanted::Outcomes => Ok(list_outcomes(alloc, problem)?),
         Wanted::Schedule(number) => {
-            of_number(
-                Stop::NoOutcome(number),
-                list_schedule(alloc, problem, number),
-            )
+            list_schedule(alloc, problem, number)?.ok_or(Stop::NoOutcome(number))
         }
         Wanted::Lanes(number) => {
-            of_number(Stop::NoOutcome(number), draw_lanes(alloc, problem, number))
+            draw_lanes(alloc, problem, number)?.ok_or(Stop::NoOutcome(number))
         }
-        Wanted::Waits => match list_waits(alloc, problem) {
-            Ok(text) => Ok(text),
-            Err(fault) => Err(stop_of(fault)),
-        },
+        Wanted::Waits => Ok(list_waits(alloc, problem)?),
         Wanted::Wait(number) => {
-            of_number(Stop::NoWait(number), wait_schedule(alloc, problem, number))
+            wait_schedule(alloc, problem, number)?.ok_or(Stop::NoWait(number))
         }
-    }
-}
-
-// What is told of a number, if there is something, or else that there is not.
-fn of_number<A: Allocator>(
-    missing: Stop,
-    told: Result<Option<String<A>>, SearchFault>,
-) -> Result<String<A>, Stop>
-    ensures told { IfOk result (λ text. told ≡ Ok (Some text)) }
-    ensures refused { IfErr result (λ why. IsSearchStop why ⊎ ((why ≡ missing) × (told ≡ Ok None))) }
-    ensures stops { IfErr told (λ fault. result ≡ Err (search_stop fault)) }
-{
-    match told {
-        Ok(Some(text)) => Ok(text),
-        Ok(None) => Err(missing),
-        Err(fault) => Err(stop_of(fault)),
-    }
-}
-
-// Why the explorer ends where a search gives no answer.
-fn stop_of(fault: SearchFault) -> Stop
-    ensures exact { result ≡ search_stop fault }
-    ensures stops { IsSearchStop result }
-{
-    match fault {
-        SearchFault::NoMemory => Stop::Fault(Fault::NoMemory),
-        SearchFault::TooManyStates => Stop::TooManyStates,
-        SearchFault::EndlessCall | SearchFault::NotShown => Stop::NotShown,
     }
 }

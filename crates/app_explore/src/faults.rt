@@ -1,10 +1,12 @@
 //! Why the explorer ended before its work was done.
 ghost use Rattle.std.specs.Prelude.{◌≡◌, Some};
-ghost use Rattle.app_explore.specs.Stops.{stop_text, stop_status};
+ghost use Rattle.app_explore.specs.declared.faults.Stop.TheVariants as stop;
+ghost use Rattle.app_explore.specs.Stops.{read_stop, search_stop, stop_text, stop_status};
 
-use crate::read_faults::LineFault;
+use crate::read_faults::{LineFault, ReadFault};
 use crate::usage::UsageFault;
 use app_text::faults::Fault;
+use machine_explore::search::faults::SearchFault;
 use std::fmt;
 
 /// Why the explorer ended before its work was done.
@@ -35,6 +37,45 @@ impl Stop {
             Stop::Fault(fault) => fault.status(),
             Stop::Usage(_) | Stop::Line(_, _) | Stop::NoOutcome(_) | Stop::NoWait(_) => 2,
             Stop::TooManyStates | Stop::NotShown => 3,
+        }
+    }
+}
+
+impl From<UsageFault> for Stop {
+    ghost from_gives = { λ why s. s ≡ stop.Usage why };
+
+    fn from(why: UsageFault) -> Stop {
+        Stop::Usage(why)
+    }
+}
+
+impl From<Fault> for Stop {
+    ghost from_gives = { λ fault s. s ≡ stop.Fault fault };
+
+    fn from(fault: Fault) -> Stop {
+        Stop::Fault(fault)
+    }
+}
+
+impl From<ReadFault> for Stop {
+    ghost from_gives = { λ why s. s ≡ read_stop why };
+
+    fn from(why: ReadFault) -> Stop {
+        match why {
+            ReadFault::Unreadable(number, why) => Stop::Line(number, why),
+            ReadFault::NoMemory => Stop::Fault(Fault::NoMemory),
+        }
+    }
+}
+
+impl From<SearchFault> for Stop {
+    ghost from_gives = { λ fault s. s ≡ search_stop fault };
+
+    fn from(fault: SearchFault) -> Stop {
+        match fault {
+            SearchFault::NoMemory => Stop::Fault(Fault::NoMemory),
+            SearchFault::TooManyStates => Stop::TooManyStates,
+            SearchFault::EndlessCall | SearchFault::NotShown => Stop::NotShown,
         }
     }
 }

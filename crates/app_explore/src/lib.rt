@@ -7,6 +7,7 @@ pub mod command;
 pub mod faults;
 pub mod lanes;
 pub mod limits;
+pub mod listed;
 pub mod listing;
 pub mod outcomes;
 pub mod program;

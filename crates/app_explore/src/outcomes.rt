@@ -1,11 +1,15 @@
 //! How outcomes are printed.
-ghost use Rattle.std.specs.Prelude.{◌≡◌, ◌++◌, IfOk, OnOk, map, string_bytes, true};
-ghost use Rattle.app_explore.specs.Outcomes.{AreInOrder, lead_text, outcome_line, outcome_text, replies_text, text_of};
+ghost use Rattle.std.specs.Prelude.{◌≡◌, ◌++◌, OnOk, string_bytes};
+ghost use Rattle.app_explore.specs.Outcomes.{lead_text, outcome_line, outcome_text, replies_text, text_of};
+ghost use Rattle.app_explore.specs.Tails.{figure_tail, tail_line};
 
+use crate::listed::Told;
+use crate::tails::write_tail;
 use app_text::items::write_items;
 use app_text::replies::ReplyText;
-use machine_explore::outcome::Outcome;
+use machine_explore::search::figures::Figure;
 use machine_explore::sequence::Sequence;
+use machine_explore::shown::ShownOutcome;
 use queue_steps::model::Reply;
 use std::alloc::{AllocError, Allocator};
 
@@ -26,59 +30,26 @@ pub fn write_outcome<A: Allocator, B: Allocator>(
     write_items(left, text)
 }
 
-/// That text.
-///
-/// # Errors
-///
-/// Where there is no memory.
-pub fn text_of<A: Allocator>(alloc: A, outcome: &Outcome<A>) -> Result<String<A>, AllocError>
-    ensures { IfOk result (λ text. string_bytes text ≡ text_of outcome.now) }
-{
-    let mut text = String::new(alloc);
-    write_outcome(outcome.replies(), outcome.left(), &mut text)?;
-    Ok(text)
-}
+impl<A: Allocator> Told for ShownOutcome<A> {
+    ghost text_of = { λ shown. text_of shown.outcome };
 
-/// The text of each outcome.
-///
-/// # Errors
-///
-/// Where there is no memory.
-pub fn texts_of<A: Allocator + Copy>(
-    alloc: A,
-    outcomes: &[Outcome<A>],
-) -> Result<Vec<String<A>, A>, AllocError>
-    ensures { IfOk result (λ texts. map string_bytes texts.items ≡ map text_of outcomes.now) }
-{
-    let mut texts = Vec::new(alloc);
-    for outcome in outcomes {
-        texts.push(text_of(alloc, outcome)?)?;
+    fn write_to<B: Allocator>(&self, text: &mut String<B>) -> Result<(), AllocError> {
+        write_outcome(self.outcome.replies(), self.outcome.left(), text)
     }
-    Ok(texts)
 }
 
-/// Whether each text is below the next one, byte for byte.
-pub fn are_in_order<A: Allocator>(texts: &[String<A>]) -> bool
-    ensures { result ≡ true → AreInOrder (map string_bytes texts.now) }
-{
-    for index in 1..texts.len() {
-        if texts[index - 1].as_str() >= texts[index].as_str() {
-            return false;
-        }
-    }
-    true
-}
-
-/// Appends the line of an outcome: its number, counted from 1, its text, and what else is told of it.
-pub fn write_outcome_line<B: Allocator>(
+/// Appends the line of an outcome: its number, counted from 1, its text, and what was counted of it.
+pub fn write_outcome_line<A: Allocator, B: Allocator>(
     number: u64,
     outcome: &str,
-    tail: &str,
+    figure: &Figure<A>,
     text: &mut String<B>,
 ) -> Result<(), AllocError>
-    ensures { OnOk result (string_bytes text.new ≡ string_bytes text.old ++ outcome_line number outcome.now tail.now) }
+    ensures { OnOk result (string_bytes text.new ≡ string_bytes text.old ++ outcome_line number outcome.now (tail_line (figure_tail figure.now))) }
 {
-    writeln!(text, "outcome {number} | {outcome}{tail}")
+    write!(text, "outcome {number} | {outcome}")?;
+    write_tail(figure, text)?;
+    text.push_str("\n")
 }
 
 // Appends the replies of a party, each behind a space, with a semicolon between each two.

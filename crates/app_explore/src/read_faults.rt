@@ -1,7 +1,9 @@
 //! Why the lines of a program cannot be read.
 ghost use Rattle.std.specs.Prelude.{◌≡◌, Some};
+ghost use Rattle.app_explore.specs.declared.read_faults.ReadFault.TheVariants as read;
 ghost use Rattle.app_explore.specs.Faults.{line_fault_text};
 
+use std::alloc::{AllocError, AllocFailed};
 use std::fmt;
 
 /// Why a line is none that a program may go on with.
@@ -39,4 +41,20 @@ pub enum ReadFault {
     Unreadable(usize, LineFault),
     /// Memory was wanted and refused.
     NoMemory,
+}
+
+impl From<AllocError> for ReadFault {
+    ghost from_gives = { λ _ why. why ≡ read.NoMemory };
+
+    fn from(_error: AllocError) -> ReadFault {
+        ReadFault::NoMemory
+    }
+}
+
+impl<X: Drop> From<AllocFailed<X>> for ReadFault {
+    ghost from_gives = { λ _ why. why ≡ read.NoMemory };
+
+    fn from(_failed: AllocFailed<X>) -> ReadFault {
+        ReadFault::NoMemory
+    }
 }

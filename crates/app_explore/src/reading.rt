@@ -28,10 +28,7 @@ pub fn read_program<A: Allocator + Copy>(alloc: A, text: &[u8]) -> Result<Progra
     let Some((spelled, rest)) = line_before(text) else {
         return read_parties(alloc, Sequence::of(Vec::new(alloc)), text);
     };
-    let Ok(found) = read_calls(alloc, MOST_CALLS_BEFORE, spelled) else {
-        return Err(ReadFault::NoMemory);
-    };
-    match found {
+    match read_calls(alloc, MOST_CALLS_BEFORE, spelled)? {
         Ok(before) => read_parties(alloc, before, rest),
         Err(why) => Err(ReadFault::Unreadable(1, why)),
     }
@@ -64,16 +61,11 @@ fn read_parties<A: Allocator + Copy>(
     let mut parties = Vec::new(alloc);
     let mut rest = text;
     while let Some((line, after)) = next_line(rest) {
-        let Ok(found) = read_party(alloc, parties.len(), line) else {
-            return Err(ReadFault::NoMemory);
-        };
-        let calls = match found {
+        let calls = match read_party(alloc, parties.len(), line)? {
             Ok(calls) => calls,
             Err(why) => return Err(ReadFault::Unreadable(taken + parties.len() + 1, why)),
         };
-        if parties.push(calls).is_err() {
-            return Err(ReadFault::NoMemory);
-        }
+        parties.push(calls)?;
         rest = after;
     }
     if parties.is_empty() {

@@ -1,23 +1,22 @@
 //! What is told of an outcome behind its text, and of all outcomes.
 ghost use Rattle.std.specs.Prelude.{◌≡◌, ◌++◌, OnOk, flat_map, string_bytes};
-ghost use Rattle.app_explore.specs.Tails.{count_text, items_in, last_text, order_text, others_text, outcomes_text, schedule_word, schedules_text, tail_text, with_space};
+ghost use Rattle.app_explore.specs.Tails.{count_text, figure_tail, items_in, last_text, order_text, others_text, outcomes_text, schedule_word, schedules_text, tail_line, with_space};
 
 use machine_explore::search::counts::ScheduleCount;
+use machine_explore::search::figures::Figure;
 use std::alloc::{AllocError, Allocator};
 
 /// Appends what is told of an outcome behind its text: how many schedules lead to it, its fewest steps, and an order of whole calls, if there is one.
-pub(crate) fn write_tail<A: Allocator>(
-    schedules: ScheduleCount,
-    steps: usize,
-    order: &Option<Vec<usize, A>>,
-    text: &mut String<A>,
+pub(crate) fn write_tail<A: Allocator, B: Allocator>(
+    figure: &Figure<A>,
+    text: &mut String<B>,
 ) -> Result<(), AllocError>
-    ensures { OnOk result (string_bytes text.new ≡ string_bytes text.old ++ tail_text schedules steps (items_in order.now)) }
+    ensures { OnOk result (string_bytes text.new ≡ string_bytes text.old ++ tail_line (figure_tail figure.now)) }
 {
     text.push_str(" | schedules ")?;
-    write_count(schedules, text)?;
-    write!(text, " | steps {steps} | order")?;
-    write_order(order, text)
+    write_count(figure.schedules, text)?;
+    write!(text, " | steps {} | order", figure.steps)?;
+    write_order(&figure.order, text)
 }
 
 /// What is told of all outcomes.
@@ -114,9 +113,9 @@ fn write_count<A: Allocator>(count: ScheduleCount, text: &mut String<A>) -> Resu
 }
 
 // Appends an order of parties, or that there is none.
-fn write_order<A: Allocator>(
+fn write_order<A: Allocator, B: Allocator>(
     order: &Option<Vec<usize, A>>,
-    text: &mut String<A>,
+    text: &mut String<B>,
 ) -> Result<(), AllocError>
     ensures { OnOk result (string_bytes text.new ≡ string_bytes text.old ++ order_text (items_in order.now)) }
 {

@@ -1,8 +1,10 @@
 //! How it is printed who waits for whom.
-ghost use Rattle.std.specs.Prelude.{◌≡◌, ◌++◌, map, IfOk, OnOk, string_bytes};
+ghost use Rattle.std.specs.Prelude.{◌≡◌, ◌++◌, map, OnOk, string_bytes};
 ghost use Rattle.machine_explore.specs.Waiting.{wait_of};
+ghost use Rattle.app_explore.specs.Listed.{listed_wait};
 ghost use Rattle.app_explore.specs.WaitLines.{party_call_text, side_text, sides_text, wait_line, wait_text, waits_text};
 
+use crate::listed::{Listed, Told};
 use app_text::calls::ShownCall;
 use machine_explore::waiting::{Side, Wait};
 use machine_memory::places::label;
@@ -11,13 +13,13 @@ use std::alloc::{AllocError, Allocator};
 
 /// Appends a line for each, with its number from 1, and a line that tells how many there are.
 pub fn write_waits<A: Allocator, B: Allocator>(
-    waits: &[Wait<B>],
+    waits: &[Listed<Wait<B>, B>],
     text: &mut String<A>,
 ) -> Result<(), AllocError>
-    ensures { OnOk result (string_bytes text.new ≡ string_bytes text.old ++ waits_text (map wait_of waits.now)) }
+    ensures { OnOk result (string_bytes text.new ≡ string_bytes text.old ++ waits_text (map listed_wait waits.now)) }
 {
     for (index, wait) in waits.iter().enumerate() {
-        write_wait(index as u64 + 1, wait.waiter, wait.other, text)?;
+        write_wait(index as u64 + 1, wait.item.waiter, wait.item.other, text)?;
     }
     let count = waits.len();
     writeln!(text, "{count} in all")
@@ -50,31 +52,12 @@ pub fn write_sides<A: Allocator>(
     write_side(other, text)
 }
 
-/// The text of each wait.
-///
-/// # Errors
-///
-/// Where there is no memory.
-pub fn texts_of<A: Allocator + Copy>(
-    alloc: A,
-    waits: &[Wait<A>],
-) -> Result<Vec<String<A>, A>, AllocError>
-    ensures { IfOk result (λ texts. map string_bytes texts.items ≡ map wait_text (map wait_of waits.now)) }
-{
-    let mut texts = Vec::new(alloc);
-    for wait in waits {
-        texts.push(text_of(alloc, wait)?)?;
-    }
-    Ok(texts)
-}
+impl<A: Allocator> Told for Wait<A> {
+    ghost text_of = { λ wait. wait_text (wait_of wait) };
 
-// The text of a wait.
-fn text_of<A: Allocator>(alloc: A, wait: &Wait<A>) -> Result<String<A>, AllocError>
-    ensures { IfOk result (λ text. string_bytes text ≡ wait_text (wait_of wait.now)) }
-{
-    let mut text = String::new(alloc);
-    write_sides(wait.waiter, wait.other, &mut text)?;
-    Ok(text)
+    fn write_to<B: Allocator>(&self, text: &mut String<B>) -> Result<(), AllocError> {
+        write_sides(self.waiter, self.other, text)
+    }
 }
 
 // Appends a party, its call, and the label of its step.

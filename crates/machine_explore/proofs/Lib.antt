@@ -8,7 +8,6 @@ pub mod Showing
 pub mod Starting
 pub mod Runs
 pub mod Staying
-pub mod Pairs
 pub mod Listing
 pub mod Resting
 pub mod Waits

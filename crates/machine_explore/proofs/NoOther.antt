@@ -70,3 +70,9 @@ no_other k refuses before calls table outcomes c ends first rest run =
 pub answered : {E : Type 0} (P Q : Type 0) (r : Result Bool E) → (P → Q) → IfOk r (λ yes. yes ≡ true → P) → IfOk r (λ yes. yes ≡ true → Q)
 answered P Q (Ok b) f h = λ is. f (h is)
 answered P Q (Err e) f h = tt
+
+-- what is made of an item of a list is among what is made of all
+pub contains_as : {X Y : Type 0} (f : X → Y) (xs : List X) (i : ℕ) (x : X) (y : Y) → i < length xs → x ≡ slice_index_or xs i x → y ≡ f x → Contains (map f xs) y
+contains_as f xs i x y inside is same =
+    let count = length-map xs f in
+    (i, omega (arith, inside, count), get_or-map f xs i x y inside ∙ ap f (sym is) ∙ sym same)

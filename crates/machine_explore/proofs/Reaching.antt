@@ -176,9 +176,6 @@ module _ {S R T : Type 0} (step : Bool → S → R → StepOutcome S R T) (start
           ∙ ap (λ (g : Progress T). g.begun + length (begun_by q es rest)) (progress-other step start s e q other)
           ∙ ap (λ l. (progress_of s q).begun + length l) (sym (begun-other e t es rest q unequal))
 
-      ts : List (Told T)
-      ts = told_by step start (world_event step start s.world true e).0 es
-
       Goal : ℕ → Type 0
       Goal z = (progress_of end z).replies ≡ (progress_of s z).replies ++ replies_by z (e ∷ es) ((world_event step start s.world true e).1 ∷ told_by step start (world_event step start s.world true e).0 es)
 

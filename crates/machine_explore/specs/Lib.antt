@@ -8,3 +8,4 @@ pub mod Traces
 pub mod Listed
 pub mod Waiting
 pub mod WaitTables
+pub mod Reports

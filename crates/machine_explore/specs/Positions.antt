@@ -1,5 +1,5 @@
 -- Where a run of a program stands, and the outcome that it ends with.
-use Rattle.std.specs.Prelude.{◌≡◌, ℕ, ◌<◌, List, [], length, map, replicate, slice_index_or}
+use Rattle.std.specs.Prelude.{◌≡◌, ℕ, ◌<◌, List, [], length, map, slice_index_or}
 use Rattle.queue_steps.specs.declared.{model.Call.Call, model.Reply.Reply, steps.types.Kind.Kind}
 use Rattle.machine_memory.specs.{declared.calls.Running.Running, SharedMemory.MemoryState}
 use Rattle.machine_steps.specs.{World.World, Left.left_of}
@@ -30,10 +30,6 @@ progress_of s p = slice_index_or s.parties p no_progress
 -- the calls that the party is to make
 abbrev pub calls_of : {T : Type 0} → List (List (Call T)) → ℕ → List (Call T)
 calls_of calls p = slice_index_or calls p []
-
--- where a run of so many parties stands before their first event
-abbrev pub standing_first : {S R T : Type 0} → Kind → ℕ → World S R → Configuration S R T
-standing_first k parties w = record { kind = k; world = w; parties = replicate parties no_progress }
 
 -- each party has a reply to each of its calls
 abbrev pub IsFinal : {S R T : Type 0} → List (List (Call T)) → Configuration S R T → Type 0

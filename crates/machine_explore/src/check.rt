@@ -1,16 +1,18 @@
 //! The check that a table of positions has where every run of a program comes, and a list of outcomes what each ends with.
-ghost use Rattle.std.specs.Prelude.{◌≡◌, ◌<◌, true, Contains, IfOk, length};
+ghost use Rattle.std.specs.Prelude.{◌≡◌, ◌<◌, true, Contains, IfOk, length, map};
 ghost use Rattle.std.specs.List.{All};
 ghost use Rattle.machine_replay.specs.Replays.{CanReplay};
 ghost use Rattle.machine_explore.specs.Explored.{HasNoOther};
 ghost use Rattle.machine_explore.specs.Moves.{led};
 ghost use Rattle.machine_explore.specs.Positions.{Standing};
+ghost use Rattle.machine_explore.specs.Reports.{outcome_in};
 ghost use Rattle.machine_explore.specs.Starts.{IsStart};
 ghost use Rattle.machine_explore.specs.Tables.{EndsAmong, IsClosed, Stays, StaysForAll, StaysOnce};
 
-use crate::outcome::{Outcome, is_among};
+use crate::outcome::Outcome;
 use crate::position::Position;
 use crate::program::Program;
+use crate::shown::ShownOutcome;
 use queue_steps::steps::Kind;
 use std::alloc::{AllocError, Allocator};
 
@@ -45,10 +47,10 @@ pub fn check<A: Allocator + Copy>(
     refuses: bool,
     program: &Program<A>,
     table: &Table<A>,
-    outcomes: &[Outcome<A>],
+    outcomes: &[ShownOutcome<A>],
 ) -> Result<bool, AllocError>
     requires { CanReplay kind }
-    ensures { IfOk result (λ yes. yes ≡ true → HasNoOther kind refuses program.now.before program.now.parties.items outcomes.now) }
+    ensures { IfOk result (λ yes. yes ≡ true → HasNoOther kind refuses program.now.before program.now.parties.items (map outcome_in outcomes.now)) }
 {
     if !is_closed(alloc, kind, refuses, program, table)? {
         return Ok(false);
@@ -221,9 +223,9 @@ fn all_end_among<A: Allocator + Copy>(
     alloc: A,
     program: &Program<A>,
     positions: &[Position<A>],
-    outcomes: &[Outcome<A>],
+    outcomes: &[ShownOutcome<A>],
 ) -> Result<bool, AllocError>
-    ensures { IfOk result (λ yes. yes ≡ true → All (EndsAmong program.now.parties.items outcomes.now) positions.now) }
+    ensures { IfOk result (λ yes. yes ≡ true → All (EndsAmong program.now.parties.items (map outcome_in outcomes.now)) positions.now) }
 {
     for position in positions {
         if !ends_among(alloc, program, position, outcomes)? {
@@ -238,12 +240,24 @@ fn ends_among<A: Allocator + Copy>(
     alloc: A,
     program: &Program<A>,
     position: &Position<A>,
-    outcomes: &[Outcome<A>],
+    outcomes: &[ShownOutcome<A>],
 ) -> Result<bool, AllocError>
-    ensures { IfOk result (λ yes. yes ≡ true → EndsAmong program.now.parties.items outcomes.now position.now) }
+    ensures { IfOk result (λ yes. yes ≡ true → EndsAmong program.now.parties.items (map outcome_in outcomes.now) position.now) }
 {
     if !position.is_final(program) {
         return Ok(true);
     }
     Ok(is_among(&position.outcome(alloc)?, outcomes))
+}
+
+// Whether the outcome is one of these.
+fn is_among<A: Allocator>(outcome: &Outcome<A>, outcomes: &[ShownOutcome<A>]) -> bool
+    ensures { result ≡ true → Contains (map outcome_in outcomes.now) outcome.now }
+{
+    for other in outcomes {
+        if outcome.is_same(&other.outcome) {
+            return true;
+        }
+    }
+    false
 }

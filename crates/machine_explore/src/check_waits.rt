@@ -173,8 +173,8 @@ fn is_between<A: Allocator>(wait: &Wait<A>, waiter: Side, other: Side) -> bool
     is_told_alike(wait.waiter, waiter) && is_told_alike(wait.other, other)
 }
 
-// Whether the two are told alike: the party, its call, and the label of its step.
-fn is_told_alike(side: Side, other: Side) -> bool
+/// Whether the two are told alike: the party, its call, and the label of its step.
+pub(crate) fn is_told_alike(side: Side, other: Side) -> bool
     ensures { result ≡ true → side_key side ≡ side_key other }
 {
     side.party == other.party && side.call == other.call && label(side.local) == label(other.local)

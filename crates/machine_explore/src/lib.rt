@@ -4,14 +4,16 @@
 pub mod certify;
 pub mod check;
 pub mod check_waits;
+pub mod explore;
 pub mod laws;
 pub mod outcome;
 pub mod position;
+pub mod problem;
 pub mod program;
 pub mod progress;
 pub mod schedule;
 pub mod search;
 pub mod sequence;
-pub mod show;
+pub mod shown;
 pub mod trace;
 pub mod waiting;

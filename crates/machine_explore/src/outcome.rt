@@ -1,5 +1,5 @@
 //! What a run of a program ends with.
-ghost use Rattle.std.specs.Prelude.{◌≡◌, ℕ, true, Contains};
+ghost use Rattle.std.specs.Prelude.{◌≡◌, ℕ, true};
 ghost use Rattle.machine_explore.specs.Positions.{Outcome as Ends};
 
 use crate::progress::are_same;
@@ -60,16 +60,4 @@ fn have_same_replies<A: Allocator>(
         }
     }
     true
-}
-
-/// Whether the outcome is one of these.
-pub fn is_among<A: Allocator>(outcome: &Outcome<A>, outcomes: &[Outcome<A>]) -> bool
-    ensures { result ≡ true → Contains outcomes.now outcome.now }
-{
-    for other in outcomes {
-        if outcome.is_same(other) {
-            return true;
-        }
-    }
-    false
 }

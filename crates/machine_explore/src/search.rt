@@ -1,17 +1,17 @@
-//! What is found of a small program over one queue: by a walk over its positions its outcomes and their schedules, which `show` shows to be right, and numbers of them, which nothing shows.
+//! What is found of a small program over one queue: by a walk over its positions its outcomes and their schedules, which `explore` shows to be right, and numbers of them, which nothing shows.
 
 pub mod counts;
 mod edges;
-pub mod explore;
 pub mod faults;
 pub mod figures;
 pub mod find;
+pub mod findings;
 mod lone;
 mod numbers;
 mod orders;
 pub mod outcomes;
 mod paths;
 mod places;
-pub mod rounds;
+pub(crate) mod rounds;
 mod visited;
 mod waits;

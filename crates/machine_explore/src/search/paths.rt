@@ -123,23 +123,8 @@ impl<A: Allocator + Copy> Paths<A> {
         }
     }
 
-    /// A shortest schedule to each of these outcomes. Each call begins just before its first step.
-    pub(crate) fn schedules(
-        &self,
-        alloc: A,
-        graph: &Graph<A>,
-        finals: &FinalPositions<A>,
-        outcomes: &[usize],
-    ) -> Result<Vec<Sequence<Move, A>, A>, AllocError> {
-        let mut schedules = Vec::new(alloc);
-        for outcome in outcomes {
-            schedules.push(self.schedule(alloc, graph, finals, *outcome)?)?;
-        }
-        Ok(schedules)
-    }
-
-    // A shortest schedule to this outcome.
-    fn schedule(
+    /// A shortest schedule to the outcome of this number. Each call begins just before its first step.
+    pub(crate) fn schedule(
         &self,
         alloc: A,
         graph: &Graph<A>,

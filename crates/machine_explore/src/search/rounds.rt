@@ -1,80 +1,101 @@
-//! Where a party goes round for another. Nothing rests on it: `show_wait` shows it to be right.
+//! Where a party goes round for another. Nothing rests on it: `explore_waits` shows it to be right.
 use crate::check::Table;
-use crate::check_waits::is_half_done_at;
+use crate::check_waits::{is_half_done_at, is_told_alike};
+use crate::program::Program;
 use crate::schedule::Move;
 use crate::search::edges::Graph;
 use crate::search::faults::SearchFault;
 use crate::search::paths::Paths;
 use crate::sequence::Sequence;
-use crate::waiting::is_first;
+use crate::waiting::{Side, is_first, side_of};
 use queue_steps::sizes::SOLO_STEPS;
 use std::alloc::{AllocError, Allocator};
 
-/// A position at which one party waits for another.
+// A position at which one party waits for another.
 #[derive(Clone, Copy)]
-pub struct Round {
-    /// The position's place.
-    pub place: usize,
-    /// Who goes round.
-    pub waiter: usize,
-    /// Who is half done.
-    pub other: usize,
+struct Round {
+    // The position's place.
+    place: usize,
+    // Who goes round.
+    waiter: Side,
+    // Who is half done.
+    other: Side,
 }
 
-/// Where parties go round, in the order of the table: each time one other party alone is half done, and the next step leads back.
+/// A schedule at whose end one party waits for another, as it was found.
+#[derive(Drop)]
+pub(crate) struct Approach<A: Allocator> {
+    /// Who goes round.
+    pub(crate) waiter: usize,
+    /// Who is half done.
+    pub(crate) other: usize,
+    /// The moves that lead there, behind the calls that come first.
+    pub(crate) schedule: Sequence<Move, A>,
+}
+
+/// For each wait, as its parties, their calls and the labels of their steps tell it, a shortest schedule to the first position of the table that has it.
 ///
 /// # Errors
 ///
 /// `NoMemory`.
-pub fn rounds_of<A: Allocator + Copy>(
+pub(crate) fn approaches<A: Allocator + Copy>(
     alloc: A,
-    parties: usize,
+    program: &Program<A>,
     table: &Table<A>,
-) -> Result<Vec<Round, A>, SearchFault> {
+) -> Result<Vec<Approach<A>, A>, SearchFault> {
+    let parties = program.parties.len();
     let graph = Graph { table, parties };
+    let rounds = rounds_of(alloc, program, &graph)?;
+    let paths = Paths::new(alloc, &graph)?;
+    Ok(approaches_by(alloc, &graph, &paths, &rounds)?)
+}
+
+// Where parties go round, in the order of the table. Of those that are told alike the first alone.
+fn rounds_of<A: Allocator + Copy>(
+    alloc: A,
+    program: &Program<A>,
+    graph: &Graph<A>,
+) -> Result<Vec<Round, A>, AllocError> {
     let mut rounds = Vec::new(alloc);
     for place in 0..graph.len() {
-        for waiter in 0..parties {
-            if !goes_back(&graph, place, waiter) {
-                continue;
-            }
-            if let Some(other) = half_done_beside(&graph, place, waiter) {
-                rounds.push(Round {
-                    place,
-                    waiter,
-                    other,
-                })?;
+        for waiter in 0..graph.parties {
+            if let Some(round) = round_at(program, graph, place, waiter) {
+                if !is_known(&round, &rounds) {
+                    rounds.push(round)?;
+                }
             }
         }
     }
     Ok(rounds)
 }
 
-/// A schedule at whose end one party waits for another, as it was found.
-#[derive(Drop)]
-pub struct Approach<A: Allocator> {
-    /// Who goes round.
-    pub waiter: usize,
-    /// Who is half done.
-    pub other: usize,
-    /// The moves that lead there, behind the calls that come first.
-    pub schedule: Sequence<Move, A>,
+// Where the party goes round at the position at this place: one other party alone is half done, and the next step leads back.
+fn round_at<A: Allocator + Copy>(
+    program: &Program<A>,
+    graph: &Graph<A>,
+    place: usize,
+    waiter: usize,
+) -> Option<Round> {
+    if !goes_back(graph, place, waiter) {
+        return None;
+    }
+    let other = half_done_beside(graph, place, waiter)?;
+    let position = graph.table.positions.get(place)?;
+    Some(Round {
+        place,
+        waiter: side_of(program, position, waiter),
+        other: side_of(program, position, other),
+    })
 }
 
-/// A shortest schedule to the position of each of these.
-///
-/// # Errors
-///
-/// `NoMemory`.
-pub fn approaches<A: Allocator + Copy>(
-    alloc: A,
-    parties: usize,
-    table: &Table<A>,
-    rounds: &[Round],
-) -> Result<Vec<Approach<A>, A>, SearchFault> {
-    let graph = Graph { table, parties };
-    let paths = Paths::new(alloc, &graph)?;
-    Ok(approaches_by(alloc, &graph, &paths, rounds)?)
+// Whether one of the rounds is told alike.
+fn is_known(round: &Round, rounds: &[Round]) -> bool {
+    for known in rounds {
+        if is_told_alike(known.waiter, round.waiter) && is_told_alike(known.other, round.other) {
+            return true;
+        }
+    }
+    false
 }
 
 // A schedule by these paths to the position of each.
@@ -95,8 +116,8 @@ fn approaches_by<A: Allocator + Copy>(
 // The schedule that has these moves, at whose end the one waits for the other.
 fn approach_of<A: Allocator>(round: Round, moves: Vec<Move, A>) -> Approach<A> {
     Approach {
-        waiter: round.waiter,
-        other: round.other,
+        waiter: round.waiter.party,
+        other: round.other.party,
         schedule: Sequence::of(moves),
     }
 }

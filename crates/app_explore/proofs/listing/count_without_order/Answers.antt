@@ -1,11 +1,12 @@
 use Rattle.std.proofs.Common.{arith}
+use Rattle.app_explore.specs.Listed.{listed_tail}
 use Rattle.app_explore.proofs.Tallies.{counted_more}
 use Rattle.app_explore.proofs.listing.count_without_order.Goals as goal
 
-pub loop-figure-preserved : goal.loop-figure-preserved
-loop-figure-preserved g c =
-    let more = counted_more c.args.figures.now c.loop-figure.figure-index c.figure-item.result c.loop-figure-test.true c.figure-item.is in
+pub loop-outcome-preserved : goal.loop-outcome-preserved
+loop-outcome-preserved g c =
+    let more = counted_more listed_tail c.args.outcomes.now c.loop-outcome.outcome-index c.outcome-item.result c.loop-outcome-test.true c.outcome-item.is in
     record {
-      counted = omega (arith, more, c.loop-figure.invariant.counted, c.unordered-count.ensures.counted);
-      few = omega (arith, c.loop-figure.invariant.few, c.unordered-count.ensures.few);
+      counted = omega (arith, more, c.loop-outcome.invariant.counted, c.unordered-count.ensures.counted);
+      few = omega (arith, c.loop-outcome.invariant.few, c.unordered-count.ensures.few);
     }

@@ -1,9 +1,0 @@
-use Rattle.std.proofs.Common.{map}
-use Rattle.std.specs.List.{All}
-use Rattle.machine_explore.specs.Waiting.{wait_of}
-use Rattle.app_explore.specs.Waits.{IsShownWait}
-use Rattle.app_explore.proofs.waits.show_each.Given as goal
-
--- those so far are shown
-abbrev pub invariant-loop-found : goal.invariant-loop-found
-invariant-loop-found g l = All (IsShownWait l.fn.problem.kind l.fn.problem.refuses l.fn.problem.program.before l.fn.problem.program.parties.items) (map wait_of l.waits.items)
