@@ -4,12 +4,17 @@ ghost use Rattle.machine_replay.specs.Replays.{CanReplay};
 use crate::asserts::is_in;
 use crate::comes::Comes;
 use app_explore::limits::MOST_STATES;
-use app_explore::listing::{Findings, Problem, find_all, list_found};
+use app_explore::listed::{Listed, sorted_by_text};
 use app_explore::reading::read_program;
 use machine_explore::check::check;
+use machine_explore::explore::{explore, show};
+use machine_explore::problem::Problem;
 use machine_explore::schedule::Move;
 use machine_explore::search::faults::SearchFault;
+use machine_explore::search::figures::Figure;
+use machine_explore::search::findings::{Findings, FoundOutcome, search};
 use machine_explore::sequence::Sequence;
+use machine_explore::shown::ShownOutcome;
 use queue_steps::steps::Kind;
 use std::alloc::Global;
 use std::process::Abort;
@@ -29,7 +34,7 @@ enum Change {
     StateLost,
     /// The states are in the opposite order.
     StartMoved,
-    /// The last outcome is missing.
+    /// The last outcome that was shown is missing.
     OutcomeLost,
     /// The last schedule is missing.
     ScheduleLost,
@@ -43,8 +48,6 @@ enum Change {
     PartyUnknown,
     /// The first schedule ends with a step that is refused.
     MoveRefused,
-    /// The last outcome has no number.
-    NumberLost,
 }
 
 /// The moves of one of the schedules.
@@ -54,8 +57,8 @@ fn moves_of(
     findings: &Findings<Global>,
     number: usize,
 ) -> Vec<Move> {
-    match findings.schedules.get(number) {
-        Some(schedule) => Vec::from_slice(alloc, schedule.as_slice()).expect(rt, "memory"),
+    match findings.outcomes.get(number) {
+        Some(found) => Vec::from_slice(alloc, found.schedule.as_slice()).expect(rt, "memory"),
         None => Vec::new(alloc),
     }
 }
@@ -72,14 +75,21 @@ fn change_move(
     if let Some(step) = last {
         moves.push(step).expect(rt, "memory");
     }
-    if let Some(schedule) = findings.schedules.get_mut(0) {
-        *schedule = Sequence::of(moves);
+    if let Some(found) = findings.outcomes.get_mut(0) {
+        found.schedule = Sequence::of(moves);
     }
 }
 
 /// Puts a schedule behind the others.
 fn add_schedule(rt: &impl Abort, findings: &mut Findings<Global>, moves: Vec<Move>) {
-    let added = findings.schedules.push(Sequence::of(moves));
+    let added = findings.outcomes.push(FoundOutcome {
+        schedule: Sequence::of(moves),
+        figure: Figure {
+            schedules: Some(1),
+            steps: 1,
+            order: None,
+        },
+    });
     added.ok().expect(rt, "memory");
 }
 
@@ -91,26 +101,24 @@ fn lose<T: Drop>(list: &mut Vec<T>) {
 /// Changes what was found.
 fn make_change(rt: &impl Abort, alloc: Global, findings: &mut Findings<Global>, change: &Change) {
     match change {
-        Change::Nothing => {}
-        Change::EdgeLost => lose(&mut findings.found.table.edges),
+        Change::Nothing | Change::OutcomeLost => {}
+        Change::EdgeLost => lose(&mut findings.table.edges),
         Change::LinkBent => {
-            if let Some(edge) = findings.found.table.edges.get_mut(0) {
+            if let Some(edge) = findings.table.edges.get_mut(0) {
                 edge.granted = 0;
             }
         }
-        Change::StateLost => lose(&mut findings.found.table.positions),
-        Change::StartMoved => findings.found.table.positions.reverse(),
-        Change::OutcomeLost => lose(&mut findings.found.finals.outcomes),
-        Change::ScheduleLost => lose(&mut findings.schedules),
+        Change::StateLost => lose(&mut findings.table.positions),
+        Change::StartMoved => findings.table.positions.reverse(),
+        Change::ScheduleLost => lose(&mut findings.outcomes),
         Change::ScheduleTwice => {
             let moves = moves_of(rt, alloc, findings, 1);
             add_schedule(rt, findings, moves);
         }
-        Change::SchedulesTurned => findings.schedules.reverse(),
+        Change::SchedulesTurned => findings.outcomes.reverse(),
         Change::MoveLost => change_move(rt, alloc, findings, None),
         Change::PartyUnknown => change_move(rt, alloc, findings, Some(UNKNOWN)),
         Change::MoveRefused => change_move(rt, alloc, findings, Some(REFUSED)),
-        Change::NumberLost => lose(&mut findings.order),
     }
 }
 
@@ -140,53 +148,63 @@ fn problem(rt: &impl Abort, alloc: Global) -> Problem<Global>
     }
 }
 
-/// Whether the table shows that there is no outcome but those that were found.
+/// Whether the table shows that there is no outcome but those of the program, of which one may be missing.
 fn is_checked(
     rt: &impl Abort,
     alloc: Global,
     problem: &Problem<Global>,
     findings: &Findings<Global>,
+    change: &Change,
 ) -> bool
     requires { CanReplay problem.now.kind }
 {
-    let (table, outcomes) = (&findings.found.table, &findings.found.finals.outcomes);
+    let Ok(mut report) = explore(alloc, problem) else {
+        return false;
+    };
+    if let Change::OutcomeLost = change {
+        lose(&mut report.outcomes);
+    }
     let checked = check(
         alloc,
         problem.kind,
         problem.refuses,
         &problem.program,
-        table,
-        outcomes,
+        &findings.table,
+        &report.outcomes,
     );
     checked.expect(rt, "memory")
 }
 
-/// What comes of the list.
-fn listed(alloc: Global, problem: &Problem<Global>, findings: &Findings<Global>) -> Comes
+/// The outcomes in the order of their texts, by what was found.
+fn list_found(
+    alloc: Global,
+    problem: &Problem<Global>,
+    findings: Findings<Global>,
+) -> Result<Vec<Listed<ShownOutcome<Global>, Global>>, SearchFault>
     requires { CanReplay problem.now.kind }
 {
-    match list_found(alloc, problem, findings) {
-        Ok(_) => Comes::Text,
-        Err(SearchFault::NotShown) => Comes::NotShown,
-        Err(_) => Comes::Another,
-    }
+    let report = show(alloc, problem, findings)?;
+    sorted_by_text(alloc, report.outcomes)
 }
 
-/// Both, of a walk that is changed.
+/// Whether the table is checked, and what comes of the list, of a walk that is changed.
 fn answers(rt: &impl Abort, alloc: Global, change: &Change) -> (bool, Comes) {
     let problem = problem(rt, alloc);
-    let Ok(mut findings) = find_all(alloc, &problem) else {
+    let Ok(mut findings) = search(alloc, &problem) else {
         return (false, Comes::Another);
     };
     make_change(rt, alloc, &mut findings, change);
-    (
-        is_checked(rt, alloc, &problem, &findings),
-        listed(alloc, &problem, &findings),
-    )
+    let checked = is_checked(rt, alloc, &problem, &findings, change);
+    let comes = match list_found(alloc, &problem, findings) {
+        Ok(_) => Comes::Text,
+        Err(SearchFault::NotShown) => Comes::NotShown,
+        Err(_) => Comes::Another,
+    };
+    (checked, comes)
 }
 
 /// Each change, whether the table still shows that the outcomes are all, and what comes of the list.
-static CHANGES: [(Change, bool, Comes); 13] = [
+static CHANGES: [(Change, bool, Comes); 12] = [
     (Change::Nothing, true, Comes::Text),
     (Change::OutcomeLost, false, Comes::Text),
     (Change::EdgeLost, false, Comes::NotShown),
@@ -195,11 +213,10 @@ static CHANGES: [(Change, bool, Comes); 13] = [
     (Change::StartMoved, false, Comes::NotShown),
     (Change::ScheduleLost, true, Comes::NotShown),
     (Change::ScheduleTwice, true, Comes::NotShown),
-    (Change::SchedulesTurned, true, Comes::NotShown),
+    (Change::SchedulesTurned, true, Comes::Text),
     (Change::MoveLost, true, Comes::NotShown),
     (Change::PartyUnknown, true, Comes::NotShown),
     (Change::MoveRefused, true, Comes::NotShown),
-    (Change::NumberLost, true, Comes::NotShown),
 ];
 
 #[test]

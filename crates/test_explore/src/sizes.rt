@@ -3,9 +3,10 @@ ghost use Rattle.machine_replay.specs.Replays.{CanReplay};
 
 use crate::asserts::is_in;
 use app_explore::limits::MOST_STATES;
-use app_explore::listing::{Problem, list_outcomes};
-use app_explore::outcomes::are_in_order;
+use app_explore::listed::{Listed, are_in_order};
+use app_explore::listing::list_outcomes;
 use app_explore::reading::read_program;
+use machine_explore::problem::Problem;
 use machine_explore::program::{Calls, Program};
 use machine_explore::schedule::Move;
 use machine_explore::sequence::Sequence;
@@ -176,14 +177,14 @@ fn a_schedule_of_hundreds_of_parties_is_followed(rt: HostRuntime) {
 }
 
 /// So many texts in order, and then this one.
-fn texts(rt: &impl Abort, alloc: Global, count: usize, last: &str) -> Vec<String> {
+fn texts(rt: &impl Abort, alloc: Global, count: usize, last: &str) -> Vec<Listed<(), Global>> {
     let mut texts = Vec::new(alloc);
     for number in 0..count {
         let text = format!(in alloc; "{number:05}").expect(rt, "memory");
-        texts.push(text).expect(rt, "memory");
+        texts.push(Listed { text, item: () }).expect(rt, "memory");
     }
-    let last = String::from_str(alloc, last).expect(rt, "memory");
-    texts.push(last).expect(rt, "memory");
+    let text = String::from_str(alloc, last).expect(rt, "memory");
+    texts.push(Listed { text, item: () }).expect(rt, "memory");
     texts
 }
 
