@@ -133,16 +133,12 @@ pub fn tell_stored<R: Threads + Wait + Sync + Files + Print + AllocGlobal>(
     let failing = run_list(rt, List::Failing)?;
     println!(rt;
         "{} of {} cases agree in {} runs whose streams fail",
-        failing.agreeing,
-        failing.lines,
-        failing.runs
+        failing.agreeing, failing.lines, failing.runs
     )?;
     let programs = run_list(rt, List::Programs)?;
     println!(rt;
         "{} of {} programs agree, {} schedules replayed",
-        programs.agreeing,
-        programs.lines,
-        programs.runs
+        programs.agreeing, programs.lines, programs.runs
     )?;
     Ok(cases.is_full() && failing.is_full() && programs.is_full())
 }
