@@ -3,6 +3,7 @@ use std::alloc::AllocGlobal;
 use std::fs;
 use std::process::Abort;
 use std::random::RandomSource;
+use std::rt::Files;
 use std::sync::Wait;
 use std::sync::atomic::AtomicU64;
 use std::sync::atomic::Ordering::SeqCst;
@@ -10,21 +11,25 @@ use std::thread::{Threads, sleep, yield_now};
 use std::time::{Clock, Duration};
 
 /// What tests with threads need of the system.
-pub(crate) trait Host: Threads
-    + Wait
-    + Abort
-    + Clock
-    + RandomSource
-    + AllocGlobal
-    + Copy
-    + Send
-    + Sync
-    + 'static {}
+pub(crate) trait Host:
+    Threads + Wait + Abort + Clock + Files + RandomSource + AllocGlobal + Copy + Send + Sync + 'static
+{
+}
 
-impl<R> Host for R
-where
-    R: Threads + Wait + Abort + Clock + RandomSource + AllocGlobal + Copy + Send + Sync + 'static,
-{}
+impl<R> Host for R where
+    R: Threads
+        + Wait
+        + Abort
+        + Clock
+        + Files
+        + RandomSource
+        + AllocGlobal
+        + Copy
+        + Send
+        + Sync
+        + 'static
+{
+}
 
 /// How often a thread is looked at before it is taken to be awake for ever.
 const LOOKS: u64 = 5_000;
@@ -38,7 +43,6 @@ const TURNS: u64 = 100_000;
 /// A thread that others look at, with a gate where it meets another one.
 #[derive(Drop)]
 pub(crate) struct Watched {
-    host: HostRuntime,
     /// The number that the system gives it, or 0.
     number: AtomicU64,
     /// How many have come to the gate.
@@ -46,57 +50,41 @@ pub(crate) struct Watched {
 }
 
 impl Watched {
-    pub(crate) fn new(host: &HostRuntime) -> Watched {
+    pub(crate) fn new() -> Watched {
         Watched {
-            host: *host,
             number: AtomicU64::new(0),
             came: AtomicU64::new(0),
         }
     }
 
-    /// Another one, that is not looked at yet.
-    pub(crate) fn another(&self) -> Watched {
-        Watched::new(&self.host)
-    }
-
     /// The thread that calls this is looked at from now on.
-    pub(crate) fn enter(&self, rt: &impl Abort) {
-        let text = read(rt, &self.host, OWN);
+    pub(crate) fn enter<R: Host>(&self, rt: &R) {
+        let text = read(rt, OWN);
         self.number.store(field(&text, 0), SeqCst);
     }
 
-    /// How much processor time the thread that calls this had, in hundredths of a second.
-    pub(crate) fn own_time(&self, rt: &impl Abort) -> u64 {
-        time(rt, &self.host, OWN)
-    }
-
     /// Whether it sleeps.
-    fn sleeps(&self, rt: &impl Abort) -> bool {
+    fn sleeps<R: Host>(&self, rt: &R) -> bool {
         let number = self.number.load(SeqCst);
         if number == 0 {
             return false;
         }
-        let path = format!(in self.host.alloc(); "/proc/self/task/{number}/status");
-        match fs::read_to_string(&self.host, path.expect(rt, "memory")) {
+        let path = format!(in rt.alloc(); "/proc/self/task/{number}/status").expect(rt, "memory");
+        match fs::read_to_string(rt, path) {
             Ok(text) => text.contains("State:\tS"),
             Err(_) => false,
         }
     }
 
     /// Whether it is seen asleep.
-    pub(crate) fn is_seen_asleep(&self, rt: &impl Abort) -> bool {
+    pub(crate) fn is_seen_asleep<R: Host>(&self, rt: &R) -> bool {
         for _ in 0..LOOKS {
             if self.sleeps(rt) {
                 return true;
             }
-            sleep(&self.host, Duration::from_micros(PAUSE));
+            sleep(rt, Duration::from_micros(PAUSE));
         }
         false
-    }
-
-    /// Waits for so many milliseconds.
-    pub(crate) fn pause(&self, millis: u64) {
-        sleep(&self.host, Duration::from_millis(millis));
     }
 
     /// Waits until it and another thread have come here, though not for ever.
@@ -112,28 +100,28 @@ impl Watched {
 }
 
 /// Where the system tells how much processor time this thread had.
-const OWN: &str = "/proc/thread-self/stat";
+pub(crate) const OWN: &str = "/proc/thread-self/stat";
 
 /// Where it tells how much all threads of this process had.
 pub(crate) const PROCESS: &str = "/proc/self/stat";
 
 /// How much processor time is told there, in hundredths of a second.
-pub(crate) fn time(rt: &impl Abort, host: &HostRuntime, path: &str) -> u64 {
-    let text = read(rt, host, path);
+pub(crate) fn time<R: Host>(rt: &R, path: &str) -> u64 {
+    let text = read(rt, path);
     field(&text, 13).wrapping_add(field(&text, 14))
 }
 
 /// How many threads this process has, or more than there may be where that cannot be read.
-pub(crate) fn threads(host: &HostRuntime) -> u64 {
-    match fs::read_to_string(host, PROCESS) {
+pub(crate) fn threads<R: Files + AllocGlobal>(rt: &R) -> u64 {
+    match fs::read_to_string(rt, PROCESS) {
         Ok(text) => field(&text, 19),
         Err(_) => u64::MAX,
     }
 }
 
 /// A text of the system. Asserts that it can be read.
-fn read(rt: &impl Abort, host: &HostRuntime, path: &str) -> String {
-    match fs::read_to_string(host, path) {
+fn read<R: Host>(rt: &R, path: &str) -> String {
+    match fs::read_to_string(rt, path) {
         Ok(text) => text,
         Err(_) => panic!(rt; "a text of the system"),
     }

@@ -5,13 +5,14 @@ ghost use Rattle.counted_channel.specs.Channel.{IsEndOf};
 
 use crate::asserts::{is, is_in};
 use crate::opening::{channel, end_both, open_queue};
-use crate::watched::{Host, Watched};
+use crate::watched::{Host, OWN, Watched, time};
 use concurrent_queue::Party;
 use counted_channel::{Channel, Disconnected, Receiver, SendError, Sender};
 use std::alloc::Global;
 use std::fmt::{Debug, Display};
 use std::process::Abort;
-use std::thread::join;
+use std::thread::{join, sleep};
+use std::time::Duration;
 
 /// The first three items of an iterator.
 type Items = [Option<u64>; 3];
@@ -26,27 +27,32 @@ fn iterate<R: Host>(
     requires { IsEndOf receiver channel.now }
 {
     watched.enter(rt);
-    let before = watched.own_time(rt);
+    let before = time(rt, OWN);
     let mut items = channel.items(rt, &mut receiver);
     let came = [items.next(), items.next(), items.next()];
-    (came, watched.own_time(rt).wrapping_sub(before))
+    (came, time(rt, OWN).wrapping_sub(before))
 }
 
 /// Ends a sender a second after another thread is seen asleep. Gives whether it was, and the sender was the last.
-fn end_late<R: Host>(rt: &R, channel: &Channel<u64>, sender: Sender<u64>, watched: &Watched) -> bool
+fn end_late<R: Host>(
+    rt: &R,
+    channel: &Channel<u64>,
+    sender: Sender<u64>,
+    watched: &Watched,
+) -> bool
     requires { IsEndOf sender channel.now }
 {
     let asleep = watched.is_seen_asleep(rt);
-    watched.pause(1000);
+    sleep(rt, Duration::from_secs(1));
     channel.end_sender(sender).1 && asleep
 }
 
 /// What an iterator gives that waits for more than two items, and how much processor time it takes, where a sender ends later. Gives whether that was so too.
-fn iterated<R: Host>(rt: &R, host: &HostRuntime, alloc: Global) -> ((Items, u64), bool) {
+fn iterated<R: Host>(rt: &R, alloc: Global) -> ((Items, u64), bool) {
     let (channel, mut sender, receiver) = channel(rt, alloc, open_queue(rt, alloc, None));
     is(rt, channel.send(rt, &mut sender, 1), Ok(()));
     is(rt, channel.send(rt, &mut sender, 2), Ok(()));
-    let watched = Watched::new(host);
+    let watched = Watched::new();
     join(
         rt,
         || -> (Items, u64)
@@ -61,7 +67,7 @@ fn iterated<R: Host>(rt: &R, host: &HostRuntime, alloc: Global) -> ((Items, u64)
 /// Items come until the end.
 #[test]
 fn an_idle_iterator_takes_no_processor_time(rt: HostRuntime) {
-    let ((items, spent), ended) = iterated(&rt, &rt, rt.alloc());
+    let ((items, spent), ended) = iterated(&rt, rt.alloc());
     is_in(
         &rt,
         spent,

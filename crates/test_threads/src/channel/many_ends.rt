@@ -144,14 +144,7 @@ fn the_last_of_many_ends_closes_in_each_order(rt: HostRuntime) {
             closed: 2,
         };
         for sender_first in [true, false] {
-            let found = ended(
-                &rt,
-                rt.alloc(),
-                cap.parse().ok(),
-                turns,
-                count,
-                sender_first,
-            );
+            let found = ended(&rt, rt.alloc(), cap.parse().ok(), turns, count, sender_first);
             is_in(&rt, (line, sender_first), found, (wanted, true));
         }
     }

@@ -130,11 +130,7 @@ fn all_granted(cap: Option<usize>) -> Used {
     Used {
         requests: 0,
         first: Ok(()),
-        second: if cap == Some(1) {
-            Err(PushError::Full(2))
-        } else {
-            Ok(())
-        },
+        second: if cap == Some(1) { Err(PushError::Full(2)) } else { Ok(()) },
         came: Some(1),
         has_blocks: true,
     }
@@ -167,11 +163,7 @@ fn a_refused_request_leaves_nothing(rt: HostRuntime) {
                 Some((_, used)) => Some(used),
                 None => None,
             };
-            let wanted = if number <= opening {
-                None
-            } else {
-                Some(block_refused())
-            };
+            let wanted = if number <= opening { None } else { Some(block_refused()) };
             is_in(&rt, (cap, number), found, wanted);
             is_in(&rt, (cap, number), heap.live(), 0);
         }

@@ -80,19 +80,19 @@ fn send_and_take<R: Threads + Wait + Sync>(
     (all, sent.wrapping_add(more), right && right_too, taken)
 }
 
-/// How many items two senders in threads of their own sent, whether each other one was answered `Closed`, how many a receiver took that ended after 50, how many are left, and whether the queue is closed.
+/// How many items two senders in threads of their own sent, whether each other one was answered `Closed`, how many a receiver took that ended after 50, and how many are left in a closed queue.
 fn two_send<R: Threads + Wait + Abort + Sync>(
     rt: &R,
     alloc: Global,
-) -> (u64, bool, u64, (u64, bool)) {
+) -> (u64, bool, u64, Option<u64>) {
     let (channel, sender, receiver) = channel(rt, alloc, open_queue(rt, alloc, Some(400)));
     let Ok((one, two)) = channel.split_sender(sender) else {
         panic!(rt; "no second sender")
     };
     let (all, sent, right, taken) = send_and_take(rt, &channel, one, two, receiver, 50);
     let left = match channel.finish(all) {
-        Ok(queue) => (queue.len() as u64, queue.is_closed()),
-        Err(_) => panic!(rt; "a party is missing"),
+        Ok(queue) if queue.is_closed() => Some(queue.len() as u64),
+        _ => None,
     };
     (sent, right, taken, left)
 }
@@ -100,6 +100,6 @@ fn two_send<R: Threads + Wait + Abort + Sync>(
 #[test]
 fn as_many_are_sent_as_are_taken_or_left(rt: HostRuntime) {
     let (sent, right, taken, left) = two_send(&rt, rt.alloc());
-    let left_of_sent = sent.wrapping_sub(50);
-    is(&rt, (right, taken, left), (true, 50, (left_of_sent, true)));
+    let left_of_sent = sent.checked_sub(50);
+    is(&rt, (right, taken, left), (true, 50, left_of_sent));
 }

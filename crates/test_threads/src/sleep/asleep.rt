@@ -24,11 +24,11 @@ struct Post {
 }
 
 impl Post {
-    fn new(host: &HostRuntime, items: u64) -> Post {
+    fn new(items: u64) -> Post {
         Post {
             arrivals: EventCount::new(),
             items: AtomicU64::new(items),
-            taker: Watched::new(host),
+            taker: Watched::new(),
         }
     }
 
@@ -82,9 +82,9 @@ fn take_turns<R: Host>(rt: &R, mine: &Post, others: &Post, turns: u64, looks: bo
 }
 
 /// Two threads take so many turns each, of which the first looks or none. Gives whether the second was always seen asleep, and what is left for each.
-fn turns_taken<R: Host>(rt: &R, host: &HostRuntime, turns: u64, looks: bool) -> (bool, u64, u64) {
-    let first = Post::new(host, 1);
-    let second = Post::new(host, 0);
+fn turns_taken<R: Host>(rt: &R, turns: u64, looks: bool) -> (bool, u64, u64) {
+    let first = Post::new(1);
+    let second = Post::new(0);
     let (asleep, _) = join(
         rt,
         || take_turns(rt, &first, &second, turns, looks),
@@ -95,19 +95,24 @@ fn turns_taken<R: Host>(rt: &R, host: &HostRuntime, turns: u64, looks: bool) -> 
 
 #[test]
 fn each_item_wakes_a_sleeper(rt: HostRuntime) {
-    is(&rt, turns_taken(&rt, &rt, 1000, true), (true, 1, 0));
+    is(&rt, turns_taken(&rt, 1000, true), (true, 1, 0));
 }
 
 #[test]
 fn no_turn_is_slept_through(rt: HostRuntime) {
-    is(&rt, turns_taken(&rt, &rt, 50_000, false), (true, 1, 0));
+    is(&rt, turns_taken(&rt, 50_000, false), (true, 1, 0));
 }
 
 /// How many numbers go there and back over two channels.
 const NUMBERS: u64 = 20_000;
 
 /// Sends each number back.
-fn echo<R: Host>(rt: &R, mut receiver: Receiver<u64>, mut sender: Sender<u64>, watched: &Watched) {
+fn echo<R: Host>(
+    rt: &R,
+    mut receiver: Receiver<u64>,
+    mut sender: Sender<u64>,
+    watched: &Watched,
+) {
     watched.enter(rt);
     for number in receiver.iter(rt) {
         let _sent = sender.send(rt, number);
@@ -136,7 +141,7 @@ fn call<R: Host>(
 fn no_number_is_slept_through(rt: HostRuntime) {
     let (sender, other_receiver) = ends(&rt, rt.alloc(), Some(1)).expect(&rt, "memory");
     let (other_sender, receiver) = ends(&rt, rt.alloc(), Some(1)).expect(&rt, "memory");
-    let watched = Watched::new(&rt);
+    let watched = Watched::new();
     let (_, found) = join(
         &rt,
         || echo(&rt, other_receiver, other_sender, &watched),

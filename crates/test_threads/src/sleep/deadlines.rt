@@ -6,7 +6,6 @@ use std::io::ErrorKind;
 use std::time::{Clock, Duration};
 
 /// A clock that stands still, or cannot be read.
-#[derive(Drop)]
 struct Still(Option<Duration>);
 
 impl Clock for Still {
@@ -35,10 +34,7 @@ fn a_deadline_passes_with_its_clock(rt: HostRuntime) {
     let still = Still(Some(Duration::from_secs(5)));
     for (wait, wanted) in [
         (Duration::ZERO, (true, Some(Duration::ZERO))),
-        (
-            Duration::from_secs(1),
-            (false, Some(Duration::from_secs(1))),
-        ),
+        (Duration::from_secs(1), (false, Some(Duration::from_secs(1)))),
         (Duration::MAX, (false, None)),
     ] {
         is_in(&rt, wait, shown(&Until::after(&still, wait)), wanted);

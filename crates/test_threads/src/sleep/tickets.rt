@@ -61,7 +61,12 @@ fn a_patient_look_has_its_ticket_first(rt: HostRuntime) {
 }
 
 /// Sleeps once, and counts that it has returned.
-fn sleep_once<R: Host>(rt: &R, signs: &EventCount<Sign>, watched: &Watched, returned: &AtomicU64) {
+fn sleep_once<R: Host>(
+    rt: &R,
+    signs: &EventCount<Sign>,
+    watched: &Watched,
+    returned: &AtomicU64,
+) {
     watched.enter(rt);
     signs.prepare().missed(Sign { made: () }).wait(rt);
     returned.fetch_add(1, SeqCst);
@@ -80,9 +85,9 @@ fn wait_for(rt: &impl Clock, returned: &AtomicU64, wanted: u64) -> u64 {
 }
 
 /// Of two threads that sleep, whether both are seen asleep, and how many a notify of one wakes, or of all. All are notified in the end.
-fn woken_of_two<R: Host>(rt: &R, host: &HostRuntime, all: bool) -> (bool, u64) {
+fn woken_of_two<R: Host>(rt: &R, all: bool) -> (bool, u64) {
     let signs = EventCount::new();
-    let (one, two) = (Watched::new(host), Watched::new(host));
+    let (one, two) = (Watched::new(), Watched::new());
     let returned = AtomicU64::new(0);
     let notify_both = || {
         let asleep = one.is_seen_asleep(rt) && two.is_seen_asleep(rt);
@@ -101,6 +106,6 @@ fn woken_of_two<R: Host>(rt: &R, host: &HostRuntime, all: bool) -> (bool, u64) {
 
 #[test]
 fn a_notify_wakes_one_of_two_or_both(rt: HostRuntime) {
-    is(&rt, woken_of_two(&rt, &rt, false), (true, 1));
-    is(&rt, woken_of_two(&rt, &rt, true), (true, 2));
+    is(&rt, woken_of_two(&rt, false), (true, 1));
+    is(&rt, woken_of_two(&rt, true), (true, 2));
 }

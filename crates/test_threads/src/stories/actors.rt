@@ -3,11 +3,12 @@ use crate::asserts::is_in;
 use crate::opening::{ends, ends_for_futures};
 use crate::stories::ends::{Call, End};
 use crate::stories::replies::Reply;
-use crate::watched::{Host, Watched};
+use crate::watched::{Host, OWN, Watched, time};
 use futures::test::MockTask;
 use std::process::Abort;
 use std::sync::Arc;
-use std::thread::{JoinHandle, spawn, yield_now};
+use std::thread::{JoinHandle, sleep, spawn, yield_now};
+use std::time::Duration;
 
 /// How a channel is opened: for ends in threads alone, or in futures too.
 #[derive(Clone, Copy, Debug)]
@@ -39,12 +40,12 @@ struct Made {
 /// Makes a call by a thread that is looked at, and that another one may meet first.
 fn make<R: Host>(rt: &R, end: End, call: Call<'_>, watched: &Watched, races: bool) -> Made {
     watched.enter(rt);
-    let before = watched.own_time(rt);
+    let before = time(rt, OWN);
     if races {
         watched.meet();
     }
     let (end, reply) = end.call(rt, call);
-    let spent = watched.own_time(rt).wrapping_sub(before);
+    let spent = time(rt, OWN).wrapping_sub(before);
     Made { end, reply, spent }
 }
 
@@ -76,12 +77,12 @@ struct Actor {
 }
 
 impl Actor {
-    fn new<R: Host>(rt: &R, name: &'static str, end: End, watched: Watched) -> Actor {
+    fn new<R: Host>(rt: &R, name: &'static str, end: End) -> Actor {
         Actor {
             name,
             end: Some(end),
             thread: None,
-            watched: Arc::new(rt.alloc(), watched).expect(rt, "memory"),
+            watched: Arc::new(rt.alloc(), Watched::new()).expect(rt, "memory"),
             task: MockTask::new(rt).expect(rt, "memory"),
             spent: 0,
         }
@@ -127,7 +128,7 @@ impl Actor {
     }
 
     /// Whether its thread is seen asleep.
-    fn is_asleep(&self, rt: &impl Abort) -> Reply {
+    fn is_asleep<R: Host>(&self, rt: &R) -> Reply {
         let asleep = self.watched.is_seen_asleep(rt);
         Reply::words(if asleep { "asleep" } else { "awake" })
     }
@@ -162,7 +163,7 @@ fn find<'c>(rt: &impl Abort, cast: &'c mut Vec<Actor>, name: &str) -> &'c mut Ac
 /// One more actor, with an end of this one's.
 fn parted<R: Host>(rt: &R, actor: &mut Actor, name: &'static str) -> Actor {
     let mut end = actor.take(rt);
-    let other = Actor::new(rt, name, end.split(rt), actor.watched.another());
+    let other = Actor::new(rt, name, end.split(rt));
     actor.end = Some(end);
     other
 }
@@ -182,7 +183,7 @@ fn acts<R: Host>(rt: &R, actor: &mut Actor, deed: &'static str, round: u64) -> R
             Reply::words("begun")
         }
         "sleeps" => {
-            actor.watched.pause(rest.parse().unwrap_or(0));
+            sleep(rt, Duration::from_millis(rest.parse().unwrap_or(0)));
             actor.is_asleep(rt)
         }
         "wake" => actor.wake(rt),
@@ -218,27 +219,20 @@ fn follow<R: Host>(rt: &R, cast: &mut Vec<Actor>, at: At) {
 }
 
 /// The first two actors, with the ends of a channel.
-fn cast<R: Host>(rt: &R, host: &HostRuntime, opening: Opening, cap: Option<usize>) -> Vec<Actor> {
+fn cast<R: Host>(rt: &R, opening: Opening, cap: Option<usize>) -> Vec<Actor> {
     let (sender, receiver) = match opening {
         Opening::Threads => ends(rt, rt.alloc(), cap).expect(rt, "memory"),
         Opening::Futures => ends_for_futures(rt, rt.alloc(), cap),
     };
-    let first = Actor::new(rt, "S", End::Sender(sender), Watched::new(host));
-    let second = Actor::new(rt, "R", End::Receiver(receiver), Watched::new(host));
+    let first = Actor::new(rt, "S", End::Sender(sender));
+    let second = Actor::new(rt, "R", End::Receiver(receiver));
     vec![in rt.alloc(); first, second].expect(rt, "memory")
 }
 
 /// Tells a story in so many rounds, at a channel of its own in each.
-fn tell_rounds<R: Host>(
-    rt: &R,
-    host: &HostRuntime,
-    opening: Opening,
-    rounds: u64,
-    start: At,
-    lines: &'static str,
-) {
+fn tell_rounds<R: Host>(rt: &R, opening: Opening, rounds: u64, start: At, lines: &'static str) {
     for round in 0..rounds {
-        let mut cast = cast(rt, host, opening, start.cap);
+        let mut cast = cast(rt, opening, start.cap);
         for line in lines.lines() {
             let at = At {
                 round,
@@ -251,13 +245,7 @@ fn tell_rounds<R: Host>(
 }
 
 /// Tells each story of a text at each of its capacities. Asserts what each line says.
-pub(crate) fn tell<R: Host>(
-    rt: &R,
-    host: &HostRuntime,
-    opening: Opening,
-    rounds: u64,
-    text: &'static str,
-) {
+pub(crate) fn tell<R: Host>(rt: &R, opening: Opening, rounds: u64, text: &'static str) {
     for story in text.split("\n\n") {
         let (head, lines) = cut(rt, story, "\n");
         let (name, caps) = cut(rt, head, ": ");
@@ -268,7 +256,7 @@ pub(crate) fn tell<R: Host>(
                 round: 0,
                 line: head,
             };
-            tell_rounds(rt, host, opening, rounds, start, lines);
+            tell_rounds(rt, opening, rounds, start, lines);
         }
     }
 }

@@ -7,10 +7,10 @@ use crate::watched::Host;
 use channel_futures::{Incoming, Outgoing};
 use channel_handle::{Ended, Handle, PopError, PushError, Receiver, Sender, Unfinished};
 use counted_channel::ChannelEnd;
-use futures::Sink;
 use futures::executor::block_on;
 use futures::task::Poll;
 use futures::test::MockTask;
+use futures::Sink;
 use std::alloc::AllocError;
 use std::process::Abort;
 use std::sync::Wait;
@@ -82,12 +82,7 @@ fn is_over(rt: &impl Clock, begun: &Option<Instant>, millis: u64) -> bool {
 }
 
 /// Sends, and waits for so many milliseconds at most. A send in vain that ends before is `early`.
-fn send_within<R: Wait + Clock>(
-    rt: &R,
-    sender: &mut Sender<u64>,
-    value: u64,
-    millis: u64,
-) -> Reply {
+fn send_within<R: Wait + Clock>(rt: &R, sender: &mut Sender<u64>, value: u64, millis: u64) -> Reply {
     let begun = Instant::now(rt).ok();
     let answer = sender.send_timeout(rt, value, Duration::from_millis(millis));
     match answer {
@@ -220,10 +215,7 @@ fn let_go<R: Threads, T: Send + Drop + 'static>(rt: &R, word: &str, value: T) ->
             .spawn(rt, move || drop(value))
             .is_err(),
     };
-    (
-        End::Gone,
-        Reply::words(if is_gone { "gone" } else { "kept" }),
-    )
+    (End::Gone, Reply::words(if is_gone { "gone" } else { "kept" }))
 }
 
 /// An end that has ended, and whether it was the last of its side.

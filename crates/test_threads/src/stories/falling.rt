@@ -26,7 +26,7 @@ R race sum -> begun
 S send 1 -> ok
 S drop -> gone
 R wake -> 1";
-    tell(&rt, &rt, Opening::Threads, ROUNDS, text);
+    tell(&rt, Opening::Threads, ROUNDS, text);
 }
 
 #[test]
@@ -48,5 +48,5 @@ S send 7 -> ok
 S race send 7 -> begun
 R end -> last
 S wake -> closed 7";
-    tell(&rt, &rt, Opening::Threads, ROUNDS, text);
+    tell(&rt, Opening::Threads, ROUNDS, text);
 }

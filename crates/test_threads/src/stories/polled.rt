@@ -28,7 +28,7 @@ R poll -> item 5
 R is_woken -> false
 S send 6 -> ok
 Q is_woken -> true";
-    tell(&rt, &rt, Opening::Futures, 1, text);
+    tell(&rt, Opening::Futures, 1, text);
 }
 
 #[test]
@@ -39,7 +39,7 @@ R poll -> pending
 S drop -> gone
 R is_woken -> true
 R poll -> closed";
-    tell(&rt, &rt, Opening::Futures, 1, text);
+    tell(&rt, Opening::Futures, 1, text);
 }
 
 #[test]
@@ -53,7 +53,7 @@ S is_woken -> false
 R recv -> item 7
 S is_woken -> true
 S poll -> ok";
-    tell(&rt, &rt, Opening::Futures, 1, text);
+    tell(&rt, Opening::Futures, 1, text);
 }
 
 #[test]
@@ -73,7 +73,7 @@ S into_sink -> ok
 S begin send 9 -> asleep
 R drop -> gone
 S wake -> closed 9";
-    tell(&rt, &rt, Opening::Futures, 1, text);
+    tell(&rt, Opening::Futures, 1, text);
 }
 
 #[test]
@@ -89,7 +89,7 @@ Q is_woken -> false
 S send 6 -> ok
 Q is_woken -> true
 Q poll -> item 6";
-    tell(&rt, &rt, Opening::Futures, 1, text);
+    tell(&rt, Opening::Futures, 1, text);
 }
 
 #[test]
@@ -106,7 +106,7 @@ Q is_woken -> true
 Q poll -> item 7
 Q drop -> gone
 S send 8 -> closed 8";
-    tell(&rt, &rt, Opening::Futures, 1, text);
+    tell(&rt, Opening::Futures, 1, text);
 }
 
 #[test]
@@ -122,7 +122,7 @@ R is_woken -> true
 Q is_woken -> true
 R poll -> closed
 Q poll -> closed";
-    tell(&rt, &rt, Opening::Futures, 1, text);
+    tell(&rt, Opening::Futures, 1, text);
 }
 
 /// Each send wakes one, also where the channel is not empty before, by a thread and in a future.
@@ -141,7 +141,7 @@ R is_woken -> true
 Q is_woken -> true
 R poll -> item 1
 Q poll -> item 2";
-    tell(&rt, &rt, Opening::Futures, 1, text);
+    tell(&rt, Opening::Futures, 1, text);
 }
 
 /// An end goes from threads to futures and back.
@@ -154,7 +154,7 @@ S send 3 -> ok
 R into_stream -> ok
 R into_receiver -> ok
 R recv -> item 3";
-    tell(&rt, &rt, Opening::Futures, 1, text);
+    tell(&rt, Opening::Futures, 1, text);
 }
 
 #[test]
@@ -166,7 +166,7 @@ R sleeps 1000 -> asleep
 S send 7 -> ok
 R wake -> item 7
 R idled -> true";
-    tell(&rt, &rt, Opening::Futures, 1, text);
+    tell(&rt, Opening::Futures, 1, text);
 }
 
 #[test]
@@ -179,7 +179,7 @@ S sleeps 1000 -> asleep
 R recv -> item 1
 S wake -> ok
 S idled -> true";
-    tell(&rt, &rt, Opening::Futures, 1, text);
+    tell(&rt, Opening::Futures, 1, text);
 }
 
 #[test]

@@ -12,10 +12,7 @@ pub(crate) struct Reply {
 impl Reply {
     /// These words.
     pub(crate) fn words(words: &'static str) -> Reply {
-        Reply {
-            words,
-            number: None,
-        }
+        Reply { words, number: None }
     }
 
     /// These words, and this number behind them.

@@ -7,7 +7,7 @@ fn an_item_wakes_a_receiver(rt: HostRuntime) {
 R begin recv -> asleep
 S give 7 -> ok
 R wake -> item 7";
-    tell(&rt, &rt, Opening::Threads, 3, text);
+    tell(&rt, Opening::Threads, 3, text);
 }
 
 #[test]
@@ -17,7 +17,7 @@ S fill 7 -> full 7
 S begin send 7 -> asleep
 R get -> item 7
 S wake -> ok";
-    tell(&rt, &rt, Opening::Threads, 2, text);
+    tell(&rt, Opening::Threads, 2, text);
 }
 
 #[test]
@@ -37,7 +37,7 @@ Q begin recv -> asleep
 S close -> true
 R wake -> closed
 Q wake -> closed";
-    tell(&rt, &rt, Opening::Threads, 1, text);
+    tell(&rt, Opening::Threads, 1, text);
 }
 
 #[test]
@@ -59,7 +59,7 @@ T begin send 8 -> asleep
 R close -> true
 S wake -> closed 7
 T wake -> closed 8";
-    tell(&rt, &rt, Opening::Threads, 1, text);
+    tell(&rt, Opening::Threads, 1, text);
 }
 
 #[test]
@@ -76,7 +76,7 @@ S split T -> ok
 S begin send 7 -> asleep
 T close -> true
 S wake -> closed 7";
-    tell(&rt, &rt, Opening::Threads, 1, text);
+    tell(&rt, Opening::Threads, 1, text);
 }
 
 // The second item mostly comes before the first receiver that is woken looks, but not always.
@@ -90,7 +90,7 @@ S give 7 -> ok
 S give 7 -> ok
 R wake -> item 7
 Q wake -> item 7";
-    tell(&rt, &rt, Opening::Threads, 80, text);
+    tell(&rt, Opening::Threads, 80, text);
 }
 
 #[test]
@@ -104,7 +104,7 @@ R get -> item 7
 R get -> item 7
 S wake -> ok
 T wake -> ok";
-    tell(&rt, &rt, Opening::Threads, 40, text);
+    tell(&rt, Opening::Threads, 40, text);
 }
 
 /// The receiver sleeps too, while a sender sleeps.
@@ -120,7 +120,7 @@ R recv -> item 7
 R recv -> item 7
 S wake -> ok
 T wake -> ok";
-    tell(&rt, &rt, Opening::Threads, 20, text);
+    tell(&rt, Opening::Threads, 20, text);
 }
 
 #[test]
@@ -131,7 +131,7 @@ R sleeps 1000 -> asleep
 S send 7 -> ok
 R wake -> item 7
 R idled -> true";
-    tell(&rt, &rt, Opening::Threads, 1, text);
+    tell(&rt, Opening::Threads, 1, text);
 }
 
 #[test]
@@ -143,7 +143,7 @@ S sleeps 1000 -> asleep
 R recv -> item 7
 S wake -> ok
 S idled -> true";
-    tell(&rt, &rt, Opening::Threads, 1, text);
+    tell(&rt, Opening::Threads, 1, text);
 }
 
 #[test]
@@ -156,7 +156,7 @@ T flood 200000 -> 200000
 T close -> true
 S wake -> closed 7
 S idled -> true";
-    tell(&rt, &rt, Opening::Threads, 1, text);
+    tell(&rt, Opening::Threads, 1, text);
 }
 
 #[test]
@@ -171,7 +171,7 @@ T send 2 -> ok
 R sleeps 0 -> asleep
 T let_go -> gone
 R wake -> 3";
-    tell(&rt, &rt, Opening::Threads, 4, text);
+    tell(&rt, Opening::Threads, 4, text);
 }
 
 #[test]
@@ -181,7 +181,7 @@ S fill 7 -> full 7
 S begin send 7 -> asleep
 R let_go -> gone
 S wake -> closed 7";
-    tell(&rt, &rt, Opening::Threads, 4, text);
+    tell(&rt, Opening::Threads, 4, text);
 }
 
 #[test]
@@ -189,7 +189,7 @@ fn a_receive_in_vain_ends_after_its_time(rt: HostRuntime) {
     let text = "a channel with no item: 1 4 none
 R recv within 60 -> empty
 R idled -> true";
-    tell(&rt, &rt, Opening::Threads, 1, text);
+    tell(&rt, Opening::Threads, 1, text);
 }
 
 #[test]
@@ -197,7 +197,7 @@ fn a_send_in_vain_ends_after_its_time(rt: HostRuntime) {
     let text = "a channel of one item: 1
 S send 1 within 600000 -> ok
 S send 2 within 60 -> full 2";
-    tell(&rt, &rt, Opening::Threads, 1, text);
+    tell(&rt, Opening::Threads, 1, text);
 }
 
 #[test]
@@ -216,7 +216,7 @@ the last end: 1 4 none
 R begin recv within 600000 -> asleep
 S drop -> gone
 R wake -> closed";
-    tell(&rt, &rt, Opening::Threads, 1, text);
+    tell(&rt, Opening::Threads, 1, text);
 }
 
 #[test]
@@ -226,7 +226,7 @@ S send 1 within 600000 -> ok
 S begin send 2 within 600000 -> asleep
 R try_recv -> item 1
 S wake -> ok";
-    tell(&rt, &rt, Opening::Threads, 1, text);
+    tell(&rt, Opening::Threads, 1, text);
 }
 
 #[test]
@@ -238,5 +238,5 @@ Q begin recv within 600000 -> asleep
 R wake -> empty
 S send 7 -> ok
 Q wake -> item 7";
-    tell(&rt, &rt, Opening::Threads, 1, text);
+    tell(&rt, Opening::Threads, 1, text);
 }

@@ -1,5 +1,6 @@
 //! What one thread is answered.
-use crate::stories::actors::{Opening, tell};
+use crate::stories::actors::Opening;
+use crate::stories::actors::tell;
 
 const ENDS: &str = "what was sent comes before the end: 2
 S send 1 -> ok
@@ -109,8 +110,8 @@ R capacity -> none";
 #[test]
 fn each_story_is_right(rt: HostRuntime) {
     for opening in [Opening::Threads, Opening::Futures] {
-        tell(&rt, &rt, opening, 1, ENDS);
-        tell(&rt, &rt, opening, 1, CALLS);
+        tell(&rt, opening, 1, ENDS);
+        tell(&rt, opening, 1, CALLS);
     }
 }
 
@@ -126,7 +127,7 @@ R try_recv -> closed";
 
 #[test]
 fn the_last_sender_closes(rt: HostRuntime) {
-    tell(&rt, &rt, Opening::Threads, 1, DROPPED_SENDERS);
+    tell(&rt, Opening::Threads, 1, DROPPED_SENDERS);
 }
 
 const DROPPED_RECEIVERS: &str = "one of two receivers is dropped, and then the other: 1 3 none
@@ -138,5 +139,5 @@ S try_send 2 -> closed 2";
 
 #[test]
 fn the_last_receiver_closes(rt: HostRuntime) {
-    tell(&rt, &rt, Opening::Threads, 1, DROPPED_RECEIVERS);
+    tell(&rt, Opening::Threads, 1, DROPPED_RECEIVERS);
 }
