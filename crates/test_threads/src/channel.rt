@@ -1,6 +1,8 @@
-//! Channels, beside their stories.
-pub mod by_reference;
-pub mod leaving;
+//! Channels.
+pub mod ends;
 pub mod many_ends;
 pub mod memory;
+pub mod opening;
+pub mod rows;
+pub mod stories;
 pub mod threads;

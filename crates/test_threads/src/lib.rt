@@ -1,4 +1,4 @@
-//! Tests of what threads and futures use: channels, ends that sleep, tasks, and webs of raw blocks.
+//! Tests of what threads use: channels, ends that sleep, tasks, and webs of raw blocks.
 #![tactic(auto)]
 
 #[cfg(test)]
@@ -8,14 +8,10 @@ mod blocks;
 #[cfg(test)]
 mod channel;
 #[cfg(test)]
-mod in_futures;
+mod handles;
 #[cfg(test)]
 mod opening;
 #[cfg(test)]
 mod sleep;
 #[cfg(test)]
-mod stories;
-#[cfg(test)]
 mod uses;
-#[cfg(test)]
-mod watched;

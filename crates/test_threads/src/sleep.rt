@@ -1,5 +1,10 @@
-//! Threads and futures that sleep on an eventcount, and threads that hand something to and fro.
+//! Threads that sleep: on an eventcount, and on ends of channels.
 pub mod asleep;
 pub mod deadlines;
+pub mod falling;
+pub mod idle;
 pub mod tickets;
+pub mod turns;
 pub mod wakers;
+pub mod waking;
+pub mod watched;

@@ -63,61 +63,73 @@ fn left(rt: &impl Abort, queue: ConcurrentQueue<u64>, party: Party<u64>) -> Excl
     }
 }
 
-/// The numbers that are left, sorted, behind the one that the caller pushed.
-fn numbers_left(rt: &impl Abort, alloc: Global, queue: &mut Exclusive<u64>) -> Vec<u64> {
-    is(rt, queue.pop(), Ok(BEFORE));
-    let mut numbers = Vec::new(alloc);
-    for _ in 0..queue.len() {
-        let number = queue.pop().expect(rt, "an item");
-        numbers.push(number).expect(rt, "memory");
+/// How many of these pushed their number.
+fn pushed(posts: &[Sign]) -> usize {
+    let mut count: usize = 0;
+    for (_, accepted) in posts {
+        count = count.wrapping_add(usize::from(*accepted));
     }
-    numbers.sort_unstable();
-    numbers
+    count
 }
 
-/// The numbers of those that pushed theirs, in the order of the posts.
-fn numbers_pushed(rt: &impl Abort, alloc: Global, posts: &[Sign]) -> Vec<u64> {
-    let mut numbers = Vec::new(alloc);
-    for (number, accepted) in posts {
-        if *accepted {
-            numbers.push(*number).expect(rt, "memory");
+/// Crosses a number off those that were pushed. Gives whether it was one of them, and not crossed off before.
+fn cross_off(posts: &mut [Sign], number: u64) -> bool {
+    match posts.get_mut(number as usize) {
+        Some(sign) => {
+            let before = *sign;
+            *sign = (number, false);
+            before == (number, true)
         }
+        None => false,
     }
-    numbers
 }
 
-/// What came of a crew.
-#[derive(Clone, Copy, Debug, PartialEq)]
-struct Seen {
-    /// How many threads were started.
+/// Whether what is left is what the caller pushed, and then the numbers that so many of these pushed.
+fn are_left(queue: &mut Exclusive<u64>, posts: &mut [Sign], count: usize) -> bool {
+    let mut right = queue.pop() == Ok(BEFORE) && queue.len() == count;
+    for _ in 0..count {
+        right = match queue.pop() {
+            Ok(number) => cross_off(posts, number) && right,
+            Err(_) => false,
+        };
+    }
+    right
+}
+
+/// What came of a crew: how many threads were started, whether all were, whether the queue is closed, how many posts there are, how many of them pushed their number, and whether those numbers
+/// are in the queue.
+type Seen = (u64, bool, bool, usize, usize, bool);
+
+/// What came of a crew that left this queue and these posts, and whether its last thread pushed its number.
+fn seen_of(
+    left: &mut Exclusive<u64>,
+    posts: &mut [Sign],
     started: u64,
     all_started: bool,
-    /// Whether the queue is closed.
-    is_closed: bool,
-    /// How many posts there are, how many of them pushed their number, and whether the last did.
-    posts: usize,
-    pushed: usize,
-    last_pushed: bool,
+) -> (Seen, bool) {
+    let closed = left.is_closed();
+    let count = pushed(posts);
+    let last = match posts.last() {
+        Some((_, accepted)) => *accepted,
+        None => false,
+    };
+    let are_left = are_left(left, posts, count);
+    let seen = (started, all_started, closed, posts.len(), count, are_left);
+    (seen, last)
 }
 
-/// Runs such a crew on a queue with one item. Asserts that what is left is what the posts say, and gives what came of it.
-fn run<R: Abort + Threads + Wait + Sync>(rt: &R, alloc: Global, roster: Roster) -> Seen {
+/// Runs such a crew on a queue with one item. Gives what came of it, and whether its last thread pushed its number.
+fn run<R: Abort + Threads + Wait + Sync>(rt: &R, alloc: Global, roster: Roster) -> (Seen, bool) {
     let (queue, mut party) = open_surely(rt, alloc, Some(64));
     is(rt, queue.push(rt, &mut party, BEFORE).is_ok(), true);
-    let crew = worked(rt, alloc, &queue, party, roster);
-    let mut left = left(rt, queue, crew.party);
-    let is_closed = left.is_closed();
-    let pushed = numbers_pushed(rt, alloc, &crew.posts);
-    let numbers = numbers_left(rt, alloc, &mut left);
-    is(rt, numbers.as_slice(), pushed.as_slice());
-    Seen {
-        started: crew.started,
-        all_started: crew.all_started,
-        is_closed,
-        posts: crew.posts.len(),
-        pushed: pushed.len(),
-        last_pushed: matches!(crew.posts.last(), Some((_, true))),
-    }
+    let Gathered {
+        party,
+        mut posts,
+        started,
+        all_started,
+    } = worked(rt, alloc, &queue, party, roster);
+    let mut left = left(rt, queue, party);
+    seen_of(&mut left, &mut posts, started, all_started)
 }
 
 #[test]
@@ -129,43 +141,51 @@ fn each_thread_works_once(rt: HostRuntime) {
                 limit: NO_LIMIT,
                 on_refusal,
             };
-            let wanted = Seen {
-                started: threads,
-                all_started: true,
-                is_closed: false,
-                posts: threads as usize,
-                pushed: threads as usize,
-                last_pushed: threads > 0,
-            };
-            is_in(&rt, threads, run(&rt, rt.alloc(), roster), wanted);
+            let (seen, _) = run(&rt, rt.alloc(), roster);
+            let all = threads as usize;
+            is_in(&rt, threads, seen, (threads, true, false, all, all, true));
         }
     }
 }
 
-/// One piece of work more than threads were started: the calling thread does it, or finds the queue closed.
+/// What came of such a crew where of so many threads one is refused.
+fn refused<R: Abort + Threads + Wait + Sync>(
+    rt: &R,
+    alloc: Global,
+    threads: u64,
+    started: u64,
+    on_refusal: OnRefusal,
+) -> (Seen, bool) {
+    let roster = Roster {
+        threads,
+        limit: Limit(started),
+        on_refusal,
+    };
+    run(rt, alloc, roster)
+}
+
+/// One piece of work more than threads were started: the calling thread does it.
 #[test]
 fn the_work_of_a_thread_that_is_refused_is_done_here(rt: HostRuntime) {
     for threads in [1, 3, 40] {
         for started in 0..threads {
-            for on_refusal in [OnRefusal::GoOn, OnRefusal::CloseQueue] {
-                let closes = matches!(on_refusal, OnRefusal::CloseQueue);
-                let roster = Roster {
-                    threads,
-                    limit: Limit(started),
-                    on_refusal,
-                };
-                let found = run(&rt, rt.alloc(), roster);
-                let posts = started as usize + 1;
-                let wanted = Seen {
-                    started,
-                    all_started: false,
-                    is_closed: closes,
-                    posts,
-                    pushed: if closes { found.pushed } else { posts },
-                    last_pushed: !closes,
-                };
-                is_in(&rt, (threads, started, closes), found, wanted);
-            }
+            let found = refused(&rt, rt.alloc(), threads, started, OnRefusal::GoOn);
+            let posts = started as usize + 1;
+            let wanted = ((started, false, false, posts, posts, true), true);
+            is_in(&rt, (threads, started), found, wanted);
+        }
+    }
+}
+
+/// What is pushed is what the posts say, and the thread that is refused finds the queue closed.
+#[test]
+fn the_queue_is_closed_where_a_thread_is_refused(rt: HostRuntime) {
+    for threads in [1, 3, 40] {
+        for started in 0..threads {
+            let found = refused(&rt, rt.alloc(), threads, started, OnRefusal::CloseQueue);
+            let posts = started as usize + 1;
+            let wanted = ((started, false, true, posts, found.0.4, true), false);
+            is_in(&rt, (threads, started), found, wanted);
         }
     }
 }

@@ -3,48 +3,39 @@ ghost use Rattle.concurrent_queue.specs.Shared.{IsPartyOf};
 ghost use Rattle.counted_channel.specs.Channel.{IsEndOf};
 
 use crate::asserts::is_in;
-use crate::opening::{channel, open_queue};
+use crate::channel::ends::AnyEnd;
+use crate::channel::opening::{left, opened_surely};
 use concurrent_queue::Party;
-use counted_channel::{Channel, ChannelEnd};
+use counted_channel::Channel;
 use std::alloc::Global;
 use std::process::Abort;
 
-/// Of the ends that have ended: how many, how many of them were told that they were the last, and after how many of them the channel was closed.
-#[derive(Clone, Copy, Debug, PartialEq)]
-struct Seen {
-    ended: usize,
-    last: usize,
-    closed: usize,
+/// When an end of each side that are parted off end: before those that are parted off later, or after them.
+enum Turn {
+    Before,
+    After,
 }
 
+/// Of the ends that have ended: how many, how many of them were told that they were the last, and after how many of them the channel was closed.
+type Seen = (usize, usize, usize);
+
 /// Ends an end, and looks at the channel then.
-fn end<E: ChannelEnd<u64>>(channel: &Channel<u64>, end: E, seen: &mut Seen) -> Party<u64>
+fn end<E: AnyEnd>(channel: &Channel<u64>, end: E, seen: &mut Seen) -> Party<u64>
     requires { IsEndOf (E.end end) channel.now }
     ensures { IsPartyOf result channel.now.queue }
 {
-    let (mut party, is_last) = end.end_on(channel);
+    let (mut party, is_last) = end.leave(channel);
     let is_closed = channel.is_closed_by(&mut party);
-    *seen = Seen {
-        ended: seen.ended.wrapping_add(1),
-        last: seen.last.wrapping_add(usize::from(is_last)),
-        closed: seen.closed.wrapping_add(usize::from(is_closed)),
-    };
+    *seen = (
+        seen.0.wrapping_add(1),
+        seen.1.wrapping_add(usize::from(is_last)),
+        seen.2.wrapping_add(usize::from(is_closed)),
+    );
     party
 }
 
-/// Parts an end in two. Asserts that it can be.
-fn two<E: ChannelEnd<u64>>(rt: &impl Abort, channel: &Channel<u64>, end: E) -> (E, E)
-    requires { IsEndOf (E.end end) channel.now }
-    ensures { IsEndOf (E.end result.0) channel.now × IsEndOf (E.end result.1) channel.now }
-{
-    match end.split_on(channel) {
-        Ok(both) => both,
-        Err(_) => panic!(rt; "no second end"),
-    }
-}
-
 /// Ends an end of each side, in this order. Gives the party of both.
-fn end_two<E: ChannelEnd<u64>, F: ChannelEnd<u64>>(
+fn end_two<E: AnyEnd, F: AnyEnd>(
     channel: &Channel<u64>,
     first: E,
     second: F,
@@ -57,13 +48,13 @@ fn end_two<E: ChannelEnd<u64>, F: ChannelEnd<u64>>(
     channel.join(party, end(channel, second, seen))
 }
 
-/// Parts an end of each side off for each of so many turns, of which there are these again and again, the last one first, and ends them all: those of a turn `B` before those of later turns, of a turn `A` after them. Gives the party of all.
-fn end_all<E: ChannelEnd<u64>, F: ChannelEnd<u64>>(
+/// Parts an end of each side off for each of so many turns, of which there are these again and again, the last one first, and ends them all, each two in their turn. Gives the party of all.
+fn end_all<E: AnyEnd, F: AnyEnd>(
     rt: &impl Abort,
     channel: &Channel<u64>,
     first: E,
     second: F,
-    turns: &str,
+    turns: &[Turn],
     count: usize,
     seen: &mut Seen,
 ) -> Party<u64>
@@ -73,14 +64,14 @@ fn end_all<E: ChannelEnd<u64>, F: ChannelEnd<u64>>(
     let Some(later) = count.checked_sub(1) else {
         return end_two(channel, first, second, seen);
     };
-    let (first, one) = two(rt, channel, first);
-    let (second, other) = two(rt, channel, second);
-    match turns.as_bytes().get(later % turns.len().max(1)) {
-        Some(b'B') => {
-            let both = end_two(channel, first, second, seen);
-            channel.join(both, end_all(rt, channel, one, other, turns, later, seen))
+    let (first, one) = first.two(rt, channel);
+    let (second, other) = second.two(rt, channel);
+    match turns.get(later % turns.len().max(1)) {
+        Some(Turn::Before) => {
+            let two = end_two(channel, first, second, seen);
+            channel.join(two, end_all(rt, channel, one, other, turns, later, seen))
         }
-        _ => {
+        Some(Turn::After) | None => {
             let all = end_all(rt, channel, one, other, turns, later, seen);
             channel.join(all, end_two(channel, first, second, seen))
         }
@@ -92,60 +83,56 @@ fn ended(
     rt: &impl Abort,
     alloc: Global,
     cap: Option<usize>,
-    turns: &str,
+    turns: &[Turn],
     count: usize,
     sender_first: bool,
 ) -> (Seen, bool) {
-    let (channel, sender, receiver) = channel(rt, alloc, open_queue(rt, alloc, cap));
-    let mut seen = Seen {
-        ended: 0,
-        last: 0,
-        closed: 0,
-    };
+    let (channel, sender, receiver) = opened_surely(rt, alloc, cap);
+    let mut seen = (0, 0, 0);
     let party = if sender_first {
         end_all(rt, &channel, sender, receiver, turns, count, &mut seen)
     } else {
         end_all(rt, &channel, receiver, sender, turns, count, &mut seen)
     };
-    (seen, channel.finish(party).is_ok())
+    (seen, left(channel, Some(party)).is_some())
 }
 
-/// In each line the turns of ends, the last one first, how often these are repeated, and the capacity of their channel: all orders of two, three and four ends a side, and many ends.
-const ORDERS: &str = "B x 1 at 1
-A x 1 at 2
-BB x 1 at 2
-AB x 1 at 2
-BA x 1 at 2
-AA x 1 at 1
-BBB x 1 at 2
-ABB x 1 at 2
-BAB x 1 at 3
-AAB x 1 at 2
-BBA x 1 at none
-ABA x 1 at 2
-BAA x 1 at 1
-AAA x 1 at 5000
-B x 8 at 2
-BA x 8 at 2
-AAB x 100 at 5000
-B x 1000 at none
-A x 2000 at 2";
+const B: Turn = Turn::Before;
+
+const A: Turn = Turn::After;
+
+/// The capacity of a channel, and the turns of its ends, the last one first, so many times: all orders of two, three and four ends a side, and many ends.
+static ORDERS: [(Option<usize>, &[Turn], usize); 19] = [
+    (Some(1), &[B], 1),
+    (Some(2), &[A], 1),
+    (Some(2), &[B, B], 1),
+    (Some(2), &[A, B], 1),
+    (Some(2), &[B, A], 1),
+    (Some(1), &[A, A], 1),
+    (Some(2), &[B, B, B], 1),
+    (Some(2), &[A, B, B], 1),
+    (Some(3), &[B, A, B], 1),
+    (Some(2), &[A, A, B], 1),
+    (None, &[B, B, A], 1),
+    (Some(2), &[A, B, A], 1),
+    (Some(1), &[B, A, A], 1),
+    (Some(5000), &[A, A, A], 1),
+    (Some(2), &[B], 8),
+    (Some(2), &[B, A], 8),
+    (Some(5000), &[A, A, B], 100),
+    (None, &[B], 1000),
+    (Some(2), &[A], 2000),
+];
 
 /// Of the last two ends the first one closes, and both are the last of their side.
 #[test]
 fn the_last_of_many_ends_closes_in_each_order(rt: HostRuntime) {
-    for line in ORDERS.lines() {
-        let (order, cap) = line.split_once(" at ").unwrap_or((line, ""));
-        let (turns, times) = order.split_once(" x ").unwrap_or((order, ""));
-        let count = turns.len().wrapping_mul(times.parse().unwrap_or(0));
-        let wanted = Seen {
-            ended: count.wrapping_mul(2).wrapping_add(2),
-            last: 2,
-            closed: 2,
-        };
+    for (row, (cap, turns, times)) in ORDERS.iter().enumerate() {
+        let count = turns.len().wrapping_mul(*times);
+        let ends = count.wrapping_mul(2).wrapping_add(2);
         for sender_first in [true, false] {
-            let found = ended(&rt, rt.alloc(), cap.parse().ok(), turns, count, sender_first);
-            is_in(&rt, (line, sender_first), found, (wanted, true));
+            let found = ended(&rt, rt.alloc(), *cap, turns, count, sender_first);
+            is_in(&rt, (row, sender_first), found, ((ends, 2, 2), true));
         }
     }
 }

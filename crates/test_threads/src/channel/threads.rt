@@ -3,7 +3,8 @@ ghost use Rattle.concurrent_queue.specs.Shared.{IsPartyOf};
 ghost use Rattle.counted_channel.specs.Channel.{IsEndOf};
 
 use crate::asserts::is;
-use crate::opening::{channel, open_queue};
+use crate::channel::ends::AnyEnd;
+use crate::channel::opening::{Left, left, opened_surely};
 use concurrent_queue::Party;
 use counted_channel::{Channel, Receiver, SendError, Sender};
 use std::alloc::Global;
@@ -80,26 +81,23 @@ fn send_and_take<R: Threads + Wait + Sync>(
     (all, sent.wrapping_add(more), right && right_too, taken)
 }
 
-/// How many items two senders in threads of their own sent, whether each other one was answered `Closed`, how many a receiver took that ended after 50, and how many are left in a closed queue.
+/// How many items two senders in threads of their own sent, whether each other one was answered `Closed`, how many a receiver took that ended after 50, and what is left.
 fn two_send<R: Threads + Wait + Abort + Sync>(
     rt: &R,
     alloc: Global,
-) -> (u64, bool, u64, Option<u64>) {
-    let (channel, sender, receiver) = channel(rt, alloc, open_queue(rt, alloc, Some(400)));
-    let Ok((one, two)) = channel.split_sender(sender) else {
-        panic!(rt; "no second sender")
-    };
+) -> (u64, bool, u64, Option<Left>) {
+    let (channel, sender, receiver) = opened_surely(rt, alloc, Some(400));
+    let (one, two) = sender.two(rt, &channel);
     let (all, sent, right, taken) = send_and_take(rt, &channel, one, two, receiver, 50);
-    let left = match channel.finish(all) {
-        Ok(queue) if queue.is_closed() => Some(queue.len() as u64),
-        _ => None,
-    };
-    (sent, right, taken, left)
+    (sent, right, taken, left(channel, Some(all)))
 }
 
 #[test]
 fn as_many_are_sent_as_are_taken_or_left(rt: HostRuntime) {
     let (sent, right, taken, left) = two_send(&rt, rt.alloc());
-    let left_of_sent = sent.checked_sub(50);
-    is(&rt, (right, taken, left), (true, 50, left_of_sent));
+    let fits = match left {
+        Some((left, closed, ..)) => closed && sent == 50u64.wrapping_add(left as u64),
+        None => false,
+    };
+    is(&rt, (right, taken, fits), (true, 50, true));
 }

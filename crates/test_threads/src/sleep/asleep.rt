@@ -1,13 +1,12 @@
 //! Two threads that take turns, and sleep until the other gives an item: each that is seen asleep before, and as fast as they wake.
 use crate::asserts::is;
-use crate::opening::ends;
-use crate::watched::{Host, Watched};
-use channel_handle::{Receiver, Sender};
+use crate::sleep::watched::Watched;
 use event_count::{EventCount, OwesAll, OwesOne};
+use std::process::Abort;
 use std::sync::Wait;
 use std::sync::atomic::AtomicU64;
 use std::sync::atomic::Ordering::SeqCst;
-use std::thread::join;
+use std::thread::{Threads, join};
 
 /// What the thread waits for.
 #[derive(Drop)]
@@ -68,13 +67,20 @@ impl Post {
 }
 
 /// Takes turns with another thread, and looks before each, where it is to, until that is seen asleep. Gives whether it always was.
-fn take_turns<R: Host>(rt: &R, mine: &Post, others: &Post, turns: u64, looks: bool) -> bool {
-    mine.taker.enter(rt);
+fn take_turns<R: Wait + Abort>(
+    rt: &R,
+    host: &HostRuntime,
+    mine: &Post,
+    others: &Post,
+    turns: u64,
+    looks: bool,
+) -> bool {
+    mine.taker.enter(rt, host);
     let mut asleep = true;
     for round in 0..turns {
         mine.take(rt);
         if looks {
-            asleep = asleep && others.taker.is_seen_asleep(rt);
+            asleep = asleep && others.taker.is_seen_asleep(rt, host);
         }
         others.give(round);
     }
@@ -82,70 +88,28 @@ fn take_turns<R: Host>(rt: &R, mine: &Post, others: &Post, turns: u64, looks: bo
 }
 
 /// Two threads take so many turns each, of which the first looks or none. Gives whether the second was always seen asleep, and what is left for each.
-fn turns_taken<R: Host>(rt: &R, turns: u64, looks: bool) -> (bool, u64, u64) {
+fn turns_taken<R: Threads + Wait + Abort + Sync>(
+    rt: &R,
+    host: &HostRuntime,
+    turns: u64,
+    looks: bool,
+) -> (bool, u64, u64) {
     let first = Post::new(1);
     let second = Post::new(0);
     let (asleep, _) = join(
         rt,
-        || take_turns(rt, &first, &second, turns, looks),
-        || take_turns(rt, &second, &first, turns, false),
+        || take_turns(rt, host, &first, &second, turns, looks),
+        || take_turns(rt, host, &second, &first, turns, false),
     );
     (asleep, first.items.load(SeqCst), second.items.load(SeqCst))
 }
 
 #[test]
 fn each_item_wakes_a_sleeper(rt: HostRuntime) {
-    is(&rt, turns_taken(&rt, 1000, true), (true, 1, 0));
+    is(&rt, turns_taken(&rt, &rt, 1000, true), (true, 1, 0));
 }
 
 #[test]
 fn no_turn_is_slept_through(rt: HostRuntime) {
-    is(&rt, turns_taken(&rt, 50_000, false), (true, 1, 0));
-}
-
-/// How many numbers go there and back over two channels.
-const NUMBERS: u64 = 20_000;
-
-/// Sends each number back.
-fn echo<R: Host>(
-    rt: &R,
-    mut receiver: Receiver<u64>,
-    mut sender: Sender<u64>,
-    watched: &Watched,
-) {
-    watched.enter(rt);
-    for number in receiver.iter(rt) {
-        let _sent = sender.send(rt, number);
-    }
-}
-
-/// Sends each number, once the other thread is seen asleep. Gives how many came back in their turn, and whether it was seen asleep.
-fn call<R: Host>(
-    rt: &R,
-    mut sender: Sender<u64>,
-    mut receiver: Receiver<u64>,
-    watched: &Watched,
-) -> (u64, bool) {
-    let asleep = watched.is_seen_asleep(rt);
-    let mut came: u64 = 0;
-    for number in 0..NUMBERS {
-        let sent = sender.send(rt, number).is_ok();
-        if sent && receiver.recv(rt) == Ok(number) {
-            came = came.wrapping_add(1);
-        }
-    }
-    (came, asleep)
-}
-
-#[test]
-fn no_number_is_slept_through(rt: HostRuntime) {
-    let (sender, other_receiver) = ends(&rt, rt.alloc(), Some(1)).expect(&rt, "memory");
-    let (other_sender, receiver) = ends(&rt, rt.alloc(), Some(1)).expect(&rt, "memory");
-    let watched = Watched::new();
-    let (_, found) = join(
-        &rt,
-        || echo(&rt, other_receiver, other_sender, &watched),
-        || call(&rt, sender, receiver, &watched),
-    );
-    is(&rt, found, (NUMBERS, true));
+    is(&rt, turns_taken(&rt, &rt, 50_000, false), (true, 1, 0));
 }

@@ -1,23 +1,33 @@
 //! Deadlines by clocks that cannot be read, or are too far.
-use crate::asserts::is_in;
+use crate::asserts::is;
 use event_count::{Deadline, Never, Until};
 use std::io;
 use std::io::ErrorKind;
 use std::time::{Clock, Duration};
 
-/// A clock that stands still, or cannot be read.
-struct Still(Option<Duration>);
+/// A clock that cannot be read.
+struct Broken;
 
-impl Clock for Still {
+impl Clock for Broken {
     fn monotonic(&self) -> io::Result<Duration> {
-        match self.0 {
-            Some(time) => Ok(time),
-            None => Err(io::Error::from(ErrorKind::Other)),
-        }
+        Err(io::Error::from(ErrorKind::Other))
     }
 
     fn since_1970(&self) -> io::Result<Duration> {
-        self.monotonic()
+        Err(io::Error::from(ErrorKind::Other))
+    }
+}
+
+/// A clock that stands still.
+struct Still;
+
+impl Clock for Still {
+    fn monotonic(&self) -> io::Result<Duration> {
+        Ok(Duration::from_secs(5))
+    }
+
+    fn since_1970(&self) -> io::Result<Duration> {
+        Ok(Duration::from_secs(5))
     }
 }
 
@@ -26,18 +36,31 @@ fn shown(until: &impl Deadline) -> (bool, Option<Duration>) {
     (until.is_past(), until.left())
 }
 
-/// A deadline passes with its clock, and at once by a clock that cannot be read. None, and one after all times, have no end.
+#[test]
+fn a_clock_that_cannot_be_read_ends_the_wait(rt: HostRuntime) {
+    let until = Until::after(&Broken, Duration::from_secs(600));
+    is(&rt, shown(&until), (true, Some(Duration::ZERO)));
+}
+
 #[test]
 fn a_deadline_passes_with_its_clock(rt: HostRuntime) {
-    let broken = Until::after(&Still(None), Duration::from_secs(600));
-    is_in(&rt, "broken", shown(&broken), (true, Some(Duration::ZERO)));
-    let still = Still(Some(Duration::from_secs(5)));
-    for (wait, wanted) in [
-        (Duration::ZERO, (true, Some(Duration::ZERO))),
-        (Duration::from_secs(1), (false, Some(Duration::from_secs(1)))),
-        (Duration::MAX, (false, None)),
-    ] {
-        is_in(&rt, wait, shown(&Until::after(&still, wait)), wanted);
-    }
-    is_in(&rt, "never", shown(&Never), (false, None));
+    let now = Until::after(&Still, Duration::ZERO);
+    let second = Duration::from_secs(1);
+    let later = Until::after(&Still, second);
+    let found = (shown(&now), shown(&later));
+    is(
+        &rt,
+        found,
+        ((true, Some(Duration::ZERO)), (false, Some(second))),
+    );
+}
+
+#[test]
+fn no_deadline_and_one_after_all_times_have_no_end(rt: HostRuntime) {
+    let far = Until::after(&Still, Duration::MAX);
+    is(
+        &rt,
+        (shown(&Never), shown(&far)),
+        ((false, None), (false, None)),
+    );
 }

@@ -1,0 +1,17 @@
+//! Tests of the ends of a channel in futures.
+#![tactic(auto)]
+
+#[cfg(test)]
+mod asserts;
+#[cfg(test)]
+mod idle;
+#[cfg(test)]
+mod kit;
+#[cfg(test)]
+mod opening;
+#[cfg(test)]
+mod pools;
+#[cfg(test)]
+mod stories;
+#[cfg(test)]
+mod tasks;
