@@ -2,17 +2,14 @@
 ghost use Rattle.concurrent_queue.specs.Shared.{IsPartyOf};
 ghost use Rattle.test_shared.specs.Outcomes.{IsOf};
 
-use concurrent_queue::{ConcurrentQueue, NullTestable, Outcome, Party};
+use concurrent_queue::{ConcurrentQueue, Outcome, Party};
 use queue_steps::model::{Call, Reply};
 use std::sync::Wait;
 
+pub(crate) type Queue = ConcurrentQueue<u64>;
+
 /// Makes a call that only looks; in the place of any other, that for the capacity.
-fn look<T: Drop, A: NullTestable, R: Wait>(
-    rt: &R,
-    queue: &ConcurrentQueue<T, A>,
-    party: &mut Party<T>,
-    call: Call<T>,
-) -> Reply<T>
+fn look<R: Wait>(rt: &R, queue: &Queue, party: &mut Party<u64>, call: Call<u64>) -> Reply<u64>
     requires { IsPartyOf party.old queue.now }
     ensures { IsPartyOf party.new queue.now }
 {
@@ -26,12 +23,12 @@ fn look<T: Drop, A: NullTestable, R: Wait>(
 }
 
 /// Makes a call.
-pub(crate) fn answer<T: Drop, A: NullTestable, R: Wait>(
+pub(crate) fn answer<R: Wait>(
     rt: &R,
-    queue: &ConcurrentQueue<T, A>,
-    party: &mut Party<T>,
-    call: Call<T>,
-) -> Reply<T>
+    queue: &Queue,
+    party: &mut Party<u64>,
+    call: Call<u64>,
+) -> Reply<u64>
     requires { IsPartyOf party.old queue.now }
     ensures { IsPartyOf party.new queue.now }
 {
@@ -45,11 +42,7 @@ pub(crate) fn answer<T: Drop, A: NullTestable, R: Wait>(
 }
 
 /// Begins a call.
-pub(crate) fn begin<T, A: NullTestable>(
-    queue: &ConcurrentQueue<T, A>,
-    party: Party<T>,
-    call: Call<T>,
-) -> Outcome<T, A>
+pub(crate) fn begin(queue: &Queue, party: Party<u64>, call: Call<u64>) -> Outcome<u64>
     requires { IsPartyOf party queue.now }
     ensures { IsOf result queue.now }
 {
@@ -60,10 +53,7 @@ pub(crate) fn begin<T, A: NullTestable>(
 }
 
 /// Takes a call up, where it is pending.
-pub(crate) fn take_up<T, A: NullTestable>(
-    queue: &ConcurrentQueue<T, A>,
-    outcome: Outcome<T, A>,
-) -> Outcome<T, A>
+pub(crate) fn take_up(queue: &Queue, outcome: Outcome<u64>) -> Outcome<u64>
     requires { IsOf outcome queue.now }
     ensures { IsOf result queue.now }
 {

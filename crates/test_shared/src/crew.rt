@@ -3,11 +3,9 @@ ghost use Rattle.std.specs.Prelude.{◌<◌};
 ghost use Rattle.concurrent_queue.specs.Shared.{IsPartyOf};
 ghost use denote.Param.Send.{IsSync};
 
-use crate::calls::{begin, take_up};
 use crate::opening::part;
-use concurrent_queue::{ConcurrentQueue, Outcome, Party, PopError, PushError};
+use concurrent_queue::{ConcurrentQueue, Party, PopError, PushError};
 use mem_blocks::null_testable::NullTestable;
-use queue_steps::model::{Call, Reply};
 use std::alloc::{Allocator, Global};
 use std::ops::Range;
 use std::process::Abort;
@@ -20,9 +18,11 @@ use test_support::signs::wait_for;
 /// How many turns a thread takes.
 pub(crate) const TURNS: u64 = 25_000;
 
-/// What threads share: how often each value came out, how many threads push, and whether all threads have come.
+/// What threads share: which value is handed out next, how often each came out, how many threads push, and whether all threads have come.
 #[derive(Drop)]
 pub(crate) struct Board {
+    /// The next value that is handed out, from 0 on.
+    pub(crate) next: AtomicU64,
     counts: Vec<AtomicU64>,
     running: AtomicU64,
     threads: u64,
@@ -41,6 +41,7 @@ impl Board {
         }
         let threads = threads as u64;
         Board {
+            next: AtomicU64::new(0),
             counts,
             running: AtomicU64::new(threads / 2),
             threads,
@@ -107,10 +108,6 @@ pub(crate) enum Role {
     PopWhileHeld,
     /// Pops as many items as there are numbers, and tries again where the queue is empty.
     Pop,
-    /// Pushes each by calls that never wait.
-    PushByTurns,
-    /// Pops as many by such calls.
-    PopByTurns,
     /// Pushes each by force, and counts what it displaces.
     Force,
     /// Pops until no thread pushes and the queue is empty.
@@ -161,6 +158,49 @@ pub(crate) fn pop_one<T: Drop, A: Allocator, R: Wait>(
     unreachable!()
 }
 
+/// Pushes a number. Gives whether that is answered so.
+fn pushes<A: NullTestable, R: Wait>(
+    rt: &R,
+    queue: &ConcurrentQueue<u64, A>,
+    party: &mut Party<u64>,
+    number: u64,
+    wanted: Result<(), PushError<u64>>,
+) -> bool
+    requires { IsPartyOf party.old queue.now }
+    ensures { IsPartyOf party.new queue.now }
+{
+    queue.push(rt, party, number) == wanted
+}
+
+/// Pops. Gives whether there is an item.
+fn pops<A: Allocator, R: Wait>(
+    rt: &R,
+    queue: &ConcurrentQueue<u64, A>,
+    party: &mut Party<u64>,
+) -> bool
+    requires { IsPartyOf party.old queue.now }
+    ensures { IsPartyOf party.new queue.now }
+{
+    queue.pop(rt, party).is_ok()
+}
+
+/// Pushes a number by force, and pops where it displaced nothing. Gives whether an item came out.
+fn forces_and_pops<A: NullTestable, R: Wait>(
+    rt: &R,
+    queue: &ConcurrentQueue<u64, A>,
+    party: &mut Party<u64>,
+    number: u64,
+) -> bool
+    requires { IsPartyOf party.old queue.now }
+    ensures { IsPartyOf party.new queue.now }
+{
+    match queue.force_push(rt, party, number) {
+        Ok(Some(_)) => true,
+        Ok(None) => pops(rt, queue, party),
+        Err(_) => false,
+    }
+}
+
 /// Does this with a number. Gives false where what had to be found was not.
 pub(crate) fn find<A: NullTestable, R: Wait>(
     rt: &R,
@@ -177,21 +217,18 @@ pub(crate) fn find<A: NullTestable, R: Wait>(
             push_one(rt, queue, party, number);
             true
         }
+        Deed::PushOnce => pushes(rt, queue, party, number, Ok(())),
         Deed::PushBut(refused) if refused == number => {
-            queue.push(rt, party, number) == Err(PushError::NoMemory(number))
+            pushes(rt, queue, party, number, Err(PushError::NoMemory(number)))
         }
-        Deed::PushOnce | Deed::PushBut(_) => queue.push(rt, party, number).is_ok(),
-        Deed::PopOnce => queue.pop(rt, party).is_ok(),
+        Deed::PushBut(_) => pushes(rt, queue, party, number, Ok(())),
+        Deed::PopOnce => pops(rt, queue, party),
         Deed::PopInOrder => pop_one(rt, queue, party) == number,
         Deed::PushAndPop => {
             push_one(rt, queue, party, number);
-            queue.pop(rt, party).is_ok()
+            pops(rt, queue, party)
         }
-        Deed::ForceAndPop => match queue.force_push(rt, party, number) {
-            Ok(Some(_)) => true,
-            Ok(None) => queue.pop(rt, party).is_ok(),
-            Err(_) => false,
-        },
+        Deed::ForceAndPop => forces_and_pops(rt, queue, party, number),
     }
 }
 
@@ -213,42 +250,40 @@ pub(crate) fn find_each<A: NullTestable, R: Wait>(
     right
 }
 
-/// Makes a call by ones that never wait: it is begun, taken up until it has its reply, and begun again until it is accepted. Counts the value that came out.
-fn answer_surely<A: NullTestable, R: Wait>(
+/// Pops once a request is held, and lets the request go. Gives whether it was held, and the queue was found empty.
+fn pop_while_held<A: Allocator, R: Wait>(
     rt: &R,
     queue: &ConcurrentQueue<u64, A>,
-    party: Party<u64>,
-    board: &Board,
-    call: Call<u64>,
-) -> Party<u64>
-    requires { IsPartyOf party queue.now }
-    ensures { IsPartyOf result queue.now }
+    party: &mut Party<u64>,
+    heap: &Heap,
+) -> bool
+    requires { IsPartyOf party.old queue.now }
+    ensures { IsPartyOf party.new queue.now }
 {
-    let mut outcome = begin(queue, party, call);
-    for _ in rt.forever() {
-        outcome = match outcome {
-            Outcome::Done(party, reply) => match reply {
-                Reply::Push(Ok(())) => return party,
-                Reply::Pop(Ok(value)) => {
-                    board.count(value);
-                    return party;
-                }
-                _ => {
-                    yield_now();
-                    begin(queue, party, call)
-                }
-            },
-            Outcome::Pending(pending) => {
-                yield_now();
-                take_up(queue, Outcome::Pending(pending))
-            }
-        };
-    }
-    unreachable!()
+    let held = heap.comes_to_hold();
+    let popped = queue.pop(rt, party);
+    heap.let_go();
+    held && popped == Err(PopError::Empty)
 }
 
-/// One turn of a thread that makes calls to their ends. Gives false where what had to be found was not.
-fn waiting_turn<A: NullTestable, R: Wait>(
+/// Pushes a number by force, and counts what it displaces.
+fn force<A: NullTestable, R: Wait>(
+    rt: &R,
+    queue: &ConcurrentQueue<u64, A>,
+    party: &mut Party<u64>,
+    board: &Board,
+    number: u64,
+)
+    requires { IsPartyOf party.old queue.now }
+    ensures { IsPartyOf party.new queue.now }
+{
+    if let Ok(Some(old)) = queue.force_push(rt, party, number) {
+        board.count(old);
+    }
+}
+
+/// One turn of a thread. Gives false where what had to be found was not.
+fn turn<A: NullTestable, R: Wait>(
     rt: &R,
     queue: &ConcurrentQueue<u64, A>,
     party: &mut Party<u64>,
@@ -266,55 +301,20 @@ fn waiting_turn<A: NullTestable, R: Wait>(
             queue.len(rt, party) <= most && right
         }
         Role::PushAndLetGo => {
-            let accepted = queue.push(rt, party, number).is_ok();
+            let accepted = pushes(rt, queue, party, number, Ok(()));
             board.heap.let_go();
             accepted
         }
-        Role::PopWhileHeld => {
-            let held = board.heap.comes_to_hold();
-            let popped = queue.pop(rt, party);
-            board.heap.let_go();
-            held && popped == Err(PopError::Empty)
-        }
+        Role::PopWhileHeld => pop_while_held(rt, queue, party, &board.heap),
         Role::Pop => {
             board.count(pop_one(rt, queue, party));
             true
         }
         Role::Force => {
-            if let Ok(Some(old)) = queue.force_push(rt, party, number) {
-                board.count(old);
-            }
+            force(rt, queue, party, board, number);
             true
         }
-        Role::PushByTurns | Role::PopByTurns | Role::Drain => true,
-    }
-}
-
-/// One turn of a thread. Gives false where what had to be found was not.
-fn turn<A: NullTestable, R: Wait>(
-    rt: &R,
-    queue: &ConcurrentQueue<u64, A>,
-    mut party: Party<u64>,
-    board: &Board,
-    role: Role,
-    number: u64,
-) -> (Party<u64>, bool)
-    requires { IsPartyOf party queue.now }
-    ensures { IsPartyOf result.0 queue.now }
-{
-    match role {
-        Role::PushByTurns => {
-            let party = answer_surely(rt, queue, party, board, Call::Push(number));
-            (party, true)
-        }
-        Role::PopByTurns => {
-            let party = answer_surely(rt, queue, party, board, Call::Pop);
-            (party, true)
-        }
-        _ => {
-            let right = waiting_turn(rt, queue, &mut party, board, role, number);
-            (party, right)
-        }
+        Role::Drain => true,
     }
 }
 
@@ -356,9 +356,7 @@ pub(crate) fn act<A: NullTestable, R: Wait>(
     let (role, first, end) = assignment;
     let mut right = board.come();
     for number in first..end {
-        let (after, found) = turn(rt, queue, party, board, role, number);
-        party = after;
-        right = found && right;
+        right = turn(rt, queue, &mut party, board, role, number) && right;
     }
     match role {
         Role::Force => {

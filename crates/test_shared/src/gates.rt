@@ -4,7 +4,7 @@ ghost use Rattle.concurrent_queue.specs.Shared.{IsPartyOf};
 use call_driver::gate::Gate;
 use concurrent_queue::{ConcurrentQueue, NullTestable, Party};
 use queue_steps::model::{Call, Reply};
-use queue_steps::steps::{Link, Op, READ, WRITE, Word};
+use queue_steps::steps::{Link, Op, Word};
 use shared_chain::source::Granting;
 use std::sync::Wait;
 use std::sync::atomic::{AtomicBool, Ordering};
@@ -12,7 +12,7 @@ use test_support::allocators::Heap;
 use test_support::signs::wait_for;
 
 /// What tells the fast steps of the calls that pass a gate from those of other callers.
-struct Told;
+pub(crate) struct Told;
 
 /// What the two threads of a story show each other.
 #[derive(Drop)]
@@ -23,6 +23,8 @@ pub(crate) struct Signs {
     pub(crate) met: AtomicBool,
     /// The held call goes on, after that was so while it was held.
     pub(crate) let_go: AtomicBool,
+    /// The held call has its reply.
+    pub(crate) ended: AtomicBool,
 }
 
 impl Signs {
@@ -31,54 +33,64 @@ impl Signs {
             held: AtomicBool::new(false),
             met: AtomicBool::new(false),
             let_go: AtomicBool::new(false),
+            ended: AtomicBool::new(false),
         }
     }
 }
 
-/// Whether this is the operation of a step, by the step's name in `docs/STEPS.md`. Those before which no story holds a call are left out.
-fn is_step<B: Copy>(step: &str, op: &Op<B>) -> bool {
-    match step {
-        "P2" | "F2" | "O2" => matches!(op, Op::And(Word::Lock, _)),
-        "B1" => matches!(op, Op::Load(Word::Tail)),
-        "O1" => matches!(op, Op::Load(Word::Head)),
-        "B4" | "O4" => matches!(op, Op::Store(Word::Stamp(_), _)),
-        "F6" => matches!(op, Op::Add(Word::Tail, _)),
-        "U6" => matches!(op, Op::StoreLink(Link::TailBlock, _)),
-        "U9" => matches!(op, Op::Or(Word::State(_, _), WRITE)),
-        "V10" => matches!(op, Op::Or(Word::State(_, _), READ)),
-        _ => false,
+/// What tells a word, of whichever block: its place in `Word`, and its slot.
+fn key_of_word<B: Copy>(word: &Word<B>) -> (u64, usize) {
+    match word {
+        Word::Lock => (0, 0),
+        Word::Head => (1, 0),
+        Word::Tail => (2, 0),
+        Word::Stamp(slot) => (3, *slot),
+        Word::State(_, slot) => (4, *slot),
     }
 }
 
-/// The step to which a call on a ring comes again while it waits for an item that is coming.
-fn again<T>(call: &Call<T>) -> &'static str {
-    match call {
-        Call::Pop => "O1",
-        _ => "B1",
+/// What tells an operation before which a call is held or comes again, of whichever block: its place in `Op`, its word and its value.
+fn key_of<B: Copy>(op: &Op<B>) -> Option<(u64, (u64, usize), u64)> {
+    match op {
+        Op::Load(word) => Some((0, key_of_word(word), 0)),
+        Op::Store(word, value) => Some((1, key_of_word(word), *value)),
+        Op::Add(word, value) => Some((2, key_of_word(word), *value)),
+        Op::Or(word, value) => Some((3, key_of_word(word), *value)),
+        Op::And(word, value) => Some((4, key_of_word(word), *value)),
+        Op::StoreLink(Link::TailBlock, _) => Some((7, (0, 0), 0)),
+        _ => None,
     }
 }
 
-/// What a call does at the step of its gate.
+/// Whether this is that operation, of whichever block.
+fn is_operation<B: Copy>(op: &Op<B>, that: &Op<()>) -> bool {
+    let key = key_of(op);
+    key.is_some() && key == key_of(that)
+}
+
+/// What a call does at the operation of its gate.
 #[derive(Drop)]
-enum Part<'a> {
+pub(crate) enum Part<'a> {
     /// It is held until the other party's calls are answered, or have met it. A request of theirs that is held here goes on once the call is held.
-    Held(&'a Heap),
+    Held(Option<&'a Heap>),
     /// It waits: when it comes there again it has found the held call in its way, and that one may go on.
     Waits(AtomicBool),
 }
 
 /// The gate of a held call, or of a call that waits for it.
 #[derive(Drop)]
-struct Meeting<'a> {
-    step: &'a str,
-    part: Part<'a>,
-    signs: &'a Signs,
+pub(crate) struct Meeting<'a> {
+    pub(crate) at: &'a Op<()>,
+    pub(crate) part: Part<'a>,
+    pub(crate) signs: &'a Signs,
 }
 
 /// Holds a call until the other party's calls are answered, or have met it.
-fn hold(signs: &Signs, heap: &Heap) {
+fn hold(signs: &Signs, heap: Option<&Heap>) {
     signs.held.store(true, Ordering::SeqCst);
-    heap.let_go();
+    if let Some(heap) = heap {
+        heap.let_go();
+    }
     let met = wait_for(&signs.met);
     signs.let_go.store(met, Ordering::SeqCst);
 }
@@ -92,7 +104,7 @@ fn come(signs: &Signs, came: &AtomicBool) {
 
 impl Gate for Meeting<'_> {
     fn pass<B: Copy>(&self, op: &Op<B>) {
-        if is_step(self.step, op) {
+        if is_operation(op, self.at) {
             match &self.part {
                 Part::Held(heap) => hold(self.signs, *heap),
                 Part::Waits(came) => come(self.signs, came),
@@ -101,43 +113,22 @@ impl Gate for Meeting<'_> {
     }
 }
 
-/// Makes a call that is held before this step, until it is let go by these signs. It lets the request go that is held, if there is one: then, or when it has ended. Where it is to begin once asked, it waits for that request.
+/// Makes a call that is held before this operation, until it is let go by these signs. It lets the request go then that is held, if there is one.
 pub(crate) fn call_held<'a, T, A: NullTestable, R: Wait>(
     rt: &R,
     queue: &ConcurrentQueue<T, A>,
     mut party: Party<T>,
     call: Call<T>,
-    step: &'a str,
+    at: &'a Op<()>,
     signs: &'a Signs,
-    heap: &'a Heap,
-    once_asked: bool,
+    heap: Option<&'a Heap>,
 ) -> (Party<T>, Reply<T>)
     requires { IsPartyOf party queue.now }
     ensures { IsPartyOf result.0 queue.now }
 {
-    if once_asked {
-        heap.comes_to_hold();
-    }
     let part = Part::Held(heap);
-    let gate = Meeting { step, part, signs };
+    let gate = Meeting { at, part, signs };
     let reply = queue.answer::<Granting, R, Meeting<'_>, Told>(rt, &gate, &mut party, call);
-    heap.let_go();
+    signs.ended.store(true, Ordering::SeqCst);
     (party, reply)
-}
-
-/// Makes a call on a ring that has to wait, and lets the held call go on once it comes again to where it waits.
-pub(crate) fn call_waiting<T, A: NullTestable, R: Wait>(
-    rt: &R,
-    queue: &ConcurrentQueue<T, A>,
-    party: &mut Party<T>,
-    call: Call<T>,
-    signs: &Signs,
-) -> Reply<T>
-    requires { IsPartyOf party.old queue.now }
-    ensures { IsPartyOf party.new queue.now }
-{
-    let step = again(&call);
-    let part = Part::Waits(AtomicBool::new(false));
-    let gate = Meeting { step, part, signs };
-    queue.answer::<Granting, R, Meeting<'_>, Told>(rt, &gate, party, call)
 }

@@ -1,19 +1,17 @@
-//! Items that have a number, and are counted until they are dropped.
-use test_support::items::{Counted, Items};
+//! Items whose copies are counted.
+use std::alloc::Global;
+use std::process::Abort;
+use std::sync::Arc;
 
-/// An item.
-#[derive(Drop)]
-pub(crate) struct Item<'a> {
-    pub(crate) number: u64,
-    counted: Counted<'a>,
+/// An item. There are as many as its count says.
+pub(crate) type Item = Arc<u64>;
+
+/// An item, of which there is no other. Asserts that there is memory.
+pub(crate) fn first_item(rt: &impl Abort, alloc: Global) -> Item {
+    Arc::new(alloc, 0).expect(rt, "memory")
 }
 
-impl<'a> Item<'a> {
-    /// An item that is counted among these.
-    pub(crate) fn new(items: &'a Items, number: u64) -> Item<'a> {
-        Item {
-            number,
-            counted: Counted::of(items),
-        }
-    }
+/// One item more. Asserts that there is memory.
+pub(crate) fn item_of(rt: &impl Abort, item: &Item) -> Item {
+    item.clone().expect(rt, "memory")
 }

@@ -14,6 +14,8 @@ mod items;
 #[cfg(test)]
 mod opening;
 #[cfg(test)]
+mod pending;
+#[cfg(test)]
 mod shared;
 #[cfg(test)]
 mod stories;

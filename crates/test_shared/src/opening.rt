@@ -4,15 +4,11 @@ ghost use Rattle.queue_steps.specs.Shares.{entire};
 ghost use Rattle.concurrent_queue.specs.Shared.{IsPartyOf};
 
 use crate::asserts::is;
-use crate::items::Item;
+use crate::crew::{Deed, find_each};
 use concurrent_queue::{ConcurrentQueue, Exclusive, NullTestable, Party};
 use std::alloc::{AllocError, Allocator};
 use std::process::Abort;
 use std::sync::Wait;
-use test_support::items::Items;
-
-/// A queue of numbers.
-pub(crate) type Queue = ConcurrentQueue<u64>;
 
 /// A queue and its only party, where there was memory.
 pub(crate) type Opened<T, A> = Result<(ConcurrentQueue<T, A>, Party<T>), AllocError>;
@@ -61,21 +57,21 @@ pub(crate) fn part<T: Drop, A: Allocator>(
     }
 }
 
-/// Pushes the items 1 to so many. Asserts that each is accepted.
-pub(crate) fn fill<'a, A: NullTestable, R: Wait + Abort>(
+/// A queue into which so many numbers are pushed, from 1 on, and two parties. Asserts that each is accepted.
+pub(crate) fn open_filled<A: NullTestable + Clone, R: Wait + Abort>(
     rt: &R,
-    items: &'a Items,
-    queue: &ConcurrentQueue<Item<'a>, A>,
-    party: &mut Party<Item<'a>>,
-    count: u64,
-)
-    requires { IsPartyOf party.old queue.now }
-    ensures { IsPartyOf party.new queue.now }
+    alloc: A,
+    cap: Option<usize>,
+    pushed: u64,
+) -> (ConcurrentQueue<u64, A>, Party<u64>, Party<u64>)
+    ensures { IsPartyOf result.1 result.0 × IsPartyOf result.2 result.0 }
 {
-    for before in 0..count {
-        let item = Item::new(items, before.wrapping_add(1));
-        is(rt, queue.push(rt, party, item).is_ok(), true);
-    }
+    let (queue, mut party) = open_surely(rt, alloc, cap);
+    let numbers = 1..pushed.wrapping_add(1);
+    let filled = find_each(rt, &queue, &mut party, Deed::PushOnce, numbers);
+    is(rt, filled, true);
+    let (first, second) = part(rt, &queue, party);
+    (queue, first, second)
 }
 
 /// Ends the sharing. Asserts that it ends.

@@ -7,4 +7,3 @@ pub mod left;
 pub mod lengths;
 pub mod refusals;
 pub mod threads;
-pub mod trying;

@@ -4,40 +4,39 @@ ghost use Rattle.concurrent_queue.specs.Shared.{IsPartyOf};
 
 use crate::asserts::is_in;
 use crate::crew::{pop_one, push_one};
-use crate::items::Item;
+use crate::items::{Item, first_item, item_of};
 use crate::opening::{open_surely, part};
 use concurrent_queue::{ConcurrentQueue, NullTestable, Party};
 use std::alloc::{Allocator, Global};
 use std::process::Abort;
-use std::sync::Wait;
+use std::sync::{Arc, Wait};
 use std::thread::{Threads, join};
 use test_support::allocators::{Heap, Refusal};
-use test_support::items::Items;
 
 /// Pushes so many items.
-fn push_all<'a, A: NullTestable, R: Wait>(
+fn push_all<A: NullTestable, R: Wait + Abort>(
     rt: &R,
-    queue: &ConcurrentQueue<Item<'a>, A>,
-    mut party: Party<Item<'a>>,
-    items: &'a Items,
+    queue: &ConcurrentQueue<Item, A>,
+    mut party: Party<Item>,
+    item: &Item,
     count: u64,
-) -> Party<Item<'a>>
+) -> Party<Item>
     requires { IsPartyOf party queue.now }
     ensures { IsPartyOf result queue.now }
 {
     for _ in 0..count {
-        push_one(rt, queue, &mut party, Item::new(items, 0));
+        push_one(rt, queue, &mut party, item_of(rt, item));
     }
     party
 }
 
 /// Pops so many items, and drops them.
-fn pop_all<'a, A: Allocator, R: Wait>(
+fn pop_all<A: Allocator, R: Wait>(
     rt: &R,
-    queue: &ConcurrentQueue<Item<'a>, A>,
-    mut party: Party<Item<'a>>,
+    queue: &ConcurrentQueue<Item, A>,
+    mut party: Party<Item>,
     count: u64,
-) -> Party<Item<'a>>
+) -> Party<Item>
     requires { IsPartyOf party queue.now }
     ensures { IsPartyOf result queue.now }
 {
@@ -48,50 +47,50 @@ fn pop_all<'a, A: Allocator, R: Wait>(
 }
 
 /// One thread pushes so many items, and another one pops as many as these, and drops them.
-fn push_and_pop<'a, A: NullTestable + Send + Sync, R: Wait + Threads + Sync + Abort>(
+fn push_and_pop<A: NullTestable + Send + Sync, R: Wait + Threads + Sync + Abort>(
     rt: &R,
-    queue: &ConcurrentQueue<Item<'a>, A>,
-    party: Party<Item<'a>>,
-    items: &'a Items,
+    queue: &ConcurrentQueue<Item, A>,
+    party: Party<Item>,
+    item: &Item,
     pushed: u64,
     popped: u64,
-) -> Party<Item<'a>>
+) -> Party<Item>
     requires { IsPartyOf party queue.now }
     ensures { IsPartyOf result queue.now }
 {
     let (a, b) = part(rt, queue, party);
     let (a, b) = join(
         rt,
-        || push_all(rt, queue, a, items, pushed),
+        || push_all(rt, queue, a, item, pushed),
         || pop_all(rt, queue, b, popped),
     );
     queue.join(a, b)
 }
 
-/// Pops and drops so many items while another thread pushes them and as many more as are left in a queue of this capacity, or without one, and drops the queue. Gives how many items there are while it has its party, once that is dropped, and once the queue is.
+/// Pops and drops so many items while another thread pushes them and as many more as are left in a queue of this capacity, or without one, and drops the queue. Gives how many items there are, with one that is in no queue, while it has its party, once that is dropped, and once the queue is.
 fn items_left<R: Wait + Threads + Sync + Abort>(
     rt: &R,
     alloc: Global,
     cap: Option<usize>,
     popped: u64,
     left: u64,
-) -> [u64; 3] {
+) -> [usize; 3] {
     let heap = Heap::new(alloc, Refusal::Never);
-    let items = Items::none();
+    let item = first_item(rt, alloc);
     let (queue, party) = open_surely(rt, &heap, cap);
     let pushed = popped.wrapping_add(left);
-    let party = push_and_pop(rt, &queue, party, &items, pushed, popped);
-    let shared = items.alive();
+    let party = push_and_pop(rt, &queue, party, &item, pushed, popped);
+    let shared = Arc::strong_count(&item);
     drop(party);
-    let without_a_party = items.alive();
+    let without_a_party = Arc::strong_count(&item);
     drop(queue);
-    [shared, without_a_party, items.alive()]
+    [shared, without_a_party, Arc::strong_count(&item)]
 }
 
 #[test]
 fn every_item_once(rt: HostRuntime) {
-    for (cap, left) in [(Some(1), 1), (Some(50), 20), (None, 77)] {
+    for (cap, left, wanted) in [(Some(1), 1, 2), (Some(50), 20, 21), (None, 77, 78)] {
         let seen = items_left(&rt, rt.alloc(), cap, 1000, left);
-        is_in(&rt, cap, seen, [left, left, 0]);
+        is_in(&rt, cap, seen, [wanted, wanted, 1]);
     }
 }

@@ -2,8 +2,9 @@
 ghost use Rattle.concurrent_queue.specs.Shared.{IsPartyOf};
 
 use crate::asserts::{is, is_in};
+use crate::calls::Queue;
 use crate::crew::{Deed, find_each};
-use crate::opening::{Queue, open_surely, part};
+use crate::opening::{open_surely, part};
 use concurrent_queue::Party;
 use std::alloc::Global;
 use std::process::Abort;

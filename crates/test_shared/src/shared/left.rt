@@ -3,8 +3,9 @@ ghost use Rattle.std.specs.Prelude.{◌<◌};
 ghost use Rattle.concurrent_queue.specs.Shared.{IsPartyOf};
 
 use crate::asserts::is_in;
+use crate::calls::Queue;
 use crate::crew::{Assignment, Board, Deed, Role, act};
-use crate::opening::{Queue, open_surely, part};
+use crate::opening::{open_surely, part};
 use concurrent_queue::{Exclusive, Party};
 use std::alloc::{Allocator, Global};
 use std::process::Abort;

@@ -2,8 +2,9 @@
 ghost use Rattle.concurrent_queue.specs.Shared.{IsPartyOf};
 
 use crate::asserts::is_in;
+use crate::calls::Queue;
 use crate::crew::{Deed, find};
-use crate::opening::{Queue, open_surely};
+use crate::opening::open_surely;
 use concurrent_queue::Party;
 use std::alloc::Global;
 use std::process::Abort;

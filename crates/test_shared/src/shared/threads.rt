@@ -10,7 +10,9 @@ use std::thread::Threads;
 /// What threads do at a queue of each of some capacities.
 struct CrewCase {
     caps: &'static [Option<usize>],
+    /// The assignments of one thread and so many others.
     assignments: &'static [Assignment],
+    others: u64,
     /// How often each value is counted.
     times: u64,
 }
@@ -33,6 +35,7 @@ const DRAIN: Assignment = (Role::Drain, 0, TURNS);
 static IN_ORDER: CrewCase = CrewCase {
     caps: &KINDS,
     assignments: &[PUSH, (Role::Each(Deed::PopInOrder), 0, TURNS)],
+    others: 1,
     times: 0,
 };
 
@@ -42,51 +45,36 @@ static WITHIN: CrewCase = CrewCase {
         (Role::EachWithin(Deed::Push, 1000), 0, TURNS),
         (Role::EachWithin(Deed::PopInOrder, 1000), 0, TURNS),
     ],
+    others: 1,
     times: 0,
 };
 
 static FOUR_AND_FOUR: CrewCase = CrewCase {
     caps: &KINDS,
     assignments: &[PUSH, POP, PUSH, POP, PUSH, POP, PUSH, POP],
+    others: 7,
     times: 4,
 };
 
 static LINEARIZABLE: CrewCase = CrewCase {
     caps: &[Some(1), Some(4), None],
     assignments: &[PUSH_AND_POP, FORCE_AND_POP, FORCE_AND_POP, PUSH_AND_POP],
+    others: 3,
     times: 0,
 };
 
 static ONE_RING_BUFFER: CrewCase = CrewCase {
     caps: &KINDS,
     assignments: &[FORCE, DRAIN],
+    others: 1,
     times: 1,
 };
 
 static FOUR_RING_BUFFERS: CrewCase = CrewCase {
     caps: &KINDS,
     assignments: &[FORCE, DRAIN, FORCE, DRAIN, FORCE, DRAIN, FORCE, DRAIN],
+    others: 7,
     times: 4,
-};
-
-/// The values of a thread of four that push.
-const QUARTER: u64 = TURNS / 4;
-
-const POP_BY_TURNS: Assignment = (Role::PopByTurns, 0, QUARTER);
-
-static BY_TURNS: CrewCase = CrewCase {
-    caps: &KINDS,
-    assignments: &[
-        (Role::PushByTurns, 0, QUARTER),
-        POP_BY_TURNS,
-        (Role::PushByTurns, QUARTER, 2 * QUARTER),
-        POP_BY_TURNS,
-        (Role::PushByTurns, 2 * QUARTER, 3 * QUARTER),
-        POP_BY_TURNS,
-        (Role::PushByTurns, 3 * QUARTER, TURNS),
-        POP_BY_TURNS,
-    ],
-    times: 1,
 };
 
 /// Lets threads work at a queue of this capacity, or without one. Asserts that they ran at one time, that each got what it had to, that each value was counted so often, and that nothing is left.
@@ -98,8 +86,7 @@ fn works_at<R: Wait + Threads + Sync + Abort>(
 ) {
     let board = Board::of(rt, alloc, case.assignments.len(), TURNS);
     let (queue, party) = open_surely(rt, alloc, cap);
-    let others = case.assignments.len().saturating_sub(1) as u64;
-    let (party, right) = crew(rt, &queue, party, &board, case.assignments, others);
+    let (party, right) = crew(rt, &queue, party, &board, case.assignments, case.others);
     let left = end(rt, queue, party);
     let seen = (right, board.each_came(case.times), left.len());
     is_in(rt, cap, seen, (true, true, 0));
@@ -125,11 +112,6 @@ fn no_length_above_the_capacity(rt: HostRuntime) {
 #[test]
 fn four_pushers_and_four_poppers(rt: HostRuntime) {
     works(&rt, rt.alloc(), &FOUR_AND_FOUR);
-}
-
-#[test]
-fn four_and_four_threads_that_never_wait(rt: HostRuntime) {
-    works(&rt, rt.alloc(), &BY_TURNS);
 }
 
 #[test]
