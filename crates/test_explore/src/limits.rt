@@ -10,37 +10,54 @@ use test_support::runs::words;
 
 /// A program with waits, and how many states it has: `bench/outcomes --states` counts them.
 struct Limit {
-    /// The first of the arguments.
-    kind: &'static str,
+    /// All that may be told of it.
+    lines: [&'static str; 5],
     input: &'static str,
     states: usize,
 }
 
 static LIMITS: [Limit; 4] = [
     Limit {
-        kind: "bounded:2",
+        lines: RING,
         input: "before: push 1; push 2\n0: push 3\n1: pop\n",
         states: 33,
     },
     Limit {
-        kind: "bounded:2",
+        lines: RING,
         input: "before: push 1; push 2\n0: push 3; pop\n1: pop; push 4\n2: len\n",
         states: 1_621,
     },
     Limit {
-        kind: "unbounded",
+        lines: [
+            "unbounded",
+            "unbounded schedule 1",
+            "unbounded lanes 1",
+            "unbounded waits",
+            "unbounded waits 1",
+        ],
         input: "before: push 1\n0: push 2; pop\n1: pop; push 3\n",
         states: 264,
     },
     Limit {
-        kind: "unbounded refuse",
+        lines: [
+            "unbounded refuse",
+            "unbounded refuse schedule 1",
+            "unbounded refuse lanes 1",
+            "unbounded refuse waits",
+            "unbounded refuse waits 1",
+        ],
         input: "0: push 1\n1: pop\n",
         states: 59,
     },
 ];
 
-/// All that may be told of each.
-const TELLINGS: [&str; 5] = ["", "schedule 1", "lanes 1", "waits", "waits 1"];
+const RING: [&str; 5] = [
+    "bounded:2",
+    "bounded:2 schedule 1",
+    "bounded:2 lanes 1",
+    "bounded:2 waits",
+    "bounded:2 waits 1",
+];
 
 /// What comes of a program where so many states may be looked at.
 fn comes_of(rt: &impl Abort, alloc: Global, line: &str, input: &str, most_states: usize) -> Comes {
@@ -71,9 +88,8 @@ fn is_limited(rt: &impl Abort, alloc: Global, line: &str, limit: &Limit) {
 #[test]
 fn as_many_states_as_may_be_and_one_more(rt: HostRuntime) {
     for limit in &LIMITS {
-        for telling in &TELLINGS {
-            let line = format!(in rt.alloc(); "{} {telling}", limit.kind).expect(&rt, "memory");
-            is_limited(&rt, rt.alloc(), line.as_str(), limit);
+        for line in &limit.lines {
+            is_limited(&rt, rt.alloc(), line, limit);
         }
     }
 }

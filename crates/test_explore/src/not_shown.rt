@@ -23,7 +23,6 @@ use std::process::Abort;
 const PROGRAM: &str = "0: pop\n1: push 1\n";
 
 /// What is changed of what was found.
-#[derive(Debug)]
 enum Change {
     Nothing,
     /// The last link is missing.
@@ -204,25 +203,35 @@ fn answers(rt: &impl Abort, alloc: Global, change: &Change) -> (bool, Comes) {
 }
 
 /// Each change, whether the table still shows that the outcomes are all, and what comes of the list.
-static CHANGES: [(Change, bool, Comes); 12] = [
-    (Change::Nothing, true, Comes::Text),
-    (Change::OutcomeLost, false, Comes::Text),
-    (Change::EdgeLost, false, Comes::NotShown),
-    (Change::LinkBent, false, Comes::NotShown),
-    (Change::StateLost, false, Comes::NotShown),
-    (Change::StartMoved, false, Comes::NotShown),
-    (Change::ScheduleLost, true, Comes::NotShown),
-    (Change::ScheduleTwice, true, Comes::NotShown),
-    (Change::SchedulesTurned, true, Comes::Text),
-    (Change::MoveLost, true, Comes::NotShown),
-    (Change::PartyUnknown, true, Comes::NotShown),
-    (Change::MoveRefused, true, Comes::NotShown),
+static CHANGES: [(&str, Change, bool, Comes); 12] = [
+    ("nothing", Change::Nothing, true, Comes::Text),
+    ("outcome lost", Change::OutcomeLost, false, Comes::Text),
+    ("link lost", Change::EdgeLost, false, Comes::NotShown),
+    ("link bent", Change::LinkBent, false, Comes::NotShown),
+    ("state lost", Change::StateLost, false, Comes::NotShown),
+    ("start moved", Change::StartMoved, false, Comes::NotShown),
+    ("schedule lost", Change::ScheduleLost, true, Comes::NotShown),
+    (
+        "schedule twice",
+        Change::ScheduleTwice,
+        true,
+        Comes::NotShown,
+    ),
+    (
+        "schedules turned",
+        Change::SchedulesTurned,
+        true,
+        Comes::Text,
+    ),
+    ("move lost", Change::MoveLost, true, Comes::NotShown),
+    ("party unknown", Change::PartyUnknown, true, Comes::NotShown),
+    ("move refused", Change::MoveRefused, true, Comes::NotShown),
 ];
 
 #[test]
 fn what_was_found_wrong_is_not_shown(rt: HostRuntime) {
-    for (change, checked, listed) in &CHANGES {
+    for (name, change, checked, listed) in &CHANGES {
         let found = answers(&rt, rt.alloc(), change);
-        is_in(&rt, change, found, (*checked, *listed));
+        is_in(&rt, *name, found, (*checked, *listed));
     }
 }

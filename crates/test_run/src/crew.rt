@@ -3,28 +3,21 @@ ghost use Rattle.std.specs.Prelude.{◌≡◌, ◌<◌, ◌+◌, ◌*◌, ◌^�
 ghost use Rattle.concurrent_queue.specs.Shared.{IsPartyOf};
 
 use crate::asserts::is_in;
-use app_threads::counts::judge;
+use app_threads::counts::{Finding, judge};
 use app_threads::crew::{Plan, WorkResult, run_all};
 use app_threads::limit::NO_LIMIT;
 use concurrent_queue::{ConcurrentQueue, Party};
 use std::alloc::AllocError;
 use std::process::Abort;
 use std::sync::Wait;
-use std::thread::{Threads, join, yield_now};
+use std::thread::Threads;
 use test_support::allocators::{Heap, Refusal};
 
 /// A queue that asks such a heap for its memory.
 pub type Queue<'a> = ConcurrentQueue<u64, &'a Heap>;
 
-/// When another party closes the queue.
-#[derive(Clone, Copy)]
-pub enum Closing {
-    Never,
-    /// Before the threads begin.
-    Before,
-    /// While they work.
-    Meanwhile,
-}
+/// What is seen of a crew: whether all was done, what the counts show, and how many items are left, in a queue that is open or not; nothing of them where a party is missing.
+pub type Seen = (bool, Finding, Option<(usize, bool)>);
 
 /// What a crew is given, and what is to be seen of it.
 pub struct Row {
@@ -37,7 +30,8 @@ pub struct Row {
     pub holds: bool,
     /// What the queue has before.
     pub before: &'static [u64],
-    pub closing: Closing,
+    /// Whether it is closed before.
+    pub closed: bool,
     pub pushers: u64,
     pub poppers: u64,
     pub items: u64,
@@ -45,7 +39,8 @@ pub struct Row {
     pub share: u64,
     /// How often each item is to come.
     pub times: u64,
-    pub seen: &'static str,
+    /// Nothing where there is no memory for the queue.
+    pub seen: Option<Seen>,
 }
 
 impl Row {
@@ -59,13 +54,6 @@ impl Row {
             limit: NO_LIMIT,
         }
     }
-
-    /// What is seen of the work of its threads, in words.
-    pub fn told<R: Abort + AllocGlobal>(&self, rt: &R, work: &WorkResult) -> String {
-        let finding = judge(self.times, &work.counts);
-        let done = if work.done { "all done" } else { "not done" };
-        format!(in rt.alloc(); "{finding}, {done}").expect(rt, "memory")
-    }
 }
 
 /// No threads, on a queue without a capacity.
@@ -75,83 +63,89 @@ pub const IDLE: Row = Row {
     refusal: Refusal::Never,
     holds: false,
     before: &[],
-    closing: Closing::Never,
+    closed: false,
     pushers: 0,
     poppers: 0,
     items: 0,
     share: 0,
     times: 0,
-    seen: "nothing",
+    seen: None,
 };
 
-/// No threads, on a slot that was closed before.
-const CLOSED: Row = Row {
-    cap: Some(1),
-    closing: Closing::Before,
-    items: 2,
-    share: 2,
-    seen: "2 values, each counted 0 times, not done, left 0 closed",
-    ..IDLE
-};
+/// Nothing of two items is done on a queue that was closed before.
+const NOTHING: Option<Seen> = Some((
+    false,
+    Finding::Right {
+        values: 2,
+        times: 0,
+    },
+    Some((0, false)),
+));
 
-/// A thread that pushes one item, on a queue whose first block may be refused.
-pub const PUSHER: Row = Row {
-    pushers: 1,
-    items: 1,
-    share: 2,
-    ..IDLE
-};
-
-static ROWS: [Row; 12] = [
+static ROWS: [Row; 10] = [
     Row {
         name: "nothing_is_done_on_a_closed_queue, by pushers",
+        cap: Some(1),
+        closed: true,
         pushers: 3,
-        ..CLOSED
+        items: 2,
+        share: 2,
+        seen: NOTHING,
+        ..IDLE
     },
     Row {
         name: "nothing_is_done_on_a_closed_queue, by poppers",
+        cap: Some(1),
+        closed: true,
         poppers: 3,
-        ..CLOSED
+        items: 2,
+        share: 2,
+        seen: NOTHING,
+        ..IDLE
     },
     Row {
         name: "nothing_is_done_on_a_closed_queue, by both",
+        cap: Some(1),
+        closed: true,
         pushers: 2,
         poppers: 2,
-        ..CLOSED
-    },
-    Row {
-        name: "a_close_ends_threads_that_wait, for a place that nobody makes free",
-        before: &[1],
-        closing: Closing::Meanwhile,
-        pushers: 3,
-        seen: "2 values, each counted 0 times, not done, left 1 closed",
-        ..CLOSED
-    },
-    Row {
-        name: "a_close_ends_threads_that_wait, for items that nobody pushes",
-        closing: Closing::Meanwhile,
-        poppers: 3,
-        ..CLOSED
+        items: 2,
+        share: 2,
+        seen: NOTHING,
+        ..IDLE
     },
     // The item that a closed queue still has is popped and counted; then the poppers find it closed.
     Row {
         name: "what_a_closed_queue_has_is_counted",
+        cap: Some(1),
         before: &[1],
+        closed: true,
         pushers: 1,
         poppers: 2,
+        items: 2,
         share: 1,
-        seen: "value 1 counted 1 times, not done, left 0 closed",
-        ..CLOSED
+        seen: Some((
+            false,
+            Finding::Wrong { value: 1, times: 1 },
+            Some((0, false)),
+        )),
+        ..IDLE
     },
     Row {
         name: "no_popper_pops_more_than_its_share",
         cap: Some(5),
         before: &[0, 1, 2, 3, 4],
+        closed: true,
         poppers: 2,
         items: 5,
+        share: 2,
         times: 1,
-        seen: "value 4 counted 0 times, all done, left 1 closed",
-        ..CLOSED
+        seen: Some((
+            true,
+            Finding::Wrong { value: 4, times: 0 },
+            Some((1, false)),
+        )),
+        ..IDLE
     },
     // All parties are joined again at the end of a run, and nothing is left.
     Row {
@@ -162,7 +156,14 @@ static ROWS: [Row; 12] = [
         items: 100,
         share: 200,
         times: 4,
-        seen: "100 values, each counted 4 times, all done, left 0 open",
+        seen: Some((
+            true,
+            Finding::Right {
+                values: 100,
+                times: 4,
+            },
+            Some((0, true)),
+        )),
         ..IDLE
     },
     // While one thread's push waits for the first block, another thread's push asks for it too. On one thread no other call is made before that push is answered.
@@ -171,26 +172,56 @@ static ROWS: [Row; 12] = [
         holds: true,
         pushers: 2,
         items: 1,
-        seen: "1 values, each counted 0 times, all done, left 2 open",
+        seen: Some((
+            true,
+            Finding::Right {
+                values: 1,
+                times: 0,
+            },
+            Some((2, true)),
+        )),
         ..IDLE
     },
     // The first request is for the queue, and the next one for a block. A thread that is refused a block reports that not all was done.
     Row {
         name: "an_item_without_a_block_is_not_done, without a queue",
         refusal: Refusal::Nth(1),
-        ..PUSHER
+        pushers: 1,
+        items: 1,
+        share: 2,
+        ..IDLE
     },
     Row {
         name: "an_item_without_a_block_is_not_done",
         refusal: Refusal::Nth(2),
-        seen: "1 values, each counted 0 times, not done, left 0 closed",
-        ..PUSHER
+        pushers: 1,
+        items: 1,
+        share: 2,
+        seen: Some((
+            false,
+            Finding::Right {
+                values: 1,
+                times: 0,
+            },
+            Some((0, false)),
+        )),
+        ..IDLE
     },
     Row {
         name: "an_item_without_a_block_is_not_done, with a block",
         refusal: Refusal::Nth(3),
-        seen: "1 values, each counted 0 times, all done, left 1 open",
-        ..PUSHER
+        pushers: 1,
+        items: 1,
+        share: 2,
+        seen: Some((
+            true,
+            Finding::Right {
+                values: 1,
+                times: 0,
+            },
+            Some((1, true)),
+        )),
+        ..IDLE
     },
 ];
 
@@ -220,6 +251,26 @@ fn push_each<R: Abort + Wait>(rt: &R, queue: &Queue<'_>, party: &mut Party<u64>,
     }
 }
 
+/// Makes a queue what it is to be before the threads begin.
+fn prepare<R: Abort + Wait>(
+    rt: &R,
+    heap: &Heap,
+    queue: &Queue<'_>,
+    party: &mut Party<u64>,
+    row: &Row,
+)
+    requires { IsPartyOf party.old queue.now }
+    ensures { IsPartyOf party.new queue.now }
+{
+    push_each(rt, queue, party, row.before);
+    if row.closed {
+        queue.close(party);
+    }
+    if row.holds {
+        heap.hold_until_another();
+    }
+}
+
 /// Whether there are so few threads that all that they pop can be counted.
 pub fn are_few(plan: Plan) -> bool
     ensures { result ≡ true → (plan.pushers + plan.poppers < 2 ^ 64) × ((plan.pushers + plan.poppers) * plan.share < 2 ^ 64) }
@@ -246,102 +297,40 @@ fn work_of<R: Abort + Threads + Wait + Sync + AllocGlobal>(
     run_all(rt, rt.alloc(), queue, party, plan).expect(rt, "memory for the counts")
 }
 
-/// Closes the queue after a while.
-fn close_later(queue: &Queue<'_>, mut party: Party<u64>) -> Party<u64>
-    requires { IsPartyOf party queue.now }
-    ensures { IsPartyOf result queue.now }
+/// How many items are left once all parties are joined, and whether the queue is open; nothing where a party is missing.
+fn left(queue: Queue<'_>, party: Party<u64>) -> Option<(usize, bool)>
+    requires { IsPartyOf party queue }
 {
-    for _ in 0..1000u64 {
-        yield_now();
+    match queue.finish(party) {
+        Ok(alone) => Some((alone.len(), !alone.is_closed())),
+        Err(_) => None,
     }
-    queue.close(&mut party);
-    party
 }
 
-/// Runs the threads of a plan, and closes the queue meanwhile.
-fn work_beside_a_close<R: Abort + Threads + Wait + Sync + AllocGlobal>(
-    rt: &R,
-    queue: &Queue<'_>,
-    party: Party<u64>,
-    plan: Plan,
-) -> WorkResult
-    requires { IsPartyOf party queue.now }
-    ensures { IsPartyOf result.party queue.now }
+/// What is seen of work on a queue.
+fn seen_of(queue: Queue<'_>, work: WorkResult, times: u64) -> Seen
+    requires { IsPartyOf work.party queue }
 {
-    let Ok((first, closer)) = queue.split(party) else {
-        panic!(rt; "no second party")
-    };
-    let (work, closer) = join(
-        rt,
-        || work_of(rt, queue, first, plan),
-        || close_later(queue, closer),
-    );
     let WorkResult {
         party,
         counts,
         done,
     } = work;
-    WorkResult {
-        party: queue.join(party, closer),
-        counts,
-        done,
-    }
-}
-
-/// Lets the threads of a row work on its queue, which may be closed before or meanwhile.
-fn work_on<R: Abort + Threads + Wait + Sync + AllocGlobal>(
-    rt: &R,
-    heap: &Heap,
-    queue: &Queue<'_>,
-    mut party: Party<u64>,
-    row: &Row,
-) -> WorkResult
-    requires { IsPartyOf party queue.now }
-    ensures { IsPartyOf result.party queue.now }
-{
-    push_each(rt, queue, &mut party, row.before);
-    if row.holds {
-        heap.hold_until_another();
-    }
-    match row.closing {
-        Closing::Never => work_of(rt, queue, party, row.plan()),
-        Closing::Before => {
-            queue.close(&mut party);
-            work_of(rt, queue, party, row.plan())
-        }
-        Closing::Meanwhile => work_beside_a_close(rt, queue, party, row.plan()),
-    }
-}
-
-/// What is left once all parties are joined, in words.
-fn left<R: Abort + AllocGlobal>(rt: &R, queue: Queue<'_>, party: Party<u64>) -> String
-    requires { IsPartyOf party queue }
-{
-    let text = match queue.finish(party) {
-        Ok(alone) => {
-            let end = if alone.is_closed() { "closed" } else { "open" };
-            format!(in rt.alloc(); ", left {} {end}", alone.len())
-        }
-        Err(_) => String::from_str(rt.alloc(), ", a party is missing"),
-    };
-    text.expect(rt, "memory")
+    (done, judge(times, &counts), left(queue, party))
 }
 
 /// What is seen of a crew; nothing where there is no queue.
-fn see<R: Abort + Threads + Wait + Sync + AllocGlobal>(rt: &R, heap: &Heap, row: &Row) -> String {
-    let Ok((queue, party)) = open(rt, heap, row.cap) else {
-        return String::from_str(rt.alloc(), "nothing").expect(rt, "memory");
+fn see<R: Abort + Threads + Wait + Sync + AllocGlobal>(
+    rt: &R,
+    heap: &Heap,
+    row: &Row,
+) -> Option<Seen> {
+    let Ok((queue, mut party)) = open(rt, heap, row.cap) else {
+        return None;
     };
-    let work = work_on(rt, heap, &queue, party, row);
-    let mut seen = row.told(rt, &work);
-    let WorkResult {
-        party,
-        counts: _,
-        done: _,
-    } = work;
-    let left = left(rt, queue, party);
-    seen.push_str(left.as_str()).expect(rt, "memory");
-    seen
+    prepare(rt, heap, &queue, &mut party, row);
+    let work = work_of(rt, &queue, party, row.plan());
+    Some(seen_of(queue, work, row.times))
 }
 
 #[test]
@@ -350,11 +339,6 @@ fn crews_do_what_they_can(rt: HostRuntime) {
         let heap = Heap::new(rt.alloc(), row.refusal);
         let seen = see(&rt, &heap, row);
         let at_once = heap.held_until_let_go();
-        is_in(
-            &rt,
-            row.name,
-            (seen.as_str(), at_once),
-            (row.seen, row.holds),
-        );
+        is_in(&rt, row.name, (seen, at_once), (row.seen, row.holds));
     }
 }

@@ -50,11 +50,6 @@ fn each_end_has_its_status(rt: HostRuntime) {
             output: output.as_slice(),
             faults: faults.as_slice(),
         };
-        is_in(
-            &rt,
-            *told,
-            (end, input),
-            (End::fault(*status, told.as_bytes()), INPUT),
-        );
+        is_in(&rt, *told, (end, input), (End::fault(*status, told), INPUT));
     }
 }

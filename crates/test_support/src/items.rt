@@ -26,11 +26,6 @@ impl Items {
     pub fn dropped(&self) -> u64 {
         self.dropped.load(Ordering::SeqCst)
     }
-
-    /// How many there are.
-    pub fn alive(&self) -> u64 {
-        self.made().wrapping_sub(self.dropped())
-    }
 }
 
 /// An item that counts its drop.

@@ -1,12 +1,22 @@
 //! Runs of a program whose streams do as little as they may and fail at any of their calls, and how each is to end.
-use crate::runs::{End, Streams};
+use crate::runs::{End, SOUND, Streams};
 use crate::streams::{Failing, Flow};
 use std::alloc::{AllocError, Global};
 use std::io::ErrorKind;
 
+/// A run that ends well: its arguments, its input, and what it writes to its output.
+pub struct Row {
+    /// The arguments.
+    pub line: &'static str,
+    /// The input.
+    pub input: &'static str,
+    /// The output.
+    pub told: &'static str,
+}
+
 /// A run: its arguments, its input, how its streams move their bytes, and how it is to end.
 #[derive(Clone, Copy)]
-pub struct Run<'a> {
+pub struct Case<'a> {
     /// The arguments.
     pub line: &'a str,
     /// The input.
@@ -17,134 +27,134 @@ pub struct Run<'a> {
     pub end: End<'a>,
 }
 
-/// The ways in which a stream fails behind so many bytes: the call after so many of a byte fails, for want of memory too, or takes nothing; or there is no more room.
-fn failures_behind(bytes: usize) -> [Flow; 4] {
-    let number = bytes as u64;
-    [
-        Flow::bytewise(Failing::At(number, ErrorKind::BrokenPipe)),
-        Flow::bytewise(Failing::At(number, ErrorKind::OutOfMemory)),
-        Flow::bytewise(Failing::TakesNothing(number)),
-        Flow {
-            most: 3,
-            failing: Failing::Full(bytes, ErrorKind::StorageFull),
+/// The run that prints nothing, as its read of this number fails so, and tells this fault.
+fn failed_read<'a>(line: &'a str, input: &'a [u8], read: Flow, fault: &'static str) -> Case<'a> {
+    Case {
+        line,
+        input,
+        streams: Streams {
+            input: read,
+            ..SOUND
         },
+        end: End::fault(3, fault),
+    }
+}
+
+/// The runs that print nothing, as their read of this number fails, each in one way.
+pub fn failed_reads<'a>(line: &'a str, input: &'a [u8], most: usize, number: u64) -> [Case<'a>; 3] {
+    let reads = |kind| Flow {
+        most,
+        failing: Failing::At(number, kind),
+    };
+    [
+        failed_read(line, input, reads(ErrorKind::BrokenPipe), "input failed\n"),
+        failed_read(line, input, reads(ErrorKind::WouldBlock), "input failed\n"),
+        failed_read(line, input, reads(ErrorKind::OutOfMemory), "no memory\n"),
     ]
 }
 
-impl<'a> Run<'a> {
-    /// The runs of it whose streams move a byte at a time, are to be tried again at each second call, or fail behind each of their bytes.
+/// The run that ends with a failed output, of which it has written so much.
+pub fn failed_write<'a>(
+    line: &'a str,
+    input: &'a [u8],
+    output: Flow,
+    written: &'a [u8],
+) -> Case<'a> {
+    Case {
+        line,
+        input,
+        streams: Streams { output, ..SOUND },
+        end: End {
+            status: 3,
+            output: written,
+            faults: b"output failed\n",
+        },
+    }
+}
+
+/// What the streams of a run do.
+#[derive(Clone, Copy)]
+pub enum Failures {
+    /// Each moves a byte at a time, and fails so, at which the run still ends well.
+    Moves(Failing),
+    /// Each read of a byte fails in turn. The read behind the last byte, which is to find the input's end, fails too.
+    Reads,
+    /// Each write of a byte fails in turn, by a fault, for want of memory or by taking nothing.
+    Writes,
+    /// The output is not flushed.
+    Flush,
+}
+
+impl Row {
+    /// The runs of it where its streams do so.
     ///
     /// # Errors
     ///
     /// Where there is no memory for them.
-    pub fn failing(&self, alloc: Global) -> Result<Vec<Run<'a>>, AllocError> {
-        let mut runs = Vec::new(alloc);
-        for failing in [Failing::Never, Failing::Interrupted] {
-            runs.push(self.moved(Flow::bytewise(failing)))?;
+    pub fn cases(
+        &self,
+        alloc: Global,
+        failures: Failures,
+    ) -> Result<Vec<Case<'static>>, AllocError> {
+        match failures {
+            Failures::Moves(failing) => alone(alloc, self.moved(failing)),
+            Failures::Reads => self.reads(alloc),
+            Failures::Writes => self.writes(alloc),
+            Failures::Flush => {
+                let flow = Flow::bytewise(Failing::AtFlush);
+                let (input, output) = (self.input.as_bytes(), self.told.as_bytes());
+                alone(alloc, failed_write(self.line, input, flow, output))
+            }
         }
-        self.add_writes(&mut runs)?;
-        self.add_faults(&mut runs)?;
-        Ok(runs)
     }
 
-    /// The run where both outputs move so.
-    fn moved(&self, flow: Flow) -> Run<'a> {
-        Run {
+    /// The run where each stream moves a byte at a time, and fails so.
+    fn moved(&self, failing: Failing) -> Case<'static> {
+        let flow = Flow::bytewise(failing);
+        Case {
+            line: self.line,
+            input: self.input.as_bytes(),
             streams: Streams {
+                input: flow,
                 output: flow,
                 faults: flow,
-                ..self.streams
             },
-            ..*self
+            end: End::right(self.told),
         }
     }
 
-    /// The runs of which a read fails: that of each byte in turn, and the one behind the last, which is to find the input's end. They print nothing. With them come those whose reads move a byte at a time, and are to be tried again at each second call.
-    ///
-    /// # Errors
-    ///
-    /// Where there is no memory for them.
-    pub fn failing_reads(&self, alloc: Global) -> Result<Vec<Run<'a>>, AllocError> {
-        let mut runs = Vec::new(alloc);
-        for failing in [Failing::Never, Failing::Interrupted] {
-            runs.push(self.reading(failing, self.end))?;
+    fn reads(&self, alloc: Global) -> Result<Vec<Case<'static>>, AllocError> {
+        let input = self.input.as_bytes();
+        let mut cases = Vec::new(alloc);
+        for number in 0..=input.len() as u64 {
+            for case in failed_reads(self.line, input, 1, number) {
+                cases.push(case)?;
+            }
         }
-        for number in 0..=self.input.len() as u64 {
-            for (kind, told) in [
-                (ErrorKind::BrokenPipe, "input failed\n"),
-                (ErrorKind::WouldBlock, "input failed\n"),
-                (ErrorKind::OutOfMemory, "no memory\n"),
+        Ok(cases)
+    }
+
+    fn writes(&self, alloc: Global) -> Result<Vec<Case<'static>>, AllocError> {
+        let (input, output) = (self.input.as_bytes(), self.told.as_bytes());
+        let mut cases = Vec::new(alloc);
+        for count in 0..output.len() {
+            let number = count as u64;
+            for failing in [
+                Failing::At(number, ErrorKind::BrokenPipe),
+                Failing::At(number, ErrorKind::OutOfMemory),
+                Failing::TakesNothing(number),
             ] {
-                let failing = Failing::At(number, kind);
-                runs.push(self.reading(failing, End::fault(3, told.as_bytes())))?;
+                let flow = Flow::bytewise(failing);
+                cases.push(failed_write(self.line, input, flow, &output[..count]))?;
             }
         }
-        Ok(runs)
+        Ok(cases)
     }
+}
 
-    /// The run whose input moves a byte at a time and fails so, and which ends so.
-    fn reading(&self, failing: Failing, end: End<'a>) -> Run<'a> {
-        Run {
-            streams: Streams {
-                input: Flow::bytewise(failing),
-                ..self.streams
-            },
-            end,
-            ..*self
-        }
-    }
-
-    /// The run that ends with a failed output, of which it has written so much.
-    pub fn failed_write(&self, output: Flow, written: &'a [u8]) -> Run<'a> {
-        Run {
-            streams: Streams {
-                output,
-                ..self.streams
-            },
-            end: End {
-                status: 3,
-                output: written,
-                faults: b"output failed\n",
-            },
-            ..*self
-        }
-    }
-
-    /// Adds the runs of which a write or the flush of the output fails, and of the first of them those that cannot tell it.
-    fn add_writes(&self, runs: &mut Vec<Run<'a>>) -> Result<(), AllocError> {
-        let output = self.end.output;
-        for bytes in 0..output.len() {
-            for flow in failures_behind(bytes) {
-                runs.push(self.failed_write(flow, &output[..bytes]))?;
-            }
-        }
-        if self.end.status == 0 {
-            let flow = Flow::bytewise(Failing::AtFlush);
-            runs.push(self.failed_write(flow, output))?;
-            let first = Flow::bytewise(Failing::At(0, ErrorKind::BrokenPipe));
-            self.failed_write(first, b"").add_faults(runs)?;
-        }
-        Ok(())
-    }
-
-    /// Adds the runs that cannot tell the whole fault. They end with the same status.
-    fn add_faults(&self, runs: &mut Vec<Run<'a>>) -> Result<(), AllocError> {
-        let told = self.end.faults;
-        for bytes in 0..told.len() {
-            for faults in failures_behind(bytes) {
-                runs.push(Run {
-                    streams: Streams {
-                        faults,
-                        ..self.streams
-                    },
-                    end: End {
-                        faults: &told[..bytes],
-                        ..self.end
-                    },
-                    ..*self
-                })?;
-            }
-        }
-        Ok(())
-    }
+/// A list of this case alone.
+fn alone(alloc: Global, case: Case<'static>) -> Result<Vec<Case<'static>>, AllocError> {
+    let mut cases = Vec::new(alloc);
+    cases.push(case)?;
+    Ok(cases)
 }

@@ -4,13 +4,17 @@ use crate::runs::End;
 /// More requests than any of these runs makes.
 pub const MANY: u64 = 100_000;
 
-/// How a run may end of which a request is refused.
+/// A run: its arguments, its input and its output, and, where it asks for a block, what it writes if that request is refused: then it still ends well.
 #[derive(Clone, Copy)]
 pub struct Asking<'a> {
+    /// The arguments.
+    pub line: &'a str,
+    /// The input.
+    pub input: &'a str,
     /// The output.
-    pub output: &'a [u8],
-    /// Where the run asks for a block, what it writes if that request is refused: then it still ends well.
-    pub told: Option<&'a [u8]>,
+    pub output: &'a str,
+    /// What is written where the block is refused.
+    pub told: Option<&'static str>,
     /// How many requests it makes at least.
     pub least: u64,
     /// Whether a part of the output is written before the last requests.
@@ -24,7 +28,8 @@ impl Asking<'_> {
             (0, false, _) => end == End::right(self.output),
             (0, true, Some(told)) => end == End::right(told),
             (3, true, _) => {
-                self.output.starts_with(end.output) && end.faults == "no memory\n".as_bytes()
+                self.output.as_bytes().starts_with(end.output)
+                    && end.faults == "no memory\n".as_bytes()
             }
             _ => false,
         }

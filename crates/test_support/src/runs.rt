@@ -33,20 +33,20 @@ pub struct End<'a> {
 
 impl<'a> End<'a> {
     /// The run ends well, and writes this.
-    pub fn right(output: &'a [u8]) -> End<'a> {
+    pub fn right(output: &'a str) -> End<'a> {
         End {
             status: 0,
-            output,
+            output: output.as_bytes(),
             faults: b"",
         }
     }
 
     /// The run ends with this status, and tells this fault alone.
-    pub fn fault(status: u8, fault: &'a [u8]) -> End<'a> {
+    pub fn fault(status: u8, fault: &'a str) -> End<'a> {
         End {
             status,
             output: b"",
-            faults: fault,
+            faults: fault.as_bytes(),
         }
     }
 }

@@ -1,15 +1,13 @@
 //! Stored cases: a program with its arguments, what it reads, and what it is to write.
 use crate::stored::replays::text_of;
 use crate::stored::runs::{counting, explore, queue_run};
-use std::alloc::{AllocError, Allocator};
 use std::rt::Files;
 use std::sync::Wait;
 use std::thread::Threads;
 use std::{fs, io};
 use test_support::allocators::Heap;
-use test_support::programs::Run;
-use test_support::runs::{End, Outcome, SOUND, Streams};
-use test_support::streams::{Failing, Flow};
+use test_support::runs::{End, Outcome};
+use test_support::streams::{Failing, Flow, Reader, WHOLE};
 
 /// The file of this name. One that cannot be read is named.
 pub fn file<R: Files + Print + AllocGlobal>(rt: &R, name: &str) -> io::Result<Vec<u8>> {
@@ -40,8 +38,16 @@ impl<'a> Wanted<'a> {
     /// How a run is to end, if this is in the file.
     fn end(self, text: &[u8]) -> End<'_> {
         match self {
-            Wanted::Output(_) => End::right(text),
-            Wanted::Fault(_, status) => End::fault(status, text),
+            Wanted::Output(_) => End {
+                status: 0,
+                output: text,
+                faults: b"",
+            },
+            Wanted::Fault(_, status) => End {
+                status,
+                output: b"",
+                faults: text,
+            },
         }
     }
 
@@ -96,55 +102,22 @@ impl<'a> Case<'a> {
         }
     }
 
-    /// What it reads.
-    pub fn input<R: Files + Print + AllocGlobal>(&self, rt: &R) -> io::Result<Vec<u8>> {
-        match self.input {
-            Some(name) => file(rt, name),
-            None => Ok(Vec::new(rt.alloc())),
-        }
-    }
-
-    /// What its program is to write.
-    pub fn text<R: Files + Print + AllocGlobal>(&self, rt: &R) -> io::Result<Vec<u8>> {
-        file(rt, self.wanted.name())
-    }
-
-    /// Whether it may read.
-    pub fn reads(&self) -> bool {
-        self.input.is_some()
-    }
-
-    /// The run of it on this input, if this is in the file that it is to write.
-    pub fn as_run(&self, input: &'a [u8], text: &'a [u8]) -> Run<'a> {
-        let streams = if self.reads() { SOUND } else { UNREADABLE };
-        Run {
-            line: self.command,
-            input,
-            streams,
-            end: self.wanted.end(text),
-        }
-    }
-
-    /// Runs its program on this input, with its memory from this allocator.
-    pub fn run<R: Threads + Wait + Sync + AllocGlobal, A: Allocator>(
+    /// Runs its program. Scripts and replays take this memory.
+    fn run<R: Threads + Wait + Sync + Files + Print + AllocGlobal>(
         &self,
         rt: &R,
-        alloc: &A,
-        input: &[u8],
-        streams: Streams,
-    ) -> Result<Outcome, AllocError> {
-        match self.command.strip_prefix("queue_explore") {
-            Some(args) => explore(rt.alloc(), alloc, args, input, streams),
-            None => queue_run(rt, alloc, self.command, input, streams),
-        }
-    }
-
-    /// The most blocks at once of its run. Those of the explorer are not counted.
-    fn counted_blocks(&self, heap: &Heap) -> u64 {
-        match self.command.strip_prefix("queue_explore") {
-            Some(_) => 0,
-            None => heap.most_watched(),
-        }
+        heap: &Heap,
+    ) -> io::Result<Outcome> {
+        let (input, flow) = match self.input {
+            Some(name) => (file(rt, name)?, WHOLE),
+            None => (Vec::new(rt.alloc()), UNREADABLE),
+        };
+        let mut reader = Reader::new(&input, flow);
+        let outcome = match self.command.strip_prefix("queue_explore") {
+            Some(args) => explore(rt.alloc(), args, &mut reader)?,
+            None => queue_run(rt, heap, self.command, &mut reader)?,
+        };
+        Ok(outcome)
     }
 
     /// Whether its program ends as it is to, with as many blocks at once as a replay tells of, and gives its memory back. If not, it names the line of the file that has something else, or the one behind the last, and what was counted.
@@ -152,14 +125,12 @@ impl<'a> Case<'a> {
         &self,
         rt: &R,
     ) -> io::Result<bool> {
-        let input = self.input(rt)?;
-        let text = self.text(rt)?;
-        let run = self.as_run(&input, &text);
+        let text = file(rt, self.wanted.name())?;
         let heap = counting(rt.alloc())?;
-        let outcome = self.run(rt, &heap, &input, run.streams)?;
+        let outcome = self.run(rt, &heap)?;
         let end = outcome.end();
-        let is_right = end == run.end && outcome.is_flushed();
-        let (blocks, kept) = (self.counted_blocks(&heap), heap.live());
+        let is_right = end == self.wanted.end(&text) && outcome.is_flushed();
+        let (blocks, kept) = (heap.most_watched(), heap.live());
         if is_right && blocks == most_blocks(text_of(&text)) && kept == 0 {
             return Ok(true);
         }
@@ -174,12 +145,9 @@ impl<'a> Case<'a> {
 }
 
 /// An input that is not to be read: a read fails.
-const UNREADABLE: Streams = Streams {
-    input: Flow {
-        most: 1,
-        failing: Failing::At(0, io::ErrorKind::BrokenPipe),
-    },
-    ..SOUND
+const UNREADABLE: Flow = Flow {
+    most: 1,
+    failing: Failing::At(0, io::ErrorKind::BrokenPipe),
 };
 
 /// The most blocks at once that the output of a replay tells of, which it does on a queue without a capacity alone.

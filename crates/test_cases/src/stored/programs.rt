@@ -4,11 +4,11 @@ use crate::stored::runs::explore;
 use std::alloc::{AllocError, Global};
 use std::sync::Wait;
 use std::thread::Threads;
-use test_support::runs::{Outcome, SOUND};
+use test_support::runs::Outcome;
 
 /// What the explorer writes with these arguments on this program, where it ends well.
 fn explored(alloc: Global, args: &str, program: &str) -> Result<Option<Outcome>, AllocError> {
-    let outcome = explore(alloc, &alloc, args, program.as_bytes(), SOUND)?;
+    let outcome = explore(alloc, args, &mut program.as_bytes())?;
     Ok(if outcome.status == 0 {
         Some(outcome)
     } else {

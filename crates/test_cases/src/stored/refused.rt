@@ -3,13 +3,12 @@ use crate::stored::runs::queue_run;
 use std::alloc::AllocError;
 use std::sync::Wait;
 use std::thread::Threads;
-use test_support::runs::SOUND;
 
 /// The arguments of a replay that is refused: no queue may have so many slots.
 const REFUSED: &str = "queue_run replay bounded:576460752303423489 1";
 
 /// The status with which that replay ends.
 pub fn status_of_refused<R: Threads + Wait + Sync + AllocGlobal>(rt: &R) -> Result<u8, AllocError> {
-    let outcome = queue_run(rt, &rt.alloc(), REFUSED, b"0 push 1\n", SOUND)?;
+    let outcome = queue_run(rt, &rt.alloc(), REFUSED, &mut &b"0 push 1\n"[..])?;
     Ok(outcome.status)
 }

@@ -4,7 +4,7 @@ use std::alloc::AllocError;
 use std::str;
 use std::sync::Wait;
 use std::thread::Threads;
-use test_support::runs::{Outcome, SOUND};
+use test_support::runs::Outcome;
 
 /// Whether a replay of the schedule ends with this outcome of the program.
 pub fn is_replayed<R: Threads + Wait + Sync + AllocGlobal>(
@@ -58,10 +58,10 @@ fn replay<R: Threads + Wait + Sync + AllocGlobal>(
     rt: &R,
     kind: &str,
     parties: usize,
-    schedule: &[u8],
+    mut schedule: &[u8],
 ) -> Result<Outcome, AllocError> {
     let line = format!(in rt.alloc(); "queue_run replay {kind} {parties}")?;
-    queue_run(rt, &rt.alloc(), line.as_str(), schedule, SOUND)
+    queue_run(rt, &rt.alloc(), line.as_str(), &mut schedule)
 }
 
 // The kind of queue that the explorer's arguments name.

@@ -4,11 +4,12 @@ use app_explore::command::command;
 use machine_replay::blocks::BlockPlace;
 use queue_steps::sizes::BLOCK_SLOTS;
 use std::alloc::{AllocError, Allocator, Global, Layout};
+use std::io::Read;
 use std::sync::Wait;
 use std::thread::Threads;
 use test_support::allocators::{Heap, Refusal};
-use test_support::runs::{Outcome, Streams, words};
-use test_support::streams::{Reader, Writer};
+use test_support::runs::{Outcome, words};
+use test_support::streams::{WHOLE, Writer};
 
 /// Memory of a run, of which the blocks of a replay are counted apart: no list that grows is as large as one.
 pub fn counting(alloc: Global) -> Result<Heap, AllocError> {
@@ -18,23 +19,21 @@ pub fn counting(alloc: Global) -> Result<Heap, AllocError> {
     }
 }
 
-/// Runs `queue_run` on the words of this line, of which the first is its name, with its memory from this allocator.
-pub fn queue_run<R: Threads + Wait + Sync + AllocGlobal, A: Allocator>(
+/// Runs `queue_run` on the words of this line, of which the first is its name, in this memory.
+pub fn queue_run<R: Threads + Wait + Sync + AllocGlobal, A: Allocator, I: Read>(
     rt: &R,
     alloc: &A,
     line: &str,
-    input: &[u8],
-    streams: Streams,
+    input: &mut I,
 ) -> Result<Outcome, AllocError> {
     let args = words(rt.alloc(), line)?;
-    let mut input = Reader::new(input, streams.input);
-    let mut output = Writer::new(rt.alloc(), streams.output);
-    let mut faults = Writer::new(rt.alloc(), streams.faults);
+    let mut output = Writer::new(rt.alloc(), WHOLE);
+    let mut faults = Writer::new(rt.alloc(), WHOLE);
     let ended = program(
         rt,
         alloc,
         Ok(args.into_iter()),
-        &mut input,
+        input,
         &mut output,
         &mut faults,
     );
@@ -45,19 +44,12 @@ pub fn queue_run<R: Threads + Wait + Sync + AllocGlobal, A: Allocator>(
     })
 }
 
-/// Runs `queue_explore` on these arguments, with its memory from this allocator. They, and what it writes, have theirs from the global one.
-pub fn explore<A: Allocator>(
-    global: Global,
-    alloc: &A,
-    args: &str,
-    input: &[u8],
-    streams: Streams,
-) -> Result<Outcome, AllocError> {
-    let words = words(global, args)?;
-    let mut input = Reader::new(input, streams.input);
-    let mut output = Writer::new(global, streams.output);
-    let mut faults = Writer::new(global, streams.faults);
-    let status = command(alloc, &words, &mut input, &mut output, &mut faults);
+/// Runs `queue_explore` on these arguments.
+pub fn explore<I: Read>(alloc: Global, args: &str, input: &mut I) -> Result<Outcome, AllocError> {
+    let words = words(alloc, args)?;
+    let mut output = Writer::new(alloc, WHOLE);
+    let mut faults = Writer::new(alloc, WHOLE);
+    let status = command(&alloc, &words, input, &mut output, &mut faults);
     Ok(Outcome {
         status,
         output,
