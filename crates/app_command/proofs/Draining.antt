@@ -11,9 +11,6 @@ pub record Drains (held kept items left : List ℕ) (old new : Option (List ℕ)
   pub put : LeavesRest old new text kept
   pub same : text ++ items_text left ≡ held ++ (codes "left" ++ items_text items)
 
-pub drains-first : (held kept items : List ℕ) (old new : Option (List ℕ)) → LeavesRest old new (held ++ codes "left") kept → Drains held kept items items old new
-drains-first held kept items old new put = record { text = held ++ codes "left"; put = put; same = append_assoc held (codes "left") (items_text items) }
-
 pub drains-more : (held mid kept items left : List ℕ) (x : ℕ) (old now new : Option (List ℕ)) → Drains held mid items (x ∷ left) old now → LeavesRest now new (mid ++ (32 ∷ decimal x)) kept → Drains held kept items left old new
 drains-more held mid kept items left x old now new d put = record {
   text = d.text ++ (32 ∷ decimal x);

@@ -89,7 +89,3 @@ module _ (P Q R : Owned ℕ) (all rest part after : List (Call ℕ)) (rs : List 
 pub played_so : (P Q : Owned ℕ) (all rest : List (Call ℕ)) (held mid : List ℕ) (old now : Option (List ℕ)) → PlaysSo P all rest Q held mid old now → BeginsToPlay P all held old now
 played_so P Q all rest held mid old now so =
     played_part P Q Q all rest [] rest [] held mid old now now so refl refl (rw (append-nil mid) (writes-begun now now mid mid (writes-first now mid)))
-
--- no call is left
-pub played_all : (P Q : Owned ℕ) (all rest : List (Call ℕ)) (held kept : List ℕ) (old new : Option (List ℕ)) → PlaysSo P all rest Q held kept old new → rest ≡ [] → PlaysAs P all Q held kept old new
-played_all P Q all rest held kept old new so none = rw (so.parts ∙ ap (λ l. so.done ++ l) none ∙ append-nil so.done) so.plays

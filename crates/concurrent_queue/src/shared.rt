@@ -4,11 +4,12 @@ ghost use Rattle.queue_steps.specs.declared.sizes.TheConstants.{MAX_CAPACITY};
 ghost use Rattle.queue_steps.specs.declared.model.Call.TheVariants as call;
 ghost use Rattle.queue_steps.specs.declared.model.Reply.TheVariants as reply;
 ghost use Rattle.queue_steps.specs.Kinds.{call_kind};
+ghost use Rattle.queue_steps.specs.Next.{capacity_of};
 ghost use Rattle.queue_steps.specs.Shares.{entire};
 ghost use Rattle.std.specs.Fmt.{WritesOnOk};
 ghost use Rattle.std.specs.Prelude.{ℕ, Bool, codes};
 ghost use Rattle.exclusive_queue.specs.QueueText.{queue_text};
-ghost use Rattle.concurrent_queue.specs.Shared.{IsPartyOf, Calls};
+ghost use Rattle.concurrent_queue.specs.Shared.{IsPartyOf, Calls, form_id};
 
 pub use crate::party::Party;
 use crate::party::SeatPlace;
@@ -102,7 +103,9 @@ impl<T: Drop, A: Allocator> Drop for ConcurrentQueue<T, A> {
 
 impl<T, A: Allocator> Form<T, A> {
     /// Which kind of queue it is.
-    fn kind(&self) -> Kind {
+    fn kind(&self) -> Kind
+        ensures { capacity_of result ≡ (form_id self.now).cap }
+    {
         match self {
             Form::Slot(_) => Kind::Single,
             Form::Ring(ring) => Kind::Bounded(ring.slots()),
@@ -324,10 +327,10 @@ impl<T, A: Allocator> ConcurrentQueue<T, A> {
     pub fn capacity(&self) -> Option<usize>
         ensures { result ≡ self.now.cap }
     {
-        match &self.form {
-            Form::Slot(_) => Some(1),
-            Form::Ring(ring) => Some(ring.slots()),
-            Form::Chain(_) => None,
+        match self.form.kind() {
+            Kind::Single => Some(1),
+            Kind::Bounded(slots) => Some(slots),
+            Kind::Unbounded => None,
         }
     }
 }

@@ -23,13 +23,6 @@ module _ (f : SeatCounts → ℕ) where
   total_at (x ∷ xs) zero a e = let p = ap f (some-injective x a e) in omega arith
   total_at (x ∷ xs) (suc i) a e = omega (arith, total_at xs i a e)
 
-  total_two : (l : List SeatCounts) (i j : ℕ) (a b : SeatCounts) → get_elem? l i ≡ some a → get_elem? l j ≡ some b → j ≢ i → f a + f b ≤ total f l
-  total_two [] i j a b e e' n = absurd (some-ne-none a (sym e))
-  total_two (x ∷ xs) zero zero a b e e' n = absurd (n refl)
-  total_two (x ∷ xs) zero (suc j) a b e e' n = let p = ap f (some-injective x a e) in omega (arith, total_at xs j b e')
-  total_two (x ∷ xs) (suc i) zero a b e e' n = let p = ap f (some-injective x b e') in omega (arith, total_at xs i a e)
-  total_two (x ∷ xs) (suc i) (suc j) a b e e' n = omega (arith, total_two xs i j a b e e' (λ same. n (ap suc same)))
-
   module _ (g : SeatCounts → ℕ) where
     total_most : (l : List SeatCounts) → ((j : ℕ) (v : SeatCounts) → get_elem? l j ≡ some v → f v ≤ g v) → total f l ≤ total g l
     total_most [] h = omega arith

@@ -39,9 +39,6 @@ brand = arg (ty_struct [] tnil) no Brand.the_row
 module _ {M : Type 1} {𝓤 : Ura M} (𝓛 : Logic 𝓤) (𝓜 : Model 𝓤 𝓛.H) (𝓡 : Running 𝓤 𝓛.H 𝓜) where
   open 𝓛 use {H, A}
 
-  abbrev tokens : SProp 𝓤
-  tokens = sep 𝓤 (A.lft [] full_share) (emp 𝓤)
-
   pub operates : Wired 𝓡.env symbol.code → (op : Operation) (p : Ptr) (x z : ℕ) → x < 2 ^ 64 → z < 2 ^ 64 → (after : ℕ → Fml)
       → ent 𝓤 (asks 𝓛 p (becomes op x z) always (λ n. after (told op x n)))
       ((tables 𝓤 H 𝓜 𝓡 𝓡.env).C (symbol.name picked) (ptr_val p ∷ operation_val op ∷ vint w64 x ∷ vint w64 z ∷ []) (λ v. mean 𝓛 (found after v)))

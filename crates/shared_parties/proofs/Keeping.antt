@@ -350,12 +350,6 @@ module _ (T : Type 0) (cap : Option ℕ) where
     both = λ no. absurd (omega arith);
   }
 
-  -- a seat for nobody
-  pub spawns : (c : Option ℕ) (h : List (Effect T)) (n : ℕ) (views : List V) (id : ℕ) (v : V) → Kept cap h n views → get_elem? views id ≡ some v → Kept cap h n (set views id v ++ nobody c ∷ [])
-  spawns c h n views id v k at =
-      divides h n views id v v (nobody c) k at (k.true_of id v at) (fits_nobody h c) (λ p. omega arith) (omega arith) (omega arith)
-      (λ depth low. (low, (omega arith, omega arith), omega (arith, weight_none depth nothing refl)))
-
   -- two parties' seats become one for both, and one for nobody
   pub pairs_up : (c : Option ℕ) (h : List (Effect T)) (n : ℕ) (views : List V) (id other : ℕ) (v w : V) → Kept cap h n views → get_elem? views id ≡ some v → other ≢ id
       → get_elem? (set views id (pair_of v w)) other ≡ some w → v ≡ party v.cap v.seen v.mine v.share → w ≡ party w.cap w.seen w.mine w.share → Kept cap h n (set (set views id (pair_of v w)) other (nobody c))

@@ -1,56 +1,14 @@
 -- What parting, joining and meeting tell the parties.
 use Rattle.std.proofs.Common.{◌≡◌, ℕ, ◌+◌, ◌<◌, ◌≤◌, List, ◌++◌, length, Option, refl, ap, sym, ◌∙◌, subst, arith}
-use Rattle.std.proofs.lemmas.Nat.{pow-add}
 use Rattle.queue_laws.specs.Common.Vocabulary.{Effect}
-use Rattle.queue_steps.specs.{Effect.IsHistory, Shares.Share, Shares.half, Shares.plus, Shares.IsEntire, Shares.IsSome, Shares.IsPart, Parties.IsView, Parties.Apart}
+use Rattle.queue_steps.specs.{Effect.IsHistory, Shares.Share, Shares.plus, Shares.IsEntire, Shares.IsSome, Shares.IsPart, Parties.IsView, Parties.Apart}
 use Rattle.queue_steps.proofs.ShareLaws.{plus_comm, plus_some, entire_rest}
 use Rattle.shared_parties.specs.{declared.known.Known.Known, declared.known.CallState.CallState, Counting.times, Counting.once_below, CallStates.idle}
-use Rattle.shared_parties.proofs.{Counting.all_inside, Counting.none_twice, Counting.none_in_both, Counting.all_places, Histories.prefix_self, Histories.prefix_either, Totals.times_append}
-use Rattle.shared_parties.specs.Known.{party, looked, granted, refused, withdrawn, united, one_of, other_of, pair_of, view_of, Sees}
-use Rattle.shared_parties.specs.Parting.{Withdrew, BecameOne, SawAll, both_parts, first_part, second_part, IsParty, Parts, Joins, Meets}
-
-half_part : (s : Share) → IsPart s → IsPart (half s)
-half_part s part = let more = pow-add 2 s.1 1 in omega arith
-
-half_some : (s : Share) → IsSome s → IsPart s → ¬ (IsEntire (half s))
-half_some s rich part entire = let more = pow-add 2 s.1 1 in omega arith
+use Rattle.shared_parties.proofs.{Counting.all_inside, Counting.none_twice, Counting.none_in_both, Counting.all_places, Histories.prefix_either, Totals.times_append}
+use Rattle.shared_parties.specs.Known.{looked, united, one_of, other_of, pair_of, view_of, Sees}
+use Rattle.shared_parties.specs.Parting.{BecameOne, SawAll, both_parts, first_part, second_part, IsParty, Joins, Meets}
 
 module _ {T : Type 0} where
-  -- a party that was granted a second one, and was parted
-  pub parts : (d e a b : CallState T) → IsParty d → e ≡ idle (granted d.known) → a ≡ first_part e → b ≡ second_part e → Parts d a b
-  parts d e a b (rests, is) granted_is is_a is_b =
-      let k : Known T = d.known in let p : Known T = party k.cap k.seen k.mine k.share in
-      let from : k ≡ p = ap (λ (z : CallState T). z.known) rests in
-      let at_a : a ≡ idle (one_of (granted p)) = is_a ∙ (ap first_part granted_is ∙ ap (λ (z : Known T). idle (one_of (granted z))) from) in
-      let at_b : b ≡ idle (other_of (granted p)) = is_b ∙ (ap second_part granted_is ∙ ap (λ (z : Known T). idle (other_of (granted z))) from) in
-      subst (λ (z : CallState T × CallState T). Parts d z.0 z.1) (λ i. (sym at_a i, sym at_b i)) (
-        (
-          refl,
-          record {
-            legal = is.legal;
-            inside = is.inside;
-            once = is.once;
-            some = is.some;
-            part = half_part k.share is.part;
-            whole = λ entire. absurd (half_some k.share is.some is.part entire);
-          },
-        ),
-        (
-          refl,
-          record {
-            legal = is.legal;
-            inside = λ i d inside. absurd (omega (arith, inside));
-            once = λ i j d lt inside. absurd (omega (arith, inside));
-            some = is.some;
-            part = half_part k.share is.part;
-            whole = λ entire. absurd (half_some k.share is.some is.part entire);
-          },
-        ),
-        refl,
-        refl,
-        record { begins = prefix_self k.seen; same = refl; legal = is.legal; mine = (refl, refl); share = (refl, refl) },
-      )
-
   -- what two parties in one seat saw, when it looked
   abbrev Both : Known T → Known T → List (Effect T) → Type 0
   Both v w h = Sees (pair_of v w) (looked h (pair_of v w))
@@ -114,7 +72,3 @@ module _ {T : Type 0} where
       let here : n ≡ idle (looked l.0 (pair_of v w)) = l.1 ∙ ap (λ (z : Known T). idle (looked l.0 z)) pair in
       subst (λ (z : CallState T × CallState T). Meets a b z.0 z.1) (λ i. (sym (is_c ∙ ap first_part here) i, sym (is_d ∙ ap second_part here) i))
       (meets_pair a b l.0 at_a at_b (subst (λ (k : Known T). Sees k (looked l.0 k)) pair l.2))
-
-  -- a party that was refused, and went back, is as it was
-  pub as_before : (d e f : CallState T) → IsParty d → e ≡ idle (refused d.known) → Withdrew e f → f ≡ d
-  as_before d e f at_d is back = back ∙ (ap (λ (z : CallState T). idle (withdrawn z.known)) is ∙ (ap (λ (z : Known T). idle (withdrawn z)) (ap (λ (z : CallState T). z.known) at_d.0) ∙ sym at_d.0))

@@ -1,14 +1,11 @@
 -- How a call's effect, or the moment at which its reply was right, makes it a shared call of its party.
-use Rattle.std.proofs.Common.{◌≡◌, ℕ, ◌+◌, ◌<◌, inl, List, [], ◌∷◌, ◌++◌, length, Option, refl, ap, sym, subst, ◌∙◌, arith}
+use Rattle.std.proofs.Common.{◌≡◌, ℕ, ◌+◌, inl, List, [], ◌∷◌, ◌++◌, length, Option, refl, sym, ◌∙◌}
 use Rattle.std.proofs.lemmas.List.{append-nil}
-use Rattle.std.specs.List.{Contains}
 use mathlib.Core.List.{IsPrefix}
 use Rattle.atomic_table.proofs.Lists.{at_last}
 use Rattle.queue_laws.specs.Common.Vocabulary.{Call, Reply, Effect}
-use Rattle.queue_steps.specs.{Effect.IsHistory, Effect.after, Replies.IsRightAt, Replies.Tells, Shares.Share, Shares.IsEntire, Parties.View, Parties.SharedCall}
-use Rattle.shared_parties.specs.{Counting.times, Counting.once_below, declared.known.Known.Known, Known.party, Known.has, Known.share_of}
-use Rattle.shared_parties.proofs.{Counting.all_places, Histories.prefix_trans, Histories.prefix_more, Histories.prefix_length}
-use Rattle.queue_steps.proofs.ShareLaws.{plus_nothing}
+use Rattle.queue_steps.specs.{Effect.IsHistory, Effect.after, Replies.IsRightAt, Replies.Tells, Parties.View, Parties.SharedCall}
+use Rattle.shared_parties.proofs.{Histories.prefix_trans, Histories.prefix_more, Histories.prefix_length}
 
 module _ {T : Type 0} where
   -- a call that adds nothing, whose reply was right after the history h
@@ -42,11 +39,3 @@ module _ {T : Type 0} where
     right = λ none. absurd cc;
     displaces = tt;
   }
-
-  -- a party that had all of the share, and then has all places, has them all by its own list
-  pub owns : (v w : Known T) (cap cap' : Option ℕ) (seen seen' : List (Effect T)) (mine mine' : List ℕ) (share : Share) (n : ℕ) → v ≡ party cap seen mine share → w ≡ party cap' seen' mine' share
-      → (IsEntire (share_of v) → (p : ℕ) → has p w ≡ once_below p n) → IsEntire share → (p : ℕ) → p < n → Contains mine' p
-  owns v w cap cap' seen seen' mine mine' share n is_v is_w all entire =
-      let share_is : share_of v ≡ share = ap share_of is_v ∙ plus_nothing share in
-      let here : (p : ℕ) → has p w ≡ times p mine' + 0 = λ p. ap (has p) is_w in
-      all_places mine' n (λ p. omega (arith, here p, all (subst IsEntire (sym share_is) entire) p))

@@ -32,9 +32,6 @@ record Pace {T : Type 0} (past : List (Event T)) (S : List ℕ) (R : List (ℕ �
   steps : (since : ℕ) → k.first ≤ since → taken p since past ≤ o.steps
   alone : (since : ℕ) → k.first ≤ since → IsAloneBetween past S R p since n → taken p since past ≤ o.alone
 
-same-open : {T : Type 0} (y : Option (Open T)) (o x : Open T) → y ≡ Some o → y ≡ Some x → o ≡ x
-same-open y o x e f = let g : Some o ≡ Some x = sym e ∙ f in cc
-
 begin-is : {T : Type 0} (p q : ℕ) (c d : Call T) → Some (Begin p c) ≡ Some (Begin q d) → (q ≡ p) × (d ≡ c)
 begin-is p q c d e = (cc, cc)
 

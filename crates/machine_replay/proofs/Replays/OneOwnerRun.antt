@@ -81,10 +81,6 @@ sequential_from cap b (e ∷ es) (Skipped ∷ ts) c y S run is ready =
     let rest = sequential_from cap run.0 es ts c y S run.2 (ap (λ x. x.open_call 0) run.1.1 ∙ is) (subst (λ x. Ready S x y) (sym (ap (λ x. x.queue) run.1.1)) ready) in record { calls = rest.calls; unended = rest.unended; begun_are = rest.begun_are; last = rest.last; run = rest.run; shown = rest.shown }
 sequential_from cap b es ts c y S run is ready = absurd run
 
-map-append : {X Y : Type 0} (f : X → Y) (xs ys : List X) → map f (xs ++ ys) ≡ map f xs ++ map f ys
-map-append f [] ys = refl
-map-append f (x ∷ xs) ys = ap (λ l. f x ∷ l) (map-append f xs ys)
-
 -- the replies of the list
 replies-told : {T : Type 0} (n : ℕ) (es : List (Event T)) (ts : List (Told T)) → length es ≡ length ts → map reply_in (entries_from reply_entry n es ts) ≡ replies_in ts
 replies-told n [] [] same = refl

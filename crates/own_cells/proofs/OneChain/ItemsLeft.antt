@@ -1,7 +1,7 @@
 -- Reading goes from item to item, and from block to block.
 use Rattle.std.proofs.Common.{◌≡◌, ℕ, suc, ◌+◌, ◌-◌, ◌/◌, ◌%◌, ◌<◌, ◌≤◌, ◌∷◌, length, Option, Some, arith, sym, ap, ◌∙◌, subst, inl, inr}
 use Rattle.queue_steps.specs.{declared.sizes.TheConstants.BLOCK_SLOTS, ChainWords.offset_of}
-use Rattle.own_cells.specs.{OneRing.RingOwned.put_in, declared.chain.own_chain.Name.Name, OneChain.OwnChainCells.OwnChain, OneChain.OwnChainCells.piece_at, OneChain.OwnChainCells.piece_of, OneChain.OwnChainCells.place_of, OneChain.OwnChainCells.item_in, OneChain.OwnChainCells.Named, OneChain.OwnChainCells.CanTake, OneChain.OwnChainCells.CanFollow, OneChain.OwnChainOwned.taken, OneChain.OwnChainOwned.accepted, OneChain.OwnChainOwned.cell_of, OneChain.OwnChainOwned.items_from, OneChain.OwnChainOwned.own_chain_queue, OneChain.OwnChainOwned.IsIdle, OneChain.ItemsLeft.next_item, OneChain.ItemsLeft.items_left, OneChain.ItemsLeft.Reads, OneChain.Laws.OwnChainLeaves.Laid, OneChain.Laws.OwnChainLeaves.head-offset, OneChain.Laws.OwnChainPushes.place-is, OneChain.Laws.OwnChainPushes.named-at, OneChain.Laws.OwnChainPops.can-follow}
+use Rattle.own_cells.specs.{OneRing.RingOwned.put_in, declared.chain.own_chain.Name.Name, OneChain.OwnChainCells.OwnChain, OneChain.OwnChainCells.piece_at, OneChain.OwnChainCells.piece_of, OneChain.OwnChainCells.place_of, OneChain.OwnChainCells.item_in, OneChain.OwnChainCells.Named, OneChain.OwnChainCells.CanTake, OneChain.OwnChainCells.CanFollow, OneChain.OwnChainOwned.taken, OneChain.OwnChainOwned.accepted, OneChain.OwnChainOwned.cell_of, OneChain.OwnChainOwned.items_from, OneChain.OwnChainOwned.IsIdle, OneChain.ItemsLeft.next_item, OneChain.ItemsLeft.items_left, OneChain.ItemsLeft.Reads, OneChain.Laws.OwnChainLeaves.Laid, OneChain.Laws.OwnChainLeaves.head-offset, OneChain.Laws.OwnChainPushes.place-is, OneChain.Laws.OwnChainPushes.named-at, OneChain.Laws.OwnChainPops.can-follow}
 
 module _ {T : Type 0} (r : OwnChain T) where
   -- where an item is left, blocks were laid
@@ -19,10 +19,6 @@ module _ {T : Type 0} (r : OwnChain T) where
         in_block = λ some. let l = laid_some i (omega arith) in let here : 0 ≡ next_item r (accepted r - taken r) / BLOCK_SLOTS - taken r / BLOCK_SLOTS = rw first (omega arith) in
             l.front ∙ ap (λ k. Some (piece_at r.pieces k).name) here;
       }
-
-  pub begins-items : IsIdle r → items_left r (accepted r - taken r) ≡ (own_chain_queue r).items
-  begins-items i = let order = i.order in let first : next_item r (accepted r - taken r) ≡ taken r = omega arith in
-      ap (λ n. items_from r.pieces (taken r / BLOCK_SLOTS) n (accepted r - taken r)) first
 
   module _ (b : Name T) (slot left : ℕ) (some : 0 < left) (now : Reads r (Some b) slot left) where
     -- its number, and the place of its block
@@ -66,18 +62,7 @@ module _ {T : Type 0} (r : OwnChain T) where
         let item : (cell_of r.pieces (taken r / BLOCK_SLOTS) n).1 ≡ Some x = sym (ap (λ j. item_in (piece_at r.pieces j) slot) place ∙ ap (item_in (piece_at r.pieces k)) now.in_slot) ∙ is in
         ap (items_from r.pieces (taken r / BLOCK_SLOTS) n) one ∙ (ap (λ o. put_in o (items_from r.pieces (taken r / BLOCK_SLOTS) (n + 1) (left - 1))) item ∙ ap (λ m. x ∷ items_from r.pieces (taken r / BLOCK_SLOTS) m (left - 1)) next)
 
-    -- the next one is in the same block
-    pub reads-on : slot + 1 < BLOCK_SLOTS → Reads r (Some b) (slot + 1) (left - 1)
-    reads-on inner =
-        let few = now.within in let at = now.in_slot in let next : n + 1 ≡ next_item r (left - 1) = omega arith in let a = from in
-        record {
-          idle = now.idle;
-          within = omega arith;
-          in_slot = omega arith;
-          in_block = λ more. let same : k ≡ next_item r (left - 1) / BLOCK_SLOTS - taken r / BLOCK_SLOTS = omega arith in now.in_block some ∙ ap (λ j. Some (piece_at r.pieces j).name) same;
-        }
-
-    -- or the first of the block behind
+    -- the next one is the first of the next block
     pub reads-behind : slot + 1 ≡ BLOCK_SLOTS → Reads r (piece_of r b).next 0 (left - 1)
     reads-behind outer =
         let few = now.within in let at = now.in_slot in let next : n + 1 ≡ next_item r (left - 1) = omega arith in let a = from in let z = to in

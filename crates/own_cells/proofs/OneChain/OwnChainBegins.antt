@@ -5,11 +5,6 @@ use Rattle.queue_steps.specs.{declared.sizes.TheConstants.LIMIT, declared.sizes.
 use Rattle.own_cells.specs.{declared.chain.own_chain.Name.Name, OneChain.OwnChainCells.Piece, OneChain.OwnChainCells.OwnChain, OneChain.OwnChainCells.Named, OneChain.OwnChainCells.piece_at, OneChain.OwnChainCells.piece_of, OneChain.OwnChainCells.state_in, OneChain.OwnChainCells.item_in, OneChain.OwnChainCells.IsEmptied, OneRing.Laws.Numbers.same_or_not, OneChain.Laws.OwnChainChains.IsEmptied-all, OneChain.Laws.OwnChainSequential.length-items}
 use Rattle.own_cells.specs.OneChain.OwnChainOwned.{taken, accepted, cell_of, items_from, own_chain_queue, own_chain_owned, HoldsItems, Linked, IsBare, IsLaid, IsIdle}
 
-module _ {T : Type 0} where
-  -- a chain without blocks
-  abbrev pub bare : OwnChain T
-  bare = record { head = 0; tail = 0; head_block = None; tail_block = None; first = 0; pieces = []; spare = None }
-
 -- the states of a block whose first k slots count as read
 pub record HasRead (states : List ℕ) (k : ℕ) : Type 0 where
   pub long : length states ≡ BLOCK_SLOTS

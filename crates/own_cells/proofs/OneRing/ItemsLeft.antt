@@ -2,7 +2,7 @@
 use Rattle.std.proofs.Common.{◌≡◌, ℕ, suc, ◌+◌, ◌-◌, ◌%◌, ◌<◌, ◌≤◌, List, ◌∷◌, length, Some, arith, sym, ap, ◌∙◌, mod-lt}
 use Rattle.std.proofs.Math.Nat.{suc-mod, mod-eq_of_lt, mod_self}
 use Rattle.queue_steps.specs.Words.{position_of, slot_at}
-use Rattle.own_cells.specs.OneRing.{RingCells.RingState, RingCells.item_at, RingOwned.put_in, RingOwned.at_position, RingOwned.items_of, RingOwned.ring_queue, RingOwned.IsIdle, ItemsLeft.next_position, ItemsLeft.items_left, ItemsLeft.Reads}
+use Rattle.own_cells.specs.OneRing.{RingCells.RingState, RingCells.item_at, RingOwned.put_in, RingOwned.at_position, RingOwned.items_of, RingOwned.IsIdle, ItemsLeft.next_position, ItemsLeft.items_left, ItemsLeft.Reads}
 
 -- an item that comes leaves one fewer
 pub one_fewer : {T : Type 0} (old new : List T) (x : T) → old ≡ x ∷ new → length new < length old
@@ -14,10 +14,6 @@ module _ {T : Type 0} (r : RingState T) where
   begins i =
       let order = i.holds.order in let first : r.head ≡ next_position r (position_of r.tail - r.head) = omega arith in
       record { idle = i; within = omega arith; in_slot = ap (slot_at r.cap) first }
-
-  pub begins-items : IsIdle r → items_left r (position_of r.tail - r.head) ≡ (ring_queue r).items
-  begins-items i = let order = i.holds.order in let first : next_position r (position_of r.tail - r.head) ≡ r.head = omega arith in
-      ap (λ p. items_of r.cap r.slots p (position_of r.tail - r.head)) first
 
   module _ (slot left : ℕ) (some : 0 < left) (now : Reads r slot left) where
     abbrev p : ℕ

@@ -10,9 +10,6 @@ use Rattle.own_cells.specs.{OneRing.RingOwned.HoldsItems, OneRing.RingOwned.item
 use Rattle.queue_laws.proofs.Ring.RingIdle.{same_position}
 use Rattle.own_cells.proofs.OneRing.RingWrites.{elem_or}
 
-pub Opened-none : (n cap : ℕ) → Opened n cap 0 []
-Opened-none n cap = record { long = refl; free = λ k h. absurd (omega arith) }
-
 pub Opened-more : (n cap i q : ℕ) (stamps : List ℕ) → n ≤ q → q < n + cap → slot_at cap q ≡ i → Opened n cap i stamps → Opened n cap (i + 1) (stamps ++ q ∷ [])
 Opened-more n cap i q stamps low high mine o = record { long = length-append stamps (q ∷ []) ∙ (let l = o.long in omega arith); free = λ k h. go k (split k h) }
   where

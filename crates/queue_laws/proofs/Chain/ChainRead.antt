@@ -43,9 +43,6 @@ pub good_reading : {A : Type 0} (c : Chain A) (who : ℕ) (ms : List (State A)) 
     → StepOk c (if_read c who n i) who ms (chain.Reading name i) (Some x) Call.Pop (Effect.Take x ∷ []) (Answer.Found st)
 good_reading {A} c who ms x n name i st ok holds got wrote inner is state = go (waits_at (c.walks (n / BLOCK_SLOTS)) i) refl
   where
-    b : ℕ
-    b = n / BLOCK_SLOTS
-
     item : item_at (n / BLOCK_SLOTS) i ≡ n
     item = ap (λ j. item_at (n / BLOCK_SLOTS) j) is ∙ own_item n
 

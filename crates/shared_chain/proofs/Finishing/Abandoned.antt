@@ -54,9 +54,6 @@ module _ {A : Type 0} (te he : Ptr) (bs : List (Block A)) (last : LastBlocks (Ru
   abbrev two : 1 < length bs
   two = let s = codes.size in omega arith
 
-  pub ends_there : Lives bs 0 te × Lives bs 1 he
-  ends_there = (codes.tail, codes.head)
-
   taken_is : items_before (position_of (word_of bs 1 HEAD)) ≡ c.head
   taken_is = ap (λ w. items_before (position_of w)) codes.head_is ∙ head_items c ok
 
