@@ -52,11 +52,6 @@ impl Tally {
         self.agreeing = self.agreeing.wrapping_add(usize::from(runs.is_some()));
         self.runs = self.runs.wrapping_add(runs.unwrap_or(0));
     }
-
-    /// Whether all lines agree.
-    fn is_full(self) -> bool {
-        self.agreeing == self.lines
-    }
 }
 
 /// In how many runs beside its own a line of this list agrees. One that does not is named.
@@ -109,5 +104,9 @@ pub fn tell_stored<R: Threads + Wait + Sync + Files + Print + AllocGlobal>(
         "{} of {} programs agree, {} schedules replayed",
         programs.agreeing, programs.lines, programs.runs
     )?;
-    Ok(cases.is_full() && failing.is_full() && programs.is_full())
+    Ok(
+        cases.agreeing == cases.lines
+            && failing.agreeing == failing.lines
+            && programs.agreeing == programs.lines,
+    )
 }

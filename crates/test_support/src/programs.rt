@@ -92,7 +92,7 @@ impl<'a> Run<'a> {
                             input,
                             ..self.streams
                         },
-                        end: End::fault(3, told),
+                        end: End::fault(3, *told),
                     })?;
                 }
             }

@@ -16,7 +16,7 @@ pub struct Case<'a> {
     /// The name of the input's file. Without one a read fails.
     input: Option<&'a str>,
     /// The name of the file with all that it is to write: to its output where it ends well, else of a fault.
-    written: &'a str,
+    pub written: &'a str,
     /// The status that it is to end with.
     pub status: u8,
 }
@@ -139,7 +139,7 @@ fn most_blocks(output: &str) -> Option<u64> {
 }
 
 /// The number of the first line in which the other text is not as this one; where there is none, that of the one behind the last.
-fn first_other_line(text: &[u8], other: &[u8]) -> usize {
+pub fn first_other_line(text: &[u8], other: &[u8]) -> usize {
     let mut line: usize = 1;
     for (byte, found) in text.iter().zip(other) {
         if byte != found {

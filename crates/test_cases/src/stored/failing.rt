@@ -1,5 +1,5 @@
 //! Stored cases whose streams fail at each of their calls, and whose requests for memory are refused in turn.
-use crate::stored::cases::{Case, end_of};
+use crate::stored::cases::{Case, end_of, first_other_line};
 use crate::stored::files::file;
 use crate::stored::runs::run;
 use std::alloc::AllocError;
@@ -63,9 +63,9 @@ impl<'a> FailingCase<'a> {
         input: &[u8],
         text: &[u8],
     ) -> io::Result<bool> {
-        let told = match self.refused {
-            Some(name) => file(rt, name)?,
-            None => Vec::new(rt.alloc()),
+        let (name, told) = match self.refused {
+            Some(name) => (name, file(rt, name)?),
+            None => (self.case.written, Vec::new(rt.alloc())),
         };
         let mut blocks: u64 = 0;
         let mut begun = false;
@@ -81,11 +81,13 @@ impl<'a> FailingCase<'a> {
                     && blocks == u64::from(self.refused.is_some());
                 return Ok(is_seen && self.least < number && end == end_of(0, text));
             }
-            if end == end_of(0, &told) {
-                blocks = blocks.wrapping_add(1);
-            } else if wants_memory(end, text) {
+            if wants_memory(end, text) {
                 begun = begun || !end.output.is_empty();
+            } else if end == end_of(0, &told) {
+                blocks = blocks.wrapping_add(1);
             } else {
+                let line = first_other_line(&told, end.output);
+                println!(rt; "{name}, line {line}")?;
                 return Ok(false);
             }
         }
