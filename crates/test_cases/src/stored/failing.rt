@@ -67,8 +67,7 @@ impl<'a> FailingCase<'a> {
             Some(name) => (name, file(rt, name)?),
             None => (self.case.written, Vec::new(rt.alloc())),
         };
-        let mut blocks: u64 = 0;
-        let mut begun = false;
+        let (mut blocks, mut begun) = (0u64, false);
         for number in 1..MANY {
             let heap = Heap::new(rt.alloc(), Refusal::Nth(number));
             let outcome = run(rt, &heap, self.case.command, input, SOUND)?;

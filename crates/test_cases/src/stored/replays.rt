@@ -92,12 +92,15 @@ fn write_replies(
     before: usize,
     ends: &mut String,
 ) -> Result<(), AllocError> {
-    let mut lead = " ";
+    let mut is_first = true;
     for line in told.lines() {
         if let Some(reply) = reply_in(line, party, before) {
-            ends.push_str(lead)?;
+            if !is_first {
+                ends.push_str(";")?;
+            }
+            ends.push_str(" ")?;
             ends.push_str(reply)?;
-            lead = "; ";
+            is_first = false;
         }
     }
     Ok(())
