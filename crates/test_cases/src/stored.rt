@@ -1,102 +1,89 @@
 //! Stored cases and stored programs.
 //!
-//! The file `LIST` has a line for each case, as a shell has it. `programs/LIST` has a line for each program: the explorer's arguments, and then its name. `.in` is the program, `.out` the output.
+//! The file `LIST` has a line for each case, as a shell has it. `failing/LIST` has one for each whose streams and requests fail. `programs/LIST` has a line for each program: the explorer's arguments, and then its name. `.in` is the program, `.out` the output.
 
 mod cases;
+mod failing;
+mod files;
 mod programs;
-pub mod refused;
 mod replays;
-mod runs;
+pub mod runs;
 
-use crate::stored::cases::{Case, file};
-use crate::stored::programs::program_agrees;
+use crate::stored::cases::case_runs;
+use crate::stored::failing::failing_runs;
+use crate::stored::files::{file, text_of};
+use crate::stored::programs::program_runs;
+use std::io;
 use std::rt::Files;
 use std::sync::Wait;
 use std::thread::Threads;
-use std::{io, str};
 
-/// How many lines there are, how many of them agree, and how many schedules were replayed.
+/// A list of what is stored.
+#[derive(Clone, Copy)]
+enum List {
+    Cases,
+    Failing,
+    Programs,
+}
+
+impl List {
+    /// The name of its file.
+    fn name(self) -> &'static str {
+        match self {
+            List::Cases => "LIST",
+            List::Failing => "failing/LIST",
+            List::Programs => "programs/LIST",
+        }
+    }
+}
+
+/// How many lines there are, how many of them agree, and in how many runs beside their own.
 #[derive(Clone, Copy)]
 struct Tally {
     lines: usize,
     agreeing: usize,
-    schedules: usize,
+    runs: usize,
 }
 
 impl Tally {
-    /// Counts a line.
-    fn count(&mut self, agrees: bool, schedules: usize) {
+    /// Counts a line, which agrees in so many runs beside its own, if it does.
+    fn count(&mut self, runs: Option<usize>) {
         self.lines = self.lines.wrapping_add(1);
-        self.agreeing = self.agreeing.wrapping_add(usize::from(agrees));
-        self.schedules = self.schedules.wrapping_add(schedules);
+        self.agreeing = self.agreeing.wrapping_add(usize::from(runs.is_some()));
+        self.runs = self.runs.wrapping_add(runs.unwrap_or(0));
     }
 }
 
-/// Nothing is counted yet.
-const NONE: Tally = Tally {
-    lines: 0,
-    agreeing: 0,
-    schedules: 0,
-};
-
-/// Whether the case of this line agrees.
-fn case_agrees<R: Threads + Wait + Sync + Files + Print + AllocGlobal>(
+/// In how many runs beside its own a line of this list agrees. One that does not is named.
+fn line_runs<R: Threads + Wait + Sync + Files + Print + AllocGlobal>(
     rt: &R,
+    list: List,
     line: &str,
-) -> io::Result<bool> {
-    match Case::parse(line) {
-        Some(case) => case.agrees(rt),
-        None => Ok(false),
-    }
-}
-
-/// Whether the program of this line agrees, and how many schedules were replayed.
-fn line_agrees<R: Threads + Wait + Sync + Files + Print + AllocGlobal>(
-    rt: &R,
-    line: &str,
-) -> io::Result<(bool, usize)> {
-    let Some((args, name)) = line.rsplit_once(" ") else {
-        return Ok((false, 0));
+) -> io::Result<Option<usize>> {
+    let runs = match list {
+        List::Cases => case_runs(rt, line)?,
+        List::Failing => failing_runs(rt, line)?,
+        List::Programs => program_runs(rt, line)?,
     };
-    let program = format!(in rt.alloc(); "programs/{name}.in")?;
-    let output = format!(in rt.alloc(); "programs/{name}.out")?;
-    let program = file(rt, program.as_str())?;
-    let wanted = file(rt, output.as_str())?;
-    Ok(program_agrees(rt, args, &program, &wanted)?)
-}
-
-/// Names a line that does not agree.
-fn tell_line<R: Print>(rt: &R, agrees: bool, line: &str) -> io::Result<()> {
-    if !agrees {
+    if runs.is_none() {
         println!(rt; "not as it should be: {line}")?;
     }
-    Ok(())
+    Ok(runs)
 }
 
-/// Runs the cases of this list.
-fn run_cases<R: Threads + Wait + Sync + Files + Print + AllocGlobal>(
+/// Runs what a list says.
+fn run_list<R: Threads + Wait + Sync + Files + Print + AllocGlobal>(
     rt: &R,
-    list: &[u8],
+    list: List,
 ) -> io::Result<Tally> {
-    let mut tally = NONE;
-    for line in str::from_utf8(list).unwrap_or("").lines() {
-        let agrees = case_agrees(rt, line)?;
-        tell_line(rt, agrees, line)?;
-        tally.count(agrees, 0);
-    }
-    Ok(tally)
-}
-
-/// Runs the programs of this list.
-fn run_programs<R: Threads + Wait + Sync + Files + Print + AllocGlobal>(
-    rt: &R,
-    list: &[u8],
-) -> io::Result<Tally> {
-    let mut tally = NONE;
-    for line in str::from_utf8(list).unwrap_or("").lines() {
-        let (agrees, schedules) = line_agrees(rt, line)?;
-        tell_line(rt, agrees, line)?;
-        tally.count(agrees, schedules);
+    let lines = file(rt, list.name())?;
+    let mut tally = Tally {
+        lines: 0,
+        agreeing: 0,
+        runs: 0,
+    };
+    for line in text_of(&lines).lines() {
+        tally.count(line_runs(rt, list, line)?);
     }
     Ok(tally)
 }
@@ -105,13 +92,21 @@ fn run_programs<R: Threads + Wait + Sync + Files + Print + AllocGlobal>(
 pub fn tell_stored<R: Threads + Wait + Sync + Files + Print + AllocGlobal>(
     rt: &R,
 ) -> io::Result<bool> {
-    let cases = run_cases(rt, &file(rt, "LIST")?)?;
+    let cases = run_list(rt, List::Cases)?;
     println!(rt; "{} of {} cases agree", cases.agreeing, cases.lines)?;
-    let Tally {
-        lines,
-        agreeing,
-        schedules,
-    } = run_programs(rt, &file(rt, "programs/LIST")?)?;
-    println!(rt; "{agreeing} of {lines} programs agree, {schedules} schedules replayed")?;
-    Ok(cases.agreeing == cases.lines && agreeing == lines)
+    let failing = run_list(rt, List::Failing)?;
+    println!(rt;
+        "{} of {} cases agree in {} runs whose streams fail",
+        failing.agreeing, failing.lines, failing.runs
+    )?;
+    let programs = run_list(rt, List::Programs)?;
+    println!(rt;
+        "{} of {} programs agree, {} schedules replayed",
+        programs.agreeing, programs.lines, programs.runs
+    )?;
+    Ok(
+        cases.agreeing == cases.lines
+            && failing.agreeing == failing.lines
+            && programs.agreeing == programs.lines,
+    )
 }

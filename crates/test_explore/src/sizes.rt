@@ -1,11 +1,10 @@
-//! Programs with many parties, calls, slots, items, states or outcomes: what is found of each is shown, and is all.
+//! Programs with many parties, calls, slots or items: what is found of each is shown, and is all.
 ghost use Rattle.machine_replay.specs.Replays.{CanReplay};
 
 use crate::asserts::is_in;
 use app_explore::limits::MOST_STATES;
 use app_explore::listed::{Listed, are_in_order};
 use app_explore::listing::list_outcomes;
-use app_explore::reading::read_program;
 use machine_explore::problem::Problem;
 use machine_explore::program::{Calls, Program};
 use machine_explore::schedule::Move;
@@ -121,23 +120,6 @@ fn large_programs_are_listed(rt: HostRuntime) {
         let found = ends_with(rt.alloc(), size.kind, program, size.last);
         is_in(&rt, (size.parties, size.kind), found, true);
     }
-}
-
-/// Each of its outcomes has three ends, by whose block is the first, and whether the other is given up.
-const MANY_OUTCOMES: &str =
-    "0: push 1; push 2; push 3; is_closed; is_closed; is_closed; is_closed; is_closed; is_closed; is_closed; is_closed\n1: push 4; push 5; push 6; close\n";
-
-/// The last line of its list, as `bench/outcomes` writes it.
-const LAST_OF_MANY: &str =
-    "all 195 outcomes, 4664271212073 schedules, longest lone call 7, 0 with order none\n";
-
-#[test]
-fn hundreds_of_outcomes_are_listed(rt: HostRuntime) {
-    let Ok(program) = read_program(rt.alloc(), MANY_OUTCOMES.as_bytes()) else {
-        rt.panic("a program");
-    };
-    let found = ends_with(rt.alloc(), Kind::Unbounded, program, LAST_OF_MANY);
-    is_in(&rt, MANY_OUTCOMES, found, true);
 }
 
 /// How many parties look, each once.

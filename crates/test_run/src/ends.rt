@@ -4,7 +4,7 @@ ghost use Rattle.std.specs.Option.{IfSome};
 ghost use Rattle.counted_channel.specs.Channel.{IsEndOf};
 
 use crate::asserts::is_in;
-use crate::crew::{IDLE, Row, are_few, open};
+use crate::crew::{IDLE, PUSHER, Row, are_few, open};
 use app_threads::counts::{Finding, judge};
 use app_threads::crew::WorkResult;
 use app_threads::ends::run_all;
@@ -14,80 +14,41 @@ use std::sync::Wait;
 use std::thread::Threads;
 use test_support::allocators::{Heap, Refusal};
 
-/// What is seen of a crew: whether all was done, and what the counts show.
-type Seen = (bool, Finding);
-
-static ROWS: [(Row, Option<Seen>); 4] = [
+static ROWS: [Row; 4] = [
     // While one thread's send waits for the first block, another thread's send asks for it too. On one thread no other call is made before that send is answered.
-    (
-        Row {
-            name: "two_sends_of_a_crew_ask_for_memory_at_once",
-            holds: true,
-            pushers: 2,
-            poppers: 1,
-            items: 1,
-            share: 3,
-            times: 2,
-            ..IDLE
-        },
-        Some((
-            true,
-            Finding::Right {
-                values: 1,
-                times: 2,
-            },
-        )),
-    ),
+    Row {
+        name: "two_sends_of_a_crew_ask_for_memory_at_once",
+        holds: true,
+        pushers: 2,
+        poppers: 1,
+        items: 1,
+        share: 3,
+        times: 2,
+        seen: "1 values, each counted 2 times, all done",
+        ..IDLE
+    },
     // The first requests are for the queue and the counts of its ends, and the next one is for a block. A thread that is refused a block reports that not all was done.
-    (
-        Row {
-            name: "an_item_without_a_block_is_not_done, without a channel",
-            refusal: Refusal::Nth(3),
-            pushers: 1,
-            poppers: 1,
-            items: 1,
-            share: 2,
-            ..IDLE
-        },
-        None,
-    ),
-    (
-        Row {
-            name: "an_item_without_a_block_is_not_done",
-            refusal: Refusal::Nth(4),
-            pushers: 1,
-            poppers: 1,
-            items: 1,
-            share: 2,
-            ..IDLE
-        },
-        Some((
-            false,
-            Finding::Right {
-                values: 1,
-                times: 0,
-            },
-        )),
-    ),
-    (
-        Row {
-            name: "an_item_without_a_block_is_not_done, with a block",
-            refusal: Refusal::Nth(5),
-            pushers: 1,
-            poppers: 1,
-            items: 1,
-            share: 2,
-            times: 1,
-            ..IDLE
-        },
-        Some((
-            true,
-            Finding::Right {
-                values: 1,
-                times: 1,
-            },
-        )),
-    ),
+    Row {
+        name: "an_item_without_a_block_is_not_done, without a channel",
+        refusal: Refusal::Nth(3),
+        poppers: 1,
+        ..PUSHER
+    },
+    Row {
+        name: "an_item_without_a_block_is_not_done",
+        refusal: Refusal::Nth(4),
+        poppers: 1,
+        seen: "1 values, each counted 0 times, not done",
+        ..PUSHER
+    },
+    Row {
+        name: "an_item_without_a_block_is_not_done, with a block",
+        refusal: Refusal::Nth(5),
+        poppers: 1,
+        times: 1,
+        seen: "1 values, each counted 1 times, all done",
+        ..PUSHER
+    },
 ];
 
 /// A channel, with an end of each side.
@@ -123,32 +84,18 @@ fn work_of<R: Abort + Threads + Wait + Sync + AllocGlobal>(
     run_all(rt, rt.alloc(), channel, sender, receiver, plan).expect(rt, "memory for the counts")
 }
 
-/// What is seen of a crew on a channel.
-fn seen_of<R: Abort + Threads + Wait + Sync + AllocGlobal>(
-    rt: &R,
-    channel: &Channel<u64, &Heap>,
-    sender: Sender<u64>,
-    receiver: Receiver<u64>,
-    row: &Row,
-) -> Seen
-    requires { IsEndOf sender channel.now × IsEndOf receiver channel.now }
-{
-    let work = work_of(rt, channel, sender, receiver, row);
-    (work.done, judge(row.times, &work.counts))
-}
-
-/// What is seen of a crew; nothing where there is no channel.
-fn see<R: Abort + Threads + Wait + Sync + AllocGlobal>(
+/// The work of a crew; nothing where there is no channel.
+fn work<R: Abort + Threads + Wait + Sync + AllocGlobal>(
     rt: &R,
     heap: &Heap,
     row: &Row,
-) -> Option<Seen> {
+) -> Option<WorkResult> {
     match open_channel(rt, heap) {
         Some((channel, sender, receiver)) => {
             if row.holds {
                 heap.hold_until_another();
             }
-            Some(seen_of(rt, &channel, sender, receiver, row))
+            Some(work_of(rt, &channel, sender, receiver, row))
         }
         None => None,
     }
@@ -156,11 +103,19 @@ fn see<R: Abort + Threads + Wait + Sync + AllocGlobal>(
 
 #[test]
 fn channels_pass_what_they_can(rt: HostRuntime) {
-    for (row, wanted) in ROWS.iter() {
+    for row in ROWS.iter() {
         let heap = Heap::new(rt.alloc(), row.refusal);
-        let seen = see(&rt, &heap, row);
+        let seen = match work(&rt, &heap, row) {
+            Some(work) => row.told(&rt, &work),
+            None => String::from_str(rt.alloc(), "nothing").expect(&rt, "memory"),
+        };
         let at_once = heap.held_until_let_go();
-        is_in(&rt, row.name, (seen, at_once), (*wanted, row.holds));
+        is_in(
+            &rt,
+            row.name,
+            (seen.as_str(), at_once),
+            (row.seen, row.holds),
+        );
     }
 }
 
@@ -177,8 +132,8 @@ static SHARED: Row = Row {
 #[test]
 fn no_receiver_receives_more_than_its_share(rt: HostRuntime) {
     let heap = Heap::new(rt.alloc(), Refusal::Never);
-    let finding = match see(&rt, &heap, &SHARED) {
-        Some((_, finding)) => Some(finding),
+    let finding = match work(&rt, &heap, &SHARED) {
+        Some(work) => Some(judge(SHARED.times, &work.counts)),
         None => None,
     };
     let wanted = Some(Finding::Wrong { value: 4, times: 0 });

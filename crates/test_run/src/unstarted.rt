@@ -12,17 +12,6 @@ use std::sync::Wait;
 use std::thread::Threads;
 use test_support::runs::words;
 
-/// What comes of a run.
-#[derive(Clone, Copy, Debug, PartialEq)]
-enum Comes {
-    /// What was to be told.
-    Text,
-    /// It ends for want of memory.
-    NoMemory,
-    /// It ends for another reason, or tells another thing.
-    Another,
-}
-
 /// Runs the mode that a line asks for, where no more threads can be started than the limit says.
 fn run<R: Abort + Threads + Wait + Sync + AllocGlobal>(
     rt: &R,
@@ -40,22 +29,6 @@ fn run<R: Abort + Threads + Wait + Sync + AllocGlobal>(
     }
 }
 
-/// What comes of the run of a line where no more threads can be started than the limit says, and which is to write this.
-fn run_limited<R: Abort + Threads + Wait + Sync + AllocGlobal>(
-    rt: &R,
-    line: &str,
-    limit: Limit,
-    wanted: &str,
-) -> Comes {
-    let mut output = Vec::new(rt.alloc());
-    let ran = run(rt, line, limit, &mut output);
-    match ran.end {
-        Ok(_) if output.as_slice() == wanted.as_bytes() => Comes::Text,
-        Err(Fault::NoMemory) if output.is_empty() => Comes::NoMemory,
-        _ => Comes::Another,
-    }
-}
-
 /// Asserts that the run of a line comes to its end where so many threads can be started, and writes this, but without one of them wants memory, and writes nothing.
 fn takes<R: Abort + Threads + Wait + Sync + AllocGlobal>(
     rt: &R,
@@ -63,12 +36,15 @@ fn takes<R: Abort + Threads + Wait + Sync + AllocGlobal>(
     threads: u64,
     wanted: &str,
 ) {
-    for started in 0..threads {
-        let seen = run_limited(rt, line, Limit(started), wanted);
-        is_in(rt, (line, started), seen, Comes::NoMemory);
+    for started in 0..=threads {
+        let mut output = Vec::new(rt.alloc());
+        let ran = run(rt, line, Limit(started), &mut output);
+        let wants_memory = matches!(ran.end, Err(Fault::NoMemory));
+        let seen = (ran.end.is_ok(), wants_memory, output.as_slice());
+        let ends = started == threads;
+        let text = if ends { wanted } else { "" };
+        is_in(rt, (line, started), seen, (ends, !ends, text.as_bytes()));
     }
-    let seen = run_limited(rt, line, Limit(threads), wanted);
-    is_in(rt, (line, threads), seen, Comes::Text);
 }
 
 /// How many threads each line starts, and what is written where they can be.

@@ -6,7 +6,6 @@ pub mod closing;
 pub mod closing_rule;
 pub mod items;
 pub mod programs;
-pub mod refusals;
 pub mod runs;
 pub mod signs;
 pub mod streams;

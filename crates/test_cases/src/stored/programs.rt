@@ -1,62 +1,36 @@
 //! Stored programs, which the explorer runs.
-use crate::stored::replays::{is_held_up, is_replayed, text_of};
-use crate::stored::runs::explore;
-use std::alloc::{AllocError, Global};
+use crate::stored::cases::Case;
+use crate::stored::files::text_of;
+use crate::stored::replays::{is_held_up, is_replayed};
+use crate::stored::runs::run;
+use std::alloc::AllocError;
+use std::io;
+use std::rt::Files;
 use std::sync::Wait;
 use std::thread::Threads;
-use test_support::runs::Outcome;
+use test_support::runs::SOUND;
 
-/// What the explorer writes with these arguments on this program, where it ends well.
-fn explored(alloc: Global, args: &str, program: &str) -> Result<Option<Outcome>, AllocError> {
-    let outcome = explore(alloc, args, &mut program.as_bytes())?;
-    Ok(if outcome.status == 0 {
-        Some(outcome)
-    } else {
-        None
-    })
-}
-
-/// Whether the explorer prints this output with these arguments on this program.
-fn prints(alloc: Global, args: &str, program: &str, wanted: &str) -> Result<bool, AllocError> {
-    match explored(alloc, args, program)? {
-        Some(outcome) => Ok(outcome.output.taken() == wanted.as_bytes()),
-        None => Ok(false),
-    }
-}
-
-/// Whether the outcome of this number is what its schedule leads to.
+/// Whether the outcome or the wait of this number, which has this line, is what its schedule leads to; nothing where the line has neither.
 fn is_shown<R: Threads + Wait + Sync + AllocGlobal>(
     rt: &R,
     args: &str,
     program: &str,
     number: usize,
-    outcome: &str,
-) -> Result<bool, AllocError> {
-    let request = format!(in rt.alloc(); "{args} schedule {number}")?;
-    match explored(rt.alloc(), request.as_str(), program)? {
-        Some(schedule) => is_replayed(rt, args, program, schedule.output.taken(), outcome),
-        None => Ok(false),
-    }
-}
-
-/// Whether the wait of this number, which has this line, is what its schedule leads to.
-fn is_wait_shown<R: Threads + Wait + Sync + AllocGlobal>(
-    rt: &R,
-    args: &str,
-    program: &str,
-    number: usize,
     line: &str,
-) -> Result<bool, AllocError> {
-    let request = format!(in rt.alloc(); "{args} {number}")?;
-    match (
-        sides_in(line),
-        explored(rt.alloc(), request.as_str(), program)?,
-    ) {
-        (Some((waiter, other)), Some(schedule)) => {
-            is_held_up(rt, args, program, schedule.output.taken(), waiter, other)
-        }
-        _ => Ok(false),
+) -> Result<Option<bool>, AllocError> {
+    let is_wait = line.starts_with("wait ");
+    if !is_wait && !line.starts_with("outcome ") {
+        return Ok(None);
     }
+    let word = if is_wait { "" } else { " schedule" };
+    let request = format!(in rt.alloc(); "queue_explore {args}{word} {number}")?;
+    let told = run(rt, &rt.alloc(), request.as_str(), program.as_bytes(), SOUND)?;
+    let schedule = told.output.taken();
+    let leads = match sides_in(line) {
+        Some((waiter, other)) if is_wait => is_held_up(rt, args, program, schedule, waiter, other)?,
+        _ => is_replayed(rt, args, program, schedule, outcome_in(line))?,
+    };
+    Ok(Some(leads && told.status == 0))
 }
 
 /// The party that waits and the one that it waits for, of the line of a wait.
@@ -70,51 +44,46 @@ fn sides_in(line: &str) -> Option<(&str, &str)> {
 
 /// The part of an outcome's line that tells what it is.
 fn outcome_in(line: &str) -> &str {
-    let behind = match line.split_once(" | ") {
-        Some((_, behind)) => behind,
-        None => line,
-    };
-    match behind.split_once(" | schedules ") {
-        Some((outcome, _)) => outcome,
-        None => behind,
-    }
+    let (_, behind) = line.split_once(" | ").unwrap_or(("", line));
+    let (outcome, _) = behind.split_once(" | schedules ").unwrap_or((behind, ""));
+    outcome
 }
 
-/// How many outcomes or waits a list has, and how many of them are what their schedules lead to.
+/// How many outcomes or waits a list has, if each is what its schedule leads to.
 fn count_shown<R: Threads + Wait + Sync + AllocGlobal>(
     rt: &R,
     args: &str,
     program: &str,
     list: &str,
-) -> Result<(usize, usize), AllocError> {
-    let mut all: usize = 0;
-    let mut shown: usize = 0;
+) -> Result<Option<usize>, AllocError> {
+    let mut count: usize = 0;
     for (index, line) in list.lines().enumerate() {
-        let number = index.wrapping_add(1);
-        let is_right = if line.starts_with("outcome ") {
-            is_shown(rt, args, program, number, outcome_in(line))?
-        } else if line.starts_with("wait ") {
-            is_wait_shown(rt, args, program, number, line)?
-        } else {
-            continue;
-        };
-        all = all.wrapping_add(1);
-        if is_right {
-            shown = shown.wrapping_add(1);
+        match is_shown(rt, args, program, index.wrapping_add(1), line)? {
+            Some(true) => count = count.wrapping_add(1),
+            Some(false) => return Ok(None),
+            None => {}
         }
     }
-    Ok((all, shown))
+    Ok(Some(count))
 }
 
-/// Whether the explorer prints what it is to print with these arguments on this program, and how many of its outcomes or waits are shown by their schedules.
-pub fn program_agrees<R: Threads + Wait + Sync + AllocGlobal>(
+/// How many schedules of the program of this line are replayed, if the explorer prints what it is to print, and each leads to what it is to.
+pub fn program_runs<R: Threads + Wait + Sync + Files + Print + AllocGlobal>(
     rt: &R,
-    args: &str,
-    program: &[u8],
-    wanted: &[u8],
-) -> Result<(bool, usize), AllocError> {
-    let (program, wanted) = (text_of(program), text_of(wanted));
-    let same = prints(rt.alloc(), args, program, wanted)?;
-    let (all, shown) = count_shown(rt, args, program, wanted)?;
-    Ok((same && shown == all, shown))
+    line: &str,
+) -> io::Result<Option<usize>> {
+    let Some((args, name)) = line.rsplit_once(" ") else {
+        return Ok(None);
+    };
+    let line = format!(in rt.alloc();
+        "queue_explore {args} < programs/{name}.in > programs/{name}.out"
+    )?;
+    let Some(case) = Case::parse(line.as_str()) else {
+        return Ok(None);
+    };
+    if !case.agrees(rt)? {
+        return Ok(None);
+    }
+    let (program, list) = (case.input(rt)?, case.text(rt)?);
+    Ok(count_shown(rt, args, text_of(&program), text_of(&list))?)
 }

@@ -1,10 +1,10 @@
 //! What a replay of a schedule ends with, told as the explorer tells it.
-use crate::stored::runs::queue_run;
+use crate::stored::files::text_of;
+use crate::stored::runs::run;
 use std::alloc::AllocError;
-use std::str;
 use std::sync::Wait;
 use std::thread::Threads;
-use test_support::runs::Outcome;
+use test_support::runs::{Outcome, SOUND};
 
 /// Whether a replay of the schedule ends with this outcome of the program.
 pub fn is_replayed<R: Threads + Wait + Sync + AllocGlobal>(
@@ -14,7 +14,7 @@ pub fn is_replayed<R: Threads + Wait + Sync + AllocGlobal>(
     schedule: &[u8],
     outcome: &str,
 ) -> Result<bool, AllocError> {
-    let told = replay(rt, kind_in(args), party_count(program), schedule)?;
+    let told = replay(rt, args, program, schedule)?;
     let mut ends = String::new(rt.alloc());
     write_ends(program, text_of(told.output.taken()), &mut ends)?;
     Ok(ends.as_str() == outcome)
@@ -31,7 +31,7 @@ pub fn is_held_up<R: Threads + Wait + Sync + AllocGlobal>(
 ) -> Result<bool, AllocError> {
     let lines = text_of(schedule);
     let goes_on = format!(in rt.alloc(); "{lines}{waiter} run\n{other} run\n{waiter} run\n")?;
-    let told = replay(rt, kind_in(args), party_count(program), goes_on.as_bytes())?;
+    let told = replay(rt, args, program, goes_on.as_bytes())?;
     let told = text_of(told.output.taken());
     let count = lines.lines().count();
     Ok(
@@ -53,23 +53,17 @@ fn is_answered(told: &str, party: &str, before: usize) -> bool {
     false
 }
 
-// Replays the schedule on a queue of this kind.
+// Replays the schedule on a queue of the kind that the explorer's arguments name, with the program's parties.
 fn replay<R: Threads + Wait + Sync + AllocGlobal>(
     rt: &R,
-    kind: &str,
-    parties: usize,
-    mut schedule: &[u8],
+    args: &str,
+    program: &str,
+    schedule: &[u8],
 ) -> Result<Outcome, AllocError> {
+    let (kind, _) = args.split_once(" ").unwrap_or((args, ""));
+    let parties = party_count(program);
     let line = format!(in rt.alloc(); "queue_run replay {kind} {parties}")?;
-    queue_run(rt, &rt.alloc(), line.as_str(), &mut schedule)
-}
-
-// The kind of queue that the explorer's arguments name.
-fn kind_in(args: &str) -> &str {
-    match args.split_once(" ") {
-        Some((kind, _)) => kind,
-        None => args,
-    }
+    run(rt, &rt.alloc(), line.as_str(), schedule, SOUND)
 }
 
 // Appends what is told of an end: the replies of each party behind the calls that come first, and what is left.
@@ -101,17 +95,15 @@ fn write_replies(
     let mut is_first = true;
     for line in told.lines() {
         if let Some(reply) = reply_in(line, party, before) {
-            ends.push_str(lead(is_first))?;
+            if !is_first {
+                ends.push_str(";")?;
+            }
+            ends.push_str(" ")?;
             ends.push_str(reply)?;
             is_first = false;
         }
     }
     Ok(())
-}
-
-// What stands before a reply.
-fn lead(is_first: bool) -> &'static str {
-    if is_first { " " } else { "; " }
 }
 
 // The reply of the party that a line tells, if it tells one, of a line of the schedule behind the first ones.
@@ -129,10 +121,10 @@ fn reply_in<'a>(line: &'a str, party: &str, before: usize) -> Option<&'a str> {
 
 // Whether this is the name of an effect.
 fn is_effect(told: &str) -> bool {
-    match told {
-        "append" | "take" | "replace" | "front" | "arrive" | "close" | "self_close" => true,
-        _ => false,
-    }
+    matches!(
+        told,
+        "append" | "take" | "replace" | "front" | "arrive" | "close" | "self_close"
+    )
 }
 
 // How many lines of a schedule the calls that come first have: two for each.
@@ -161,13 +153,5 @@ fn party_in(line: &str) -> Option<&str> {
     match line.split_once(": ") {
         Some(("before", _)) | None => None,
         Some((party, _)) => Some(party),
-    }
-}
-
-/// A text of these bytes, or none.
-pub fn text_of(bytes: &[u8]) -> &str {
-    match str::from_utf8(bytes) {
-        Ok(text) => text,
-        Err(_) => "",
     }
 }

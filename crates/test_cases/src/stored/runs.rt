@@ -4,12 +4,11 @@ use app_explore::command::command;
 use machine_replay::blocks::BlockPlace;
 use queue_steps::sizes::BLOCK_SLOTS;
 use std::alloc::{AllocError, Allocator, Global, Layout};
-use std::io::Read;
 use std::sync::Wait;
 use std::thread::Threads;
 use test_support::allocators::{Heap, Refusal};
-use test_support::runs::{Outcome, words};
-use test_support::streams::{WHOLE, Writer};
+use test_support::runs::{Outcome, SOUND, Streams, words};
+use test_support::streams::{Reader, Writer};
 
 /// Memory of a run, of which the blocks of a replay are counted apart: no list that grows is as large as one.
 pub fn counting(alloc: Global) -> Result<Heap, AllocError> {
@@ -19,40 +18,38 @@ pub fn counting(alloc: Global) -> Result<Heap, AllocError> {
     }
 }
 
-/// Runs `queue_run` on the words of this line, of which the first is its name, in this memory.
-pub fn queue_run<R: Threads + Wait + Sync + AllocGlobal, A: Allocator, I: Read>(
+/// Runs the program that a line names first on the words behind it, with its memory from this allocator. The words, and what is written, have theirs from the global one.
+pub fn run<R: Threads + Wait + Sync + AllocGlobal, A: Allocator>(
     rt: &R,
     alloc: &A,
     line: &str,
-    input: &mut I,
+    input: &[u8],
+    streams: Streams,
 ) -> Result<Outcome, AllocError> {
-    let args = words(rt.alloc(), line)?;
-    let mut output = Writer::new(rt.alloc(), WHOLE);
-    let mut faults = Writer::new(rt.alloc(), WHOLE);
-    let ended = program(
-        rt,
-        alloc,
-        Ok(args.into_iter()),
-        input,
-        &mut output,
-        &mut faults,
-    );
-    Ok(Outcome {
-        status: ended.status,
-        output,
-        faults,
-    })
-}
-
-/// Runs `queue_explore` on these arguments.
-pub fn explore<I: Read>(alloc: Global, args: &str, input: &mut I) -> Result<Outcome, AllocError> {
-    let words = words(alloc, args)?;
-    let mut output = Writer::new(alloc, WHOLE);
-    let mut faults = Writer::new(alloc, WHOLE);
-    let status = command(&alloc, &words, input, &mut output, &mut faults);
+    let mut input = Reader::new(input, streams.input);
+    let mut output = Writer::new(rt.alloc(), streams.output);
+    let mut faults = Writer::new(rt.alloc(), streams.faults);
+    let status = match line.strip_prefix("queue_explore") {
+        Some(args) => {
+            let args = words(rt.alloc(), args)?;
+            command(alloc, &args, &mut input, &mut output, &mut faults)
+        }
+        None => {
+            let given = Ok(words(rt.alloc(), line)?.into_iter());
+            program(rt, alloc, given, &mut input, &mut output, &mut faults).status
+        }
+    };
     Ok(Outcome {
         status,
         output,
         faults,
     })
+}
+
+/// The arguments of a replay that is refused: no queue may have so many slots.
+const REFUSED: &str = "queue_run replay bounded:576460752303423489 1";
+
+/// The status with which that replay ends.
+pub fn status_of_refused<R: Threads + Wait + Sync + AllocGlobal>(rt: &R) -> Result<u8, AllocError> {
+    Ok(run(rt, &rt.alloc(), REFUSED, b"0 push 1\n", SOUND)?.status)
 }
