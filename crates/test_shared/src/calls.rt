@@ -1,15 +1,44 @@
-//! Calls of a party: as they are made, and as they are begun and taken up.
+//! Calls of a party: as they are made, and as they are begun, taken up and given up.
+ghost use Rattle.std.specs.Prelude.{◌≡◌, true, false, None};
+ghost use Rattle.concurrent_queue.specs.OneHeap.{IsOneHeap};
 ghost use Rattle.concurrent_queue.specs.Shared.{IsPartyOf};
 ghost use Rattle.test_shared.specs.Outcomes.{IsOf};
 
-use concurrent_queue::{ConcurrentQueue, Outcome, Party};
+use concurrent_queue::{ConcurrentQueue, NullTestable, Outcome, Party};
 use queue_steps::model::{Call, Reply};
+use std::alloc::Global;
+use std::process::Abort;
 use std::sync::Wait;
+use test_support::allocators::Heap;
 
-pub(crate) type Queue = ConcurrentQueue<u64>;
+/// Memory of a queue that parties share.
+pub(crate) trait Memory: NullTestable + Clone {
+    /// Whether there is one value of it, so that a call that is pending on a chain may be taken up.
+    fn is_one() -> bool
+        ensures { result ≡ true → IsOneHeap Self };
+}
+
+impl Memory for Global {
+    fn is_one() -> bool {
+        true
+    }
+}
+
+impl Memory for &Heap {
+    fn is_one() -> bool
+        ensures { result ≡ false }
+    {
+        false
+    }
+}
 
 /// Makes a call that only looks; in the place of any other, that for the capacity.
-fn look<R: Wait>(rt: &R, queue: &Queue, party: &mut Party<u64>, call: Call<u64>) -> Reply<u64>
+fn look<T: Drop, A: NullTestable, R: Wait>(
+    rt: &R,
+    queue: &ConcurrentQueue<T, A>,
+    party: &mut Party<T>,
+    call: Call<T>,
+) -> Reply<T>
     requires { IsPartyOf party.old queue.now }
     ensures { IsPartyOf party.new queue.now }
 {
@@ -23,12 +52,12 @@ fn look<R: Wait>(rt: &R, queue: &Queue, party: &mut Party<u64>, call: Call<u64>)
 }
 
 /// Makes a call.
-pub(crate) fn answer<R: Wait>(
+pub(crate) fn answer<T: Drop, A: NullTestable, R: Wait>(
     rt: &R,
-    queue: &Queue,
-    party: &mut Party<u64>,
-    call: Call<u64>,
-) -> Reply<u64>
+    queue: &ConcurrentQueue<T, A>,
+    party: &mut Party<T>,
+    call: Call<T>,
+) -> Reply<T>
     requires { IsPartyOf party.old queue.now }
     ensures { IsPartyOf party.new queue.now }
 {
@@ -42,7 +71,11 @@ pub(crate) fn answer<R: Wait>(
 }
 
 /// Begins a call.
-pub(crate) fn begin(queue: &Queue, party: Party<u64>, call: Call<u64>) -> Outcome<u64>
+pub(crate) fn begin<T, A: NullTestable>(
+    queue: &ConcurrentQueue<T, A>,
+    party: Party<T>,
+    call: Call<T>,
+) -> Outcome<T, A>
     requires { IsPartyOf party queue.now }
     ensures { IsOf result queue.now }
 {
@@ -52,16 +85,36 @@ pub(crate) fn begin(queue: &Queue, party: Party<u64>, call: Call<u64>) -> Outcom
     }
 }
 
+/// Asserts that a pending call may be taken up, or given up: on a chain there has to be one value of its memory.
+pub(crate) fn may_go_on<T, A: Memory>(rt: &impl Abort, queue: &ConcurrentQueue<T, A>)
+    ensures { queue.now.cap ≡ None → IsOneHeap A }
+{
+    match queue.capacity() {
+        Some(_) => {}
+        None => {
+            if !A::is_one() {
+                panic!(rt; "memory of many values")
+            }
+        }
+    }
+}
+
 /// Takes a call up, where it is pending.
-pub(crate) fn take_up(queue: &Queue, outcome: Outcome<u64>) -> Outcome<u64>
+pub(crate) fn take_up<T: Drop, A: Memory>(
+    rt: &impl Abort,
+    queue: &ConcurrentQueue<T, A>,
+    outcome: Outcome<T, A>,
+) -> Outcome<T, A>
     requires { IsOf outcome queue.now }
     ensures { IsOf result queue.now }
 {
-    match outcome {
+    let pending = match outcome {
+        Outcome::Done(party, reply) => return Outcome::Done(party, reply),
+        Outcome::Pending(pending) => pending,
+    };
+    may_go_on(rt, queue);
+    match queue.resume(pending) {
         Outcome::Done(party, reply) => Outcome::Done(party, reply),
-        Outcome::Pending(pending) => match queue.resume(pending) {
-            Outcome::Done(party, reply) => Outcome::Done(party, reply),
-            Outcome::Pending(pending) => Outcome::Pending(pending),
-        },
+        Outcome::Pending(pending) => Outcome::Pending(pending),
     }
 }

@@ -3,9 +3,11 @@ ghost use Rattle.std.specs.Prelude.{◌<◌};
 ghost use Rattle.concurrent_queue.specs.Shared.{IsPartyOf};
 ghost use denote.Param.Send.{IsSync};
 
+use crate::calls::{Memory, begin, take_up};
 use crate::opening::part;
-use concurrent_queue::{ConcurrentQueue, Party, PopError, PushError};
+use concurrent_queue::{ConcurrentQueue, Exclusive, Outcome, Party, PopError, PushError};
 use mem_blocks::null_testable::NullTestable;
+use queue_steps::model::{Call, Reply};
 use std::alloc::{Allocator, Global};
 use std::ops::Range;
 use std::process::Abort;
@@ -18,11 +20,9 @@ use test_support::signs::wait_for;
 /// How many turns a thread takes.
 pub(crate) const TURNS: u64 = 25_000;
 
-/// What threads share: which value is handed out next, how often each came out, how many threads push, and whether all threads have come.
+/// What threads share: how often each value came out, how many threads push, and whether all threads have come.
 #[derive(Drop)]
 pub(crate) struct Board {
-    /// The next value that is handed out, from 0 on.
-    pub(crate) next: AtomicU64,
     counts: Vec<AtomicU64>,
     running: AtomicU64,
     threads: u64,
@@ -41,7 +41,6 @@ impl Board {
         }
         let threads = threads as u64;
         Board {
-            next: AtomicU64::new(0),
             counts,
             running: AtomicU64::new(threads / 2),
             threads,
@@ -87,6 +86,10 @@ pub(crate) enum Deed {
     PushBut(u64),
     /// Pops, which has to give an item.
     PopOnce,
+    /// Pushes it, which has to be accepted, and leaves one item more than it says.
+    PushToLen,
+    /// Pops, which has to give an item, and leaves so many items less than this as there are numbers up to it.
+    PopToLen(u64),
     /// Pops it.
     PopInOrder,
     /// Pushes until it is accepted, and then pops, which has to give an item.
@@ -108,6 +111,10 @@ pub(crate) enum Role {
     PopWhileHeld,
     /// Pops as many items as there are numbers, and tries again where the queue is empty.
     Pop,
+    /// Pushes each by calls that never wait.
+    PushByTurns,
+    /// Pops as many by such calls, and tries again where the queue is empty.
+    PopByTurns,
     /// Pushes each by force, and counts what it displaces.
     Force,
     /// Pops until no thread pushes and the queue is empty.
@@ -158,49 +165,6 @@ pub(crate) fn pop_one<T: Drop, A: Allocator, R: Wait>(
     unreachable!()
 }
 
-/// Pushes a number. Gives whether that is answered so.
-fn pushes<A: NullTestable, R: Wait>(
-    rt: &R,
-    queue: &ConcurrentQueue<u64, A>,
-    party: &mut Party<u64>,
-    number: u64,
-    wanted: Result<(), PushError<u64>>,
-) -> bool
-    requires { IsPartyOf party.old queue.now }
-    ensures { IsPartyOf party.new queue.now }
-{
-    queue.push(rt, party, number) == wanted
-}
-
-/// Pops. Gives whether there is an item.
-fn pops<A: Allocator, R: Wait>(
-    rt: &R,
-    queue: &ConcurrentQueue<u64, A>,
-    party: &mut Party<u64>,
-) -> bool
-    requires { IsPartyOf party.old queue.now }
-    ensures { IsPartyOf party.new queue.now }
-{
-    queue.pop(rt, party).is_ok()
-}
-
-/// Pushes a number by force, and pops where it displaced nothing. Gives whether an item came out.
-fn forces_and_pops<A: NullTestable, R: Wait>(
-    rt: &R,
-    queue: &ConcurrentQueue<u64, A>,
-    party: &mut Party<u64>,
-    number: u64,
-) -> bool
-    requires { IsPartyOf party.old queue.now }
-    ensures { IsPartyOf party.new queue.now }
-{
-    match queue.force_push(rt, party, number) {
-        Ok(Some(_)) => true,
-        Ok(None) => pops(rt, queue, party),
-        Err(_) => false,
-    }
-}
-
 /// Does this with a number. Gives false where what had to be found was not.
 pub(crate) fn find<A: NullTestable, R: Wait>(
     rt: &R,
@@ -217,18 +181,30 @@ pub(crate) fn find<A: NullTestable, R: Wait>(
             push_one(rt, queue, party, number);
             true
         }
-        Deed::PushOnce => pushes(rt, queue, party, number, Ok(())),
         Deed::PushBut(refused) if refused == number => {
-            pushes(rt, queue, party, number, Err(PushError::NoMemory(number)))
+            queue.push(rt, party, number) == Err(PushError::NoMemory(number))
         }
-        Deed::PushBut(_) => pushes(rt, queue, party, number, Ok(())),
-        Deed::PopOnce => pops(rt, queue, party),
+        Deed::PushOnce | Deed::PushBut(_) => queue.push(rt, party, number).is_ok(),
+        Deed::PopOnce => queue.pop(rt, party).is_ok(),
+        Deed::PushToLen => {
+            let accepted = queue.push(rt, party, number).is_ok();
+            accepted && queue.len(rt, party) as u64 == number.wrapping_add(1)
+        }
+        Deed::PopToLen(items) => {
+            let came = queue.pop(rt, party).is_ok();
+            let left = queue.len(rt, party) as u64;
+            came && left.wrapping_add(number) == items.wrapping_sub(1)
+        }
         Deed::PopInOrder => pop_one(rt, queue, party) == number,
         Deed::PushAndPop => {
             push_one(rt, queue, party, number);
-            pops(rt, queue, party)
+            queue.pop(rt, party).is_ok()
         }
-        Deed::ForceAndPop => forces_and_pops(rt, queue, party, number),
+        Deed::ForceAndPop => match queue.force_push(rt, party, number) {
+            Ok(Some(_)) => true,
+            Ok(None) => queue.pop(rt, party).is_ok(),
+            Err(_) => false,
+        },
     }
 }
 
@@ -250,36 +226,38 @@ pub(crate) fn find_each<A: NullTestable, R: Wait>(
     right
 }
 
-/// Pops once a request is held, and lets the request go. Gives whether it was held, and the queue was found empty.
-fn pop_while_held<A: Allocator, R: Wait>(
+/// Makes a call that never waits: it is begun, taken up until it has its reply, and begun again until it is accepted. Counts the value that comes out.
+fn answer_surely<A: Memory, R: Wait + Abort>(
     rt: &R,
     queue: &ConcurrentQueue<u64, A>,
-    party: &mut Party<u64>,
-    heap: &Heap,
-) -> bool
-    requires { IsPartyOf party.old queue.now }
-    ensures { IsPartyOf party.new queue.now }
-{
-    let held = heap.comes_to_hold();
-    let popped = queue.pop(rt, party);
-    heap.let_go();
-    held && popped == Err(PopError::Empty)
-}
-
-/// Pushes a number by force, and counts what it displaces.
-fn force<A: NullTestable, R: Wait>(
-    rt: &R,
-    queue: &ConcurrentQueue<u64, A>,
-    party: &mut Party<u64>,
+    party: Party<u64>,
     board: &Board,
-    number: u64,
-)
-    requires { IsPartyOf party.old queue.now }
-    ensures { IsPartyOf party.new queue.now }
+    call: Call<u64>,
+) -> Party<u64>
+    requires { IsPartyOf party queue.now }
+    ensures { IsPartyOf result queue.now }
 {
-    if let Ok(Some(old)) = queue.force_push(rt, party, number) {
-        board.count(old);
+    let mut outcome = begin(queue, party, call);
+    for _ in rt.forever() {
+        outcome = match outcome {
+            Outcome::Done(party, reply) => match reply {
+                Reply::Push(Ok(())) => return party,
+                Reply::Pop(Ok(value)) => {
+                    board.count(value);
+                    return party;
+                }
+                _ => {
+                    yield_now();
+                    begin(queue, party, call)
+                }
+            },
+            Outcome::Pending(pending) => {
+                yield_now();
+                take_up(rt, queue, Outcome::Pending(pending))
+            }
+        };
     }
+    unreachable!()
 }
 
 /// One turn of a thread. Gives false where what had to be found was not.
@@ -301,20 +279,27 @@ fn turn<A: NullTestable, R: Wait>(
             queue.len(rt, party) <= most && right
         }
         Role::PushAndLetGo => {
-            let accepted = pushes(rt, queue, party, number, Ok(()));
+            let accepted = queue.push(rt, party, number).is_ok();
             board.heap.let_go();
             accepted
         }
-        Role::PopWhileHeld => pop_while_held(rt, queue, party, &board.heap),
+        Role::PopWhileHeld => {
+            let held = board.heap.comes_to_hold();
+            let popped = queue.pop(rt, party);
+            board.heap.let_go();
+            held && popped == Err(PopError::Empty)
+        }
         Role::Pop => {
             board.count(pop_one(rt, queue, party));
             true
         }
         Role::Force => {
-            force(rt, queue, party, board, number);
+            if let Ok(Some(old)) = queue.force_push(rt, party, number) {
+                board.count(old);
+            }
             true
         }
-        Role::Drain => true,
+        Role::PushByTurns | Role::PopByTurns | Role::Drain => true,
     }
 }
 
@@ -343,7 +328,7 @@ fn drain<A: Allocator, R: Wait>(
 }
 
 /// All turns of a thread, which begin once all threads have come.
-pub(crate) fn act<A: NullTestable, R: Wait>(
+pub(crate) fn act<A: Memory, R: Wait + Abort>(
     rt: &R,
     queue: &ConcurrentQueue<u64, A>,
     mut party: Party<u64>,
@@ -356,7 +341,14 @@ pub(crate) fn act<A: NullTestable, R: Wait>(
     let (role, first, end) = assignment;
     let mut right = board.come();
     for number in first..end {
-        right = turn(rt, queue, &mut party, board, role, number) && right;
+        party = match role {
+            Role::PushByTurns => answer_surely(rt, queue, party, board, Call::Push(number)),
+            Role::PopByTurns => answer_surely(rt, queue, party, board, Call::Pop),
+            _ => {
+                right = turn(rt, queue, &mut party, board, role, number) && right;
+                party
+            }
+        };
     }
     match role {
         Role::Force => {
@@ -369,7 +361,7 @@ pub(crate) fn act<A: NullTestable, R: Wait>(
 }
 
 /// A thread and so many others. Each has the assignment of its number, of which this one has the greatest.
-pub(crate) fn crew<A: NullTestable + Send + Sync, R: Wait + Threads + Sync + Abort>(
+pub(crate) fn crew<A: Memory + Send + Sync, R: Wait + Threads + Sync + Abort>(
     rt: &R,
     queue: &ConcurrentQueue<u64, A>,
     party: Party<u64>,
@@ -396,4 +388,20 @@ pub(crate) fn crew<A: NullTestable + Send + Sync, R: Wait + Threads + Sync + Abo
         { crew(rt, queue, b, board, assignments, others - 1) },
     );
     (queue.join(a, b), right && right_too)
+}
+
+/// Pops all items, which are those of up to four threads, so many of each: the numbers from 0 on, from so many on, and so on. Gives how many of each thread came in their order.
+pub(crate) fn in_order<A: Allocator>(mut alone: Exclusive<u64, A>, each: u64) -> [u64; 4]
+    requires { 0 < each }
+{
+    let mut counts = [0u64; 4];
+    for _ in 0..alone.len() {
+        if let Ok(item) = alone.pop()
+            && let Some(count) = counts.get_mut((item / each) as usize)
+            && *count == item % each
+        {
+            *count = count.wrapping_add(1);
+        }
+    }
+    counts
 }

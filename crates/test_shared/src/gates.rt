@@ -4,7 +4,7 @@ ghost use Rattle.concurrent_queue.specs.Shared.{IsPartyOf};
 use call_driver::gate::Gate;
 use concurrent_queue::{ConcurrentQueue, NullTestable, Party};
 use queue_steps::model::{Call, Reply};
-use queue_steps::steps::{Link, Op, Word};
+use queue_steps::steps::{Link, Op, READ, WRITE, Word};
 use shared_chain::source::Granting;
 use std::sync::Wait;
 use std::sync::atomic::{AtomicBool, Ordering};
@@ -12,7 +12,7 @@ use test_support::allocators::Heap;
 use test_support::signs::wait_for;
 
 /// What tells the fast steps of the calls that pass a gate from those of other callers.
-pub(crate) struct Told;
+struct Told;
 
 /// What the two threads of a story show each other.
 #[derive(Drop)]
@@ -38,97 +38,95 @@ impl Signs {
     }
 }
 
-/// What tells a word, of whichever block: its place in `Word`, and its slot.
-fn key_of_word<B: Copy>(word: &Word<B>) -> (u64, usize) {
-    match word {
-        Word::Lock => (0, 0),
-        Word::Head => (1, 0),
-        Word::Tail => (2, 0),
-        Word::Stamp(slot) => (3, *slot),
-        Word::State(_, slot) => (4, *slot),
-    }
-}
-
-/// What tells an operation before which a call is held or comes again, of whichever block: its place in `Op`, its word and its value.
-fn key_of<B: Copy>(op: &Op<B>) -> Option<(u64, (u64, usize), u64)> {
+/// Whether this is the operation of a step, by the step's name in `docs/STEPS.md`. It has those that a story may name, and those to which a call on a ring comes again while it waits for an item that is coming.
+fn is_step<B: Copy>(step: &str, op: &Op<B>) -> bool {
     match op {
-        Op::Load(word) => Some((0, key_of_word(word), 0)),
-        Op::Store(word, value) => Some((1, key_of_word(word), *value)),
-        Op::Add(word, value) => Some((2, key_of_word(word), *value)),
-        Op::Or(word, value) => Some((3, key_of_word(word), *value)),
-        Op::And(word, value) => Some((4, key_of_word(word), *value)),
-        Op::StoreLink(Link::TailBlock, _) => Some((7, (0, 0), 0)),
-        _ => None,
+        Op::And(Word::Lock, _) => step == "P2" || step == "O2",
+        Op::Load(Word::Tail) => step == "B1",
+        Op::Load(Word::Head) => step == "O1",
+        Op::Store(Word::Stamp(_), _) => step == "B4" || step == "O4",
+        Op::Add(Word::Tail, _) => step == "F6",
+        Op::StoreLink(Link::TailBlock, _) => step == "U6",
+        Op::Or(Word::State(_, _), bit) => {
+            *bit == WRITE && step == "U9" || *bit == READ && step == "V10"
+        }
+        _ => false,
     }
 }
 
-/// Whether this is that operation, of whichever block.
-fn is_operation<B: Copy>(op: &Op<B>, that: &Op<()>) -> bool {
-    let key = key_of(op);
-    key.is_some() && key == key_of(that)
-}
-
-/// What a call does at the operation of its gate.
+/// The gate of a call that is held before a step, until the other party's calls are answered, or have met it. A request of theirs that is held goes on then.
 #[derive(Drop)]
-pub(crate) enum Part<'a> {
-    /// It is held until the other party's calls are answered, or have met it. A request of theirs that is held here goes on once the call is held.
-    Held(Option<&'a Heap>),
-    /// It waits: when it comes there again it has found the held call in its way, and that one may go on.
-    Waits(AtomicBool),
-}
-
-/// The gate of a held call, or of a call that waits for it.
-#[derive(Drop)]
-pub(crate) struct Meeting<'a> {
-    pub(crate) at: &'a Op<()>,
-    pub(crate) part: Part<'a>,
+pub(crate) struct Holding<'a> {
+    pub(crate) step: &'a str,
+    /// The call is to begin when a request of theirs is held.
+    pub(crate) once_asked: bool,
     pub(crate) signs: &'a Signs,
+    pub(crate) heap: &'a Heap,
 }
 
-/// Holds a call until the other party's calls are answered, or have met it.
-fn hold(signs: &Signs, heap: Option<&Heap>) {
-    signs.held.store(true, Ordering::SeqCst);
-    if let Some(heap) = heap {
-        heap.let_go();
-    }
-    let met = wait_for(&signs.met);
-    signs.let_go.store(met, Ordering::SeqCst);
-}
-
-/// Lets the held call go on where a call comes for a second time.
-fn come(signs: &Signs, came: &AtomicBool) {
-    if came.swap(true, Ordering::SeqCst) {
-        signs.met.store(true, Ordering::SeqCst);
-    }
-}
-
-impl Gate for Meeting<'_> {
+impl Gate for Holding<'_> {
     fn pass<B: Copy>(&self, op: &Op<B>) {
-        if is_operation(op, self.at) {
-            match &self.part {
-                Part::Held(heap) => hold(self.signs, *heap),
-                Part::Waits(came) => come(self.signs, came),
-            }
+        if is_step(self.step, op) {
+            self.signs.held.store(true, Ordering::SeqCst);
+            self.heap.let_go();
+            let met = wait_for(&self.signs.met);
+            self.signs.let_go.store(met, Ordering::SeqCst);
         }
     }
 }
 
-/// Makes a call that is held before this operation, until it is let go by these signs. It lets the request go then that is held, if there is one.
-pub(crate) fn call_held<'a, T, A: NullTestable, R: Wait>(
+/// The gate of a call that waits: when it comes to this step again it has found the held call in its way, and that one may go on.
+#[derive(Drop)]
+struct Waiting<'a> {
+    step: &'a str,
+    signs: &'a Signs,
+    came: AtomicBool,
+}
+
+impl Gate for Waiting<'_> {
+    fn pass<B: Copy>(&self, op: &Op<B>) {
+        if is_step(self.step, op) && self.came.swap(true, Ordering::SeqCst) {
+            self.signs.met.store(true, Ordering::SeqCst);
+        }
+    }
+}
+
+/// Makes a call that is held at this gate. It lets a request go that is held when it has ended, at the latest.
+pub(crate) fn call_held<T, A: NullTestable, R: Wait>(
     rt: &R,
     queue: &ConcurrentQueue<T, A>,
     mut party: Party<T>,
     call: Call<T>,
-    at: &'a Op<()>,
-    signs: &'a Signs,
-    heap: Option<&'a Heap>,
+    gate: &Holding<'_>,
 ) -> (Party<T>, Reply<T>)
     requires { IsPartyOf party queue.now }
     ensures { IsPartyOf result.0 queue.now }
 {
-    let part = Part::Held(heap);
-    let gate = Meeting { at, part, signs };
-    let reply = queue.answer::<Granting, R, Meeting<'_>, Told>(rt, &gate, &mut party, call);
-    signs.ended.store(true, Ordering::SeqCst);
+    if gate.once_asked {
+        gate.heap.comes_to_hold();
+    }
+    let reply = queue.answer::<Granting, R, Holding<'_>, Told>(rt, gate, &mut party, call);
+    gate.heap.let_go();
+    gate.signs.ended.store(true, Ordering::SeqCst);
     (party, reply)
+}
+
+/// Makes a call on a ring that has to wait for an item that is coming.
+pub(crate) fn call_waiting<'a, T, A: NullTestable, R: Wait>(
+    rt: &R,
+    queue: &ConcurrentQueue<T, A>,
+    party: &mut Party<T>,
+    call: Call<T>,
+    signs: &'a Signs,
+) -> Reply<T>
+    requires { IsPartyOf party.old queue.now }
+    ensures { IsPartyOf party.new queue.now }
+{
+    let step = match &call {
+        Call::Pop => "O1",
+        _ => "B1",
+    };
+    let came = AtomicBool::new(false);
+    let gate = Waiting { step, signs, came };
+    queue.answer::<Granting, R, Waiting<'_>, Told>(rt, &gate, party, call)
 }

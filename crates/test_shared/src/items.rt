@@ -1,17 +1,36 @@
-//! Items whose copies are counted.
+//! Items that have a number, and are counted until they are dropped.
 use std::alloc::Global;
 use std::process::Abort;
 use std::sync::Arc;
 
-/// An item. There are as many as its count says.
-pub(crate) type Item = Arc<u64>;
-
-/// An item, of which there is no other. Asserts that there is memory.
-pub(crate) fn first_item(rt: &impl Abort, alloc: Global) -> Item {
-    Arc::new(alloc, 0).expect(rt, "memory")
+/// What counts items.
+#[derive(Drop)]
+pub(crate) struct Items {
+    count: Arc<u64>,
 }
 
-/// One item more. Asserts that there is memory.
-pub(crate) fn item_of(rt: &impl Abort, item: &Item) -> Item {
-    item.clone().expect(rt, "memory")
+/// An item.
+#[derive(Drop)]
+pub(crate) struct Item {
+    pub(crate) number: u64,
+    counted: Arc<u64>,
+}
+
+impl Items {
+    /// There is none. Asserts that there is memory.
+    pub(crate) fn none(rt: &impl Abort, alloc: Global) -> Items {
+        let count = Arc::new(alloc, 0).expect(rt, "memory");
+        Items { count }
+    }
+
+    /// One more. Asserts that there is memory.
+    pub(crate) fn item(&self, rt: &impl Abort, number: u64) -> Item {
+        let counted = self.count.clone().expect(rt, "memory");
+        Item { number, counted }
+    }
+
+    /// How many there are.
+    pub(crate) fn alive(&self) -> u64 {
+        (Arc::strong_count(&self.count) as u64).wrapping_sub(1)
+    }
 }

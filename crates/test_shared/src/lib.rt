@@ -14,8 +14,6 @@ mod items;
 #[cfg(test)]
 mod opening;
 #[cfg(test)]
-mod pending;
-#[cfg(test)]
 mod shared;
 #[cfg(test)]
 mod stories;

@@ -3,12 +3,12 @@ ghost use Rattle.std.specs.Prelude.{◌≡◌, IfOk};
 ghost use Rattle.queue_steps.specs.Shares.{entire};
 ghost use Rattle.concurrent_queue.specs.Shared.{IsPartyOf};
 
-use crate::asserts::is;
-use crate::crew::{Deed, find_each};
 use concurrent_queue::{ConcurrentQueue, Exclusive, NullTestable, Party};
 use std::alloc::{AllocError, Allocator};
 use std::process::Abort;
-use std::sync::Wait;
+
+/// A queue of numbers.
+pub(crate) type Queue = ConcurrentQueue<u64>;
 
 /// A queue and its only party, where there was memory.
 pub(crate) type Opened<T, A> = Result<(ConcurrentQueue<T, A>, Party<T>), AllocError>;
@@ -57,23 +57,6 @@ pub(crate) fn part<T: Drop, A: Allocator>(
     }
 }
 
-/// A queue into which so many numbers are pushed, from 1 on, and two parties. Asserts that each is accepted.
-pub(crate) fn open_filled<A: NullTestable + Clone, R: Wait + Abort>(
-    rt: &R,
-    alloc: A,
-    cap: Option<usize>,
-    pushed: u64,
-) -> (ConcurrentQueue<u64, A>, Party<u64>, Party<u64>)
-    ensures { IsPartyOf result.1 result.0 × IsPartyOf result.2 result.0 }
-{
-    let (queue, mut party) = open_surely(rt, alloc, cap);
-    let numbers = 1..pushed.wrapping_add(1);
-    let filled = find_each(rt, &queue, &mut party, Deed::PushOnce, numbers);
-    is(rt, filled, true);
-    let (first, second) = part(rt, &queue, party);
-    (queue, first, second)
-}
-
 /// Ends the sharing. Asserts that it ends.
 pub(crate) fn end<T: Drop, A: Allocator>(
     rt: &impl Abort,
@@ -85,20 +68,5 @@ pub(crate) fn end<T: Drop, A: Allocator>(
     match queue.finish(party) {
         Ok(alone) => alone,
         Err(_) => panic!(rt; "not finished"),
-    }
-}
-
-/// Asserts that the sharing does not end with this party alone.
-pub(crate) fn stay_shared<T: Drop, A: Allocator>(
-    rt: &impl Abort,
-    queue: ConcurrentQueue<T, A>,
-    party: Party<T>,
-) -> (ConcurrentQueue<T, A>, Party<T>)
-    requires { IsPartyOf party queue }
-    ensures { (result.0 ≡ queue) × IsPartyOf result.1 queue }
-{
-    match queue.finish(party) {
-        Err(both) => both,
-        Ok(_) => panic!(rt; "finished with a party missing"),
     }
 }

@@ -3,7 +3,6 @@ pub mod blocks;
 pub mod dropped;
 pub mod drops;
 pub mod iterators;
-pub mod left;
-pub mod lengths;
 pub mod refusals;
 pub mod threads;
+pub mod trying;

@@ -3,9 +3,8 @@ ghost use Rattle.std.specs.Prelude.{◌≡◌, ◌<◌};
 ghost use Rattle.concurrent_queue.specs.Shared.{IsPartyOf};
 
 use crate::asserts::{is, is_in};
-use crate::crew::{Assignment, Board, Deed, Role, crew, find_each};
+use crate::crew::{Assignment, Board, Deed, Role, crew, find_each, in_order};
 use crate::opening::{end, open_surely};
-use crate::shared::left::in_order;
 use concurrent_queue::{ConcurrentQueue, Exclusive, Party};
 use std::alloc::Global;
 use std::process::Abort;
@@ -42,18 +41,18 @@ fn end_counted<'a>(
     (alone, counts)
 }
 
-/// Lets threads work at these assignments, of one and so many others, on a queue without a capacity, where the first request of the pushes may be held. Gives the queue, whether each thread got what it had to, and what `end_counted` gives.
+/// Lets threads work at these assignments on a queue without a capacity, where the first request of the pushes may be held. Gives the queue, whether each thread got what it had to, and what `end_counted` gives.
 fn work_counted<'a, R: Wait + Threads + Sync + Abort>(
     rt: &R,
     board: &'a Board,
     assignments: &[Assignment],
-    others: u64,
     held: bool,
 ) -> (Exclusive<u64, &'a Heap>, bool, [u64; 4]) {
     let (queue, party) = open_surely(rt, &board.heap, None);
     if held {
         board.heap.hold_next();
     }
+    let others = assignments.len().saturating_sub(1) as u64;
     let (party, right) = crew(rt, &queue, party, board, assignments, others);
     let (alone, counts) = end_counted(rt, &board.heap, queue, party);
     (alone, right, counts)
@@ -68,7 +67,7 @@ static PASS: [Assignment; 2] = [
 #[test]
 fn passed_blocks_are_given_back(rt: HostRuntime) {
     let board = Board::of(&rt, rt.alloc(), PASS.len(), 0);
-    let (_, right, counts) = work_counted(&rt, &board, &PASS, 1, false);
+    let (_, right, counts) = work_counted(&rt, &board, &PASS, false);
     is(&rt, (right, counts), (true, [2, 0, 1, 1]));
 }
 
@@ -83,7 +82,7 @@ static ASK: [Assignment; 4] = [
 #[test]
 fn two_of_four_threads_ask_for_the_first_block(rt: HostRuntime) {
     let board = Board::of(&rt, rt.alloc(), ASK.len(), 0);
-    let (alone, right, counts) = work_counted(&rt, &board, &ASK, 3, true);
+    let (alone, right, counts) = work_counted(&rt, &board, &ASK, true);
     let held = board.heap.held_until_let_go();
     let seen = (right, held, counts, in_order(alone, EACH));
     is(&rt, seen, (true, true, [65, 4000, 64, 64], [EACH; 4]));
@@ -95,7 +94,7 @@ static MEANWHILE: [Assignment; 2] = [(Role::PushAndLetGo, 0, 1), (Role::PopWhile
 #[test]
 fn empty_while_a_push_asks_for_memory(rt: HostRuntime) {
     let board = Board::of(&rt, rt.alloc(), MEANWHILE.len(), 0);
-    let (mut alone, right, _) = work_counted(&rt, &board, &MEANWHILE, 1, true);
+    let (mut alone, right, _) = work_counted(&rt, &board, &MEANWHILE, true);
     let popped = alone.pop();
     let counts = [alone.blocks() as u64, board.heap.live()];
     let held = board.heap.held_until_let_go();

@@ -4,36 +4,35 @@ ghost use Rattle.concurrent_queue.specs.Shared.{IsPartyOf};
 
 use crate::asserts::is_in;
 use crate::crew::{pop_one, push_one};
-use crate::items::{Item, first_item, item_of};
+use crate::items::{Item, Items};
 use crate::opening::{open_surely, part};
-use concurrent_queue::{ConcurrentQueue, NullTestable, Party};
-use std::alloc::{Allocator, Global};
+use concurrent_queue::{ConcurrentQueue, Party};
+use std::alloc::Global;
 use std::process::Abort;
-use std::sync::{Arc, Wait};
+use std::sync::Wait;
 use std::thread::{Threads, join};
-use test_support::allocators::{Heap, Refusal};
 
 /// Pushes so many items.
-fn push_all<A: NullTestable, R: Wait + Abort>(
+fn push_all<R: Wait + Abort>(
     rt: &R,
-    queue: &ConcurrentQueue<Item, A>,
+    queue: &ConcurrentQueue<Item>,
     mut party: Party<Item>,
-    item: &Item,
+    items: &Items,
     count: u64,
 ) -> Party<Item>
     requires { IsPartyOf party queue.now }
     ensures { IsPartyOf result queue.now }
 {
     for _ in 0..count {
-        push_one(rt, queue, &mut party, item_of(rt, item));
+        push_one(rt, queue, &mut party, items.item(rt, 0));
     }
     party
 }
 
 /// Pops so many items, and drops them.
-fn pop_all<A: Allocator, R: Wait>(
+fn pop_all<R: Wait>(
     rt: &R,
-    queue: &ConcurrentQueue<Item, A>,
+    queue: &ConcurrentQueue<Item>,
     mut party: Party<Item>,
     count: u64,
 ) -> Party<Item>
@@ -46,51 +45,36 @@ fn pop_all<A: Allocator, R: Wait>(
     party
 }
 
-/// One thread pushes so many items, and another one pops as many as these, and drops them.
-fn push_and_pop<A: NullTestable + Send + Sync, R: Wait + Threads + Sync + Abort>(
-    rt: &R,
-    queue: &ConcurrentQueue<Item, A>,
-    party: Party<Item>,
-    item: &Item,
-    pushed: u64,
-    popped: u64,
-) -> Party<Item>
-    requires { IsPartyOf party queue.now }
-    ensures { IsPartyOf result queue.now }
-{
-    let (a, b) = part(rt, queue, party);
-    let (a, b) = join(
-        rt,
-        || push_all(rt, queue, a, item, pushed),
-        || pop_all(rt, queue, b, popped),
-    );
-    queue.join(a, b)
-}
+/// How many items are popped and dropped.
+const POPPED: u64 = 1000;
 
-/// Pops and drops so many items while another thread pushes them and as many more as are left in a queue of this capacity, or without one, and drops the queue. Gives how many items there are, with one that is in no queue, while it has its party, once that is dropped, and once the queue is.
+/// One thread pops and drops items, and another one pushes them and as many more as are left in a queue of this capacity, or without one. Gives how many items there are while it has its party, once that is dropped, and once the queue is.
 fn items_left<R: Wait + Threads + Sync + Abort>(
     rt: &R,
     alloc: Global,
     cap: Option<usize>,
-    popped: u64,
     left: u64,
-) -> [usize; 3] {
-    let heap = Heap::new(alloc, Refusal::Never);
-    let item = first_item(rt, alloc);
-    let (queue, party) = open_surely(rt, &heap, cap);
-    let pushed = popped.wrapping_add(left);
-    let party = push_and_pop(rt, &queue, party, &item, pushed, popped);
-    let shared = Arc::strong_count(&item);
+) -> [u64; 3] {
+    let items = Items::none(rt, alloc);
+    let (queue, party) = open_surely(rt, alloc, cap);
+    let (a, b) = part(rt, &queue, party);
+    let (a, b) = join(
+        rt,
+        || push_all(rt, &queue, a, &items, POPPED.wrapping_add(left)),
+        || pop_all(rt, &queue, b, POPPED),
+    );
+    let party = queue.join(a, b);
+    let shared = items.alive();
     drop(party);
-    let without_a_party = Arc::strong_count(&item);
+    let without_a_party = items.alive();
     drop(queue);
-    [shared, without_a_party, Arc::strong_count(&item)]
+    [shared, without_a_party, items.alive()]
 }
 
 #[test]
 fn every_item_once(rt: HostRuntime) {
-    for (cap, left, wanted) in [(Some(1), 1, 2), (Some(50), 20, 21), (None, 77, 78)] {
-        let seen = items_left(&rt, rt.alloc(), cap, 1000, left);
-        is_in(&rt, cap, seen, [wanted, wanted, 1]);
+    for (cap, left) in [(Some(1), 1), (Some(50), 20), (None, 77)] {
+        let seen = items_left(&rt, rt.alloc(), cap, left);
+        is_in(&rt, cap, seen, [left, left, 0]);
     }
 }

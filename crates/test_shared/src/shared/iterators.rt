@@ -1,10 +1,9 @@
-//! Iterators over shared queues, and what is printed of both.
+//! Iterators over shared queues, what is printed of both, and lengths.
 ghost use Rattle.concurrent_queue.specs.Shared.{IsPartyOf};
 
 use crate::asserts::{is, is_in};
-use crate::calls::Queue;
 use crate::crew::{Deed, find_each};
-use crate::opening::{open_surely, part};
+use crate::opening::{Queue, open_surely, part};
 use concurrent_queue::Party;
 use std::alloc::Global;
 use std::process::Abort;
@@ -137,5 +136,29 @@ fn is_printed<R: Wait + Abort>(rt: &R, alloc: Global, case: &Used) {
 fn queues_and_iterators_are_printed(rt: HostRuntime) {
     for case in USES.iter() {
         is_printed(&rt, rt.alloc(), case);
+    }
+}
+
+/// Pushes so many items into an empty queue and pops them, so many times. Gives whether the length was right after each call.
+fn swings<R: Wait>(rt: &R, queue: &Queue, party: &mut Party<u64>, items: u64, times: u64) -> bool
+    requires { IsPartyOf party.old queue.now }
+    ensures { IsPartyOf party.new queue.now }
+{
+    let mut right = queue.len(rt, party) == 0;
+    for _ in 0..times {
+        right = find_each(rt, queue, party, Deed::PushToLen, 0..items) && right;
+        right = find_each(rt, queue, party, Deed::PopToLen(items), 0..items) && right;
+    }
+    right
+}
+
+/// A few items often, and many once.
+#[test]
+fn length_after_each_call(rt: HostRuntime) {
+    for cap in [Some(1000), None] {
+        let (queue, mut party) = open_surely(&rt, rt.alloc(), cap);
+        let few = swings(&rt, &queue, &mut party, 100, 50);
+        let many = swings(&rt, &queue, &mut party, 1000, 1);
+        is_in(&rt, cap, (few, many), (true, true));
     }
 }

@@ -1,6 +1,6 @@
 use Rattle.std.specs.Prelude.{IfSome}
 use Rattle.test_shared.specs.Outcomes.{IsOf}
-use Rattle.test_shared.proofs.stories.told.lines_told.Given as goal
+use Rattle.test_shared.proofs.stories.telling.both_told.Given as goal
 
 -- the parties are still the queue's
 abbrev pub invariant-loop-line : goal.invariant-loop-line

@@ -1,11 +1,9 @@
-//! The errors of calls that answer busy in the place of waiting: how they are printed, what they hand back, and want of memory.
+//! The errors of calls that answer busy in the place of waiting: how they are printed, and what they hand back.
 use crate::asserts::{is, is_in};
-use crate::opening::open_surely;
 use concurrent_queue::{TryForcePushError, TryPopError, TryPushError};
 use std::alloc::Global;
 use std::fmt::{Debug, Display};
 use std::process::Abort;
-use test_support::allocators::{Heap, Refusal};
 
 static PUSHES: [(TryPushError<u64>, &str); 4] = [
     (TryPushError::Full(1), "Full Full(1)"),
@@ -56,17 +54,4 @@ fn printed_errors(rt: HostRuntime) {
     are_printed(&rt, rt.alloc(), &FORCES);
     are_printed(&rt, rt.alloc(), &POPS);
     are_handed_back(&rt);
-}
-
-/// The first block of a chain is refused to a push and to one by force.
-#[test]
-fn no_memory_for_a_call_that_is_tried(rt: HostRuntime) {
-    let heap = Heap::new(rt.alloc(), Refusal::Nth(2));
-    let (queue, mut party) = open_surely(&rt, &heap, None);
-    let pushed = queue.try_push(&mut party, 1u64);
-    is(&rt, pushed, Err(TryPushError::NoMemory(1)));
-    let heap = Heap::new(rt.alloc(), Refusal::Nth(2));
-    let (queue, mut party) = open_surely(&rt, &heap, None);
-    let forced = queue.try_force_push(&mut party, 1u64);
-    is(&rt, forced, Err(TryForcePushError::NoMemory(1)));
 }

@@ -1,5 +1,5 @@
 use Rattle.concurrent_queue.specs.Shared.{IsPartyOf}
-use Rattle.test_shared.proofs.shared.dropped.pop_some.Given as goal
+use Rattle.test_shared.proofs.shared.iterators.swings.Given as goal
 
 -- the party is still one of the queue's
 abbrev pub invariant-loop : goal.invariant-loop
