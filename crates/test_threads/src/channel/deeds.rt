@@ -8,7 +8,6 @@ use channel_handle::{Handle, PopError, PushError, Receiver, Sender};
 use counted_channel::{Channel, ChannelEnd};
 use std::alloc::AllocGlobal;
 use std::fmt::Debug;
-use std::mem::replace_with;
 use std::process::Abort;
 use std::sync::Wait;
 use std::time::{Duration, Instant};
@@ -40,6 +39,16 @@ impl AnyEnd {
         }
     }
 
+    /// What the channel's own iterator gives first. Asserts that this receives.
+    pub(crate) fn next<R: Host>(self, rt: &R) -> (AnyEnd, Option<u64>) {
+        let AnyEnd::Receives(receiver) = self else {
+            panic!(rt; "no receiver")
+        };
+        let (channel, mut end) = receiver.into_parts();
+        let item = next_by_hand(rt, &channel, &mut end);
+        (AnyEnd::Receives(Handle::from_parts(channel, end)), item)
+    }
+
     /// Ends it. Gives whether it was the last of its side.
     pub(crate) fn ends(self) -> bool {
         let (_, last) = match self {
@@ -69,7 +78,6 @@ fn receives<R: Host>(rt: &R, receiver: &mut Receiver<u64>, word: &str, number: u
         "recv" => said(rt, receiver.recv(rt)),
         "try_recv" => said(rt, receiver.try_recv(rt)),
         "recv_for" => said(rt, recv_for(rt, receiver, number)),
-        "next" => said(rt, next(rt, receiver)),
         "iter" => said(rt, all(rt, receiver)),
         "try_iter" => said(rt, all_there(rt, receiver)),
         _ => calls_alike(rt, receiver, word),
@@ -159,7 +167,7 @@ fn all_there<R: Host>(rt: &R, receiver: &mut Receiver<u64>) -> Vec<u64> {
         .expect(rt, "memory")
 }
 
-/// What the channel's own iterator gives first, to a receiver by hand.
+/// What an iterator of a channel gives first, to a receiver by hand.
 fn next_by_hand<R: Wait>(
     rt: &R,
     channel: &Channel<u64>,
@@ -169,17 +177,4 @@ fn next_by_hand<R: Wait>(
     ensures { IsEndOf receiver.new channel.now }
 {
     channel.items(rt, receiver).next()
-}
-
-/// The same of a receiver that is a value of its own.
-fn next<R: Wait>(rt: &R, receiver: &mut Receiver<u64>) -> Option<u64> {
-    replace_with(
-        receiver,
-        rt,
-        |receiver: Receiver<u64>, rt: &R| -> (Receiver<u64>, Option<u64>) {
-            let (channel, mut end) = receiver.into_parts();
-            let item = next_by_hand(rt, &channel, &mut end);
-            (Handle::from_parts(channel, end), item)
-        },
-    )
 }

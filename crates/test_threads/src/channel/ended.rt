@@ -56,26 +56,36 @@ fn left_by<R: Host>(rt: &R, sender: Sender<u64>, mut receiver: Receiver<u64>) ->
     finished(sent.join(came))
 }
 
-/// What is left where both ends are parted and become one again, and then end, once an item is sent that is received or left.
-fn joined<R: Host>(rt: &R, cap: Option<usize>, received: bool) -> Left {
-    let (mut one, mut receiver) = opened_surely(rt, rt.alloc(), cap);
+/// What is left of an item that is sent by a second sender, where both ends are parted, become one again, and end.
+fn left_of_joined<R: Host>(rt: &R, cap: Option<usize>) -> Left {
+    let (mut one, receiver) = opened_surely(rt, rt.alloc(), cap);
     let mut two = one_more(rt, &mut one);
     is(rt, two.send(rt, 7), Ok(()));
-    if received {
-        is(rt, receiver.recv(rt), Ok(7));
-    }
     let receiver = rejoined(rt, receiver);
     left_by(rt, one.join(two), receiver)
 }
 
 #[test]
 fn two_of_a_side_become_one(rt: HostRuntime) {
-    let closed = Err(PopError::Closed);
     for cap in CAPACITIES {
-        let left = joined(&rt, cap, false);
-        is_in(&rt, cap, left, Left::Queue(1, true, [Ok(7), closed]));
-        let left = joined(&rt, cap, true);
-        is_in(&rt, cap, left, Left::Queue(0, true, [closed, closed]));
+        let wanted = Left::Queue(1, true, [Ok(7), Err(PopError::Closed)]);
+        is_in(&rt, cap, left_of_joined(&rt, cap), wanted);
+    }
+}
+
+/// What is left of an item that is received before both ends end.
+fn left_of_received<R: Host>(rt: &R, cap: Option<usize>) -> Left {
+    let (mut sender, mut receiver) = opened_surely(rt, rt.alloc(), cap);
+    is(rt, sender.send(rt, 7), Ok(()));
+    is(rt, receiver.recv(rt), Ok(7));
+    left_by(rt, sender, receiver)
+}
+
+#[test]
+fn what_is_received_is_not_left(rt: HostRuntime) {
+    for cap in CAPACITIES {
+        let wanted = Left::Queue(0, true, [Err(PopError::Closed), Err(PopError::Closed)]);
+        is_in(&rt, cap, left_of_received(&rt, cap), wanted);
     }
 }
 

@@ -1,4 +1,4 @@
-//! How an end comes to be dropped.
+//! The ways in which an end comes to be dropped.
 use crate::host::Host;
 use std::alloc::AllocError;
 use std::io;
@@ -13,7 +13,11 @@ pub(crate) enum Way {
     RefusedStart,
 }
 
+/// How an end may be dropped.
 pub(crate) static WAYS: [Way; 4] = [Way::Drop, Way::Return, Way::Question, Way::RefusedStart];
+
+/// More bytes than a stack can have.
+const STACK: usize = 1 << 50;
 
 /// Fails, with an end in hand.
 fn refuse<E: Drop>(end: E) -> Result<(), AllocError> {
@@ -26,7 +30,7 @@ fn refuse<E: Drop>(end: E) -> Result<(), AllocError> {
 /// Gives an end to a thread that cannot be started.
 fn hand_on<R: Host, E: Send + Drop + 'static>(rt: &R, end: E) -> io::Result<()> {
     Builder::new()
-        .stack_size(1 << 50)
+        .stack_size(STACK)
         .spawn(rt, move || drop(end))?;
     Ok(())
 }

@@ -1,13 +1,13 @@
 //! What one thread is answered.
 use crate::asserts::is;
-use crate::channel::stories::{Told, tell};
+use crate::channel::stories::{Told, tell_all};
 use channel_handle::{Disconnected, SendError};
 use std::alloc::Global;
 use std::fmt::{Debug, Display};
 use std::io;
 use std::io::ErrorKind;
 
-static STORIES: [&str; 18] = [
+static STORIES: [&str; 16] = [
     "what was sent comes before the end: 2
 A: send 1; send 2; end -> true
 X: recv -> Ok(1); recv -> Ok(2); recv -> Err(Disconnected); end -> true",
@@ -82,9 +82,7 @@ X: capacity -> None",
 
 #[test]
 fn each_story_is_right(rt: HostRuntime) {
-    for story in STORIES {
-        tell(&rt, Told::InTurn, story);
-    }
+    tell_all(&rt, Told::InTurn, &STORIES);
 }
 
 /// Whether an error is printed so: as it is, in a field of eight, and for debugging.

@@ -4,6 +4,7 @@
 //!
 //! A deed is a call, by its word in [`deeds`](crate::channel::deeds), or one of these:
 //!
+//! - `next` is answered with the first item of the channel's own iterator, if there is one.
 //! - `end` ends the end, and is answered whether it was the last of its side. `leave` drops it; the story is told once for each way to do so.
 //! - `idle CALL` makes the call, which takes next to no processor time.
 //! - `sees X` waits until X sleeps, `pause 60` for so many milliseconds, `meet` until another end comes to meet this one. `pass` passes some time, which is another one in each round.
@@ -25,7 +26,7 @@ use std::time::Duration;
 const MOST: u64 = 1;
 
 /// How often a thread looks whether another one has come to meet it.
-const LOOKS: u64 = 100_000;
+const LOOKS: u64 = 10_000_000;
 
 /// How a story is told.
 #[derive(Clone, Copy)]
@@ -136,11 +137,19 @@ fn answer<R: Host>(rt: &R, end: &mut Option<AnyEnd>, call: &str) -> String {
     }
 }
 
+/// What the channel's own iterator gives first. Asserts that there is an end, which receives.
+fn next<R: Host>(rt: &R, end: &mut Option<AnyEnd>) -> Option<u64> {
+    let (back, item) = taken(rt, end).next(rt);
+    *end = Some(back);
+    item
+}
+
 /// Makes a call, or ends the end. Asserts what that is answered.
 fn call<R: Host>(rt: &R, stage: &Stage, end: &mut Option<AnyEnd>, deed: &str) {
     let (call, wanted) = deed.split_once(" -> ").unwrap_or((deed, "Ok(())"));
     let found = match call {
         "end" => said(rt, taken(rt, end).ends()),
+        "next" => said(rt, next(rt, end)),
         _ => answer(rt, end, call),
     };
     let at = (stage.story, stage.cap, stage.way, deed);
@@ -231,7 +240,7 @@ fn tell_in_turn<R: Host>(rt: &R, stage: &Stage, mut cast: Cast, lines: &str) {
 }
 
 /// Tells the lines of each end on a thread of its own.
-fn tell_at_once<R: Host>(rt: &R, stage: &Stage, cast: Cast, lines: &str) {
+fn tell_at_once<R: Host + Sync>(rt: &R, stage: &Stage, cast: Cast, lines: &str) {
     let Cast {
         mut a,
         mut b,
@@ -258,7 +267,7 @@ fn tell_at_once<R: Host>(rt: &R, stage: &Stage, cast: Cast, lines: &str) {
 }
 
 /// Tells a story. Asserts what its lines say.
-pub(crate) fn tell<R: Host>(rt: &R, told: Told, text: &'static str) {
+pub(crate) fn tell<R: Host + Sync>(rt: &R, told: Told, text: &'static str) {
     let Some((head, lines)) = text.split_once("\n") else {
         panic!(rt; "no lines: {text}")
     };
@@ -279,5 +288,12 @@ pub(crate) fn tell<R: Host>(rt: &R, told: Told, text: &'static str) {
                 Told::AtOnce(_) => tell_at_once(rt, &stage, cast, lines),
             }
         }
+    }
+}
+
+/// Tells these stories.
+pub(crate) fn tell_all<R: Host + Sync>(rt: &R, told: Told, texts: &[&'static str]) {
+    for text in texts {
+        tell(rt, told, *text);
     }
 }

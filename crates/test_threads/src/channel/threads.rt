@@ -4,11 +4,10 @@ ghost use Rattle.counted_channel.specs.Channel.{IsEndOf};
 
 use crate::asserts::is;
 use crate::channel::opening::{opened_by_hand, two};
-use crate::host::Host;
 use concurrent_queue::Party;
 use counted_channel::{Channel, Receiver, SendError, Sender};
 use std::sync::Wait;
-use std::thread::join;
+use std::thread::{Threads, join};
 
 /// Sends 0, 1, .. up to 99, and ends. Gives its party, how many were sent, and whether each other one was answered that the channel is closed.
 fn send_hundred<R: Wait>(
@@ -50,7 +49,7 @@ fn take_some<R: Wait>(
 }
 
 /// Two senders in threads of their own send a hundred items each, and a receiver takes so many. Gives their party, how many were sent, whether each other one was answered `Closed`, and how many came.
-fn send_and_take<R: Host>(
+fn send_and_take<R: Threads + Wait + Sync>(
     rt: &R,
     channel: &Channel<u64>,
     one: Sender<u64>,

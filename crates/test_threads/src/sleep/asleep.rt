@@ -79,7 +79,7 @@ fn take_turns<R: Host>(rt: &R, mine: &Post, others: &Post, turns: u64, looks: bo
 }
 
 /// Two threads take so many turns each, of which the first looks or none. Gives what is left for each.
-fn turns_taken<R: Host>(rt: &R, turns: u64, looks: bool) -> (u64, u64) {
+fn turns_taken<R: Host + Sync>(rt: &R, turns: u64, looks: bool) -> (u64, u64) {
     let first = Post::new(1);
     let second = Post::new(0);
     join(

@@ -1,18 +1,8 @@
 //! An end falls asleep while another one does what it waits for, again and again, each time at a channel of its own.
-use crate::channel::stories::{Told, tell};
-use crate::host::Host;
+use crate::channel::stories::{Told, tell_all};
 
-/// How often an end falls asleep in each call.
+/// How often each story is told.
 const ROUNDS: u64 = 500;
-
-/// Tells each story in so many rounds.
-fn tell_often<R: Host>(rt: &R, stories: &[&'static str]) {
-    for round in 0..ROUNDS {
-        for story in stories {
-            tell(rt, Told::AtOnce(round), *story);
-        }
-    }
-}
 
 static RECEIVERS: [&str; 3] = [
     "an item is sent while a receiver falls asleep: 1
@@ -28,7 +18,9 @@ A: meet; pass; end -> true",
 
 #[test]
 fn no_receiver_sleeps_through_what_it_waits_for(rt: HostRuntime) {
-    tell_often(&rt, &RECEIVERS);
+    for round in 0..ROUNDS {
+        tell_all(&rt, Told::AtOnce(round), &RECEIVERS);
+    }
 }
 
 static SENDERS: [&str; 3] = [
@@ -45,7 +37,9 @@ X: meet; pass; end -> true",
 
 #[test]
 fn no_sender_sleeps_through_what_it_waits_for(rt: HostRuntime) {
-    tell_often(&rt, &SENDERS);
+    for round in 0..ROUNDS {
+        tell_all(&rt, Told::AtOnce(round), &SENDERS);
+    }
 }
 
 static DROPPED: [&str; 1] = [
@@ -56,5 +50,7 @@ A: meet; send 1; leave",
 
 #[test]
 fn no_end_is_slept_through(rt: HostRuntime) {
-    tell_often(&rt, &DROPPED);
+    for round in 0..ROUNDS {
+        tell_all(&rt, Told::AtOnce(round), &DROPPED);
+    }
 }

@@ -1,5 +1,5 @@
 //! Calls that wait for so long at most: 600,000 milliseconds are more than a test may take.
-use crate::channel::stories::{Told, tell};
+use crate::channel::stories::{Told, tell, tell_all};
 
 #[test]
 fn a_receive_in_vain_ends_after_its_time(rt: HostRuntime) {
@@ -29,9 +29,7 @@ A: pause 60; leave",
 
 #[test]
 fn what_comes_ends_a_timed_receive(rt: HostRuntime) {
-    for story in COMES {
-        tell(&rt, Told::AtOnce(0), story);
-    }
+    tell_all(&rt, Told::AtOnce(0), &COMES);
 }
 
 #[test]

@@ -1,13 +1,5 @@
 //! Each way in which an end that is seen asleep is woken.
-use crate::channel::stories::{Told, tell};
-use crate::host::Host;
-
-/// Tells stories of ends that sleep.
-fn tell_all<R: Host>(rt: &R, stories: &[&'static str]) {
-    for story in stories {
-        tell(rt, Told::AtOnce(0), *story);
-    }
-}
+use crate::channel::stories::{Told, tell_all};
 
 static RECEIVER: [&str; 3] = [
     "an item that is sent wakes a receiver: 1 3 -
@@ -23,7 +15,7 @@ A: sees X; force_send 7 -> Ok(None)",
 
 #[test]
 fn an_item_wakes_a_receiver(rt: HostRuntime) {
-    tell_all(&rt, &RECEIVER);
+    tell_all(&rt, Told::AtOnce(0), &RECEIVER);
 }
 
 static SENDER: [&str; 2] = [
@@ -37,7 +29,7 @@ X: sees A; try_recv -> Ok(7)",
 
 #[test]
 fn room_wakes_a_sender(rt: HostRuntime) {
-    tell_all(&rt, &SENDER);
+    tell_all(&rt, Told::AtOnce(0), &SENDER);
 }
 
 static RECEIVERS: [&str; 2] = [
@@ -53,7 +45,7 @@ A: sees X; sees Y; close -> true",
 
 #[test]
 fn the_last_sender_wakes_each_receiver(rt: HostRuntime) {
-    tell_all(&rt, &RECEIVERS);
+    tell_all(&rt, Told::AtOnce(0), &RECEIVERS);
 }
 
 static SENDERS: [&str; 2] = [
@@ -69,7 +61,7 @@ X: sees A; sees B; close -> true",
 
 #[test]
 fn the_last_receiver_wakes_each_sender(rt: HostRuntime) {
-    tell_all(&rt, &SENDERS);
+    tell_all(&rt, Told::AtOnce(0), &SENDERS);
 }
 
 static ONE_OF_TWO: [&str; 2] = [
@@ -83,7 +75,7 @@ B: sees A; close -> true",
 
 #[test]
 fn an_end_that_closes_wakes_another_of_its_side(rt: HostRuntime) {
-    tell_all(&rt, &ONE_OF_TWO);
+    tell_all(&rt, Told::AtOnce(0), &ONE_OF_TWO);
 }
 
 /// How often two are woken. The second call mostly comes before the first that is woken looks, but not always.
@@ -106,8 +98,8 @@ A: sees X; sees Y; force_send 7 -> Ok(None); force_send 7 -> Ok(None)",
 
 #[test]
 fn two_items_wake_two_receivers(rt: HostRuntime) {
-    for _ in 0..ROUNDS {
-        tell_all(&rt, &EACH_RECEIVER);
+    for round in 0..ROUNDS {
+        tell_all(&rt, Told::AtOnce(round), &EACH_RECEIVER);
     }
 }
 
@@ -124,8 +116,8 @@ X: sees A; sees B; try_recv -> Ok(7); try_recv -> Ok(7)",
 
 #[test]
 fn two_places_wake_two_senders(rt: HostRuntime) {
-    for _ in 0..ROUNDS {
-        tell_all(&rt, &EACH_SENDER);
+    for round in 0..ROUNDS {
+        tell_all(&rt, Told::AtOnce(round), &EACH_SENDER);
     }
 }
 
@@ -139,7 +131,7 @@ X: sees A; sees B; next -> Some(7); next -> Some(7); next -> Some(7)",
 
 #[test]
 fn two_senders_and_their_receiver_wake_each_other(rt: HostRuntime) {
-    for _ in 0..ROUNDS {
-        tell_all(&rt, &AT_A_SLOT);
+    for round in 0..ROUNDS {
+        tell_all(&rt, Told::AtOnce(round), &AT_A_SLOT);
     }
 }

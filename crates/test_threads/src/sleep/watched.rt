@@ -1,6 +1,5 @@
 //! What the system tells of a thread: its number, whether it sleeps, and how much processor time it had.
-use crate::host::Host;
-use std::fs;
+use crate::host::{Host, System};
 use std::sync::atomic::AtomicU64;
 use std::sync::atomic::Ordering::SeqCst;
 use std::thread::sleep;
@@ -73,18 +72,18 @@ pub(crate) fn time<R: Host>(rt: &R, path: &str) -> u64 {
 }
 
 /// How many threads this process has, or more than there may be where that cannot be read.
-pub(crate) fn threads(host: &HostRuntime) -> u64 {
-    match fs::read_to_string(host, PROCESS) {
-        Ok(text) => field(&text, 19),
-        Err(_) => u64::MAX,
+pub(crate) fn threads(system: &impl System) -> u64 {
+    match system.text(PROCESS) {
+        Some(text) => field(&text, 19),
+        None => u64::MAX,
     }
 }
 
 /// A text of the system. Asserts that it can be read.
 fn read<R: Host>(rt: &R, path: &str) -> String {
-    match fs::read_to_string(rt, path) {
-        Ok(text) => text,
-        Err(_) => panic!(rt; "a text of the system"),
+    match rt.text(path) {
+        Some(text) => text,
+        None => panic!(rt; "a text of the system"),
     }
 }
 
