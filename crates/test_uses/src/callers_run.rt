@@ -7,11 +7,8 @@ use counted_channel::Disconnected;
 
 #[test]
 fn handed_over(rt: HostRuntime) {
-    is(
-        &rt,
-        hand_over(&rt, rt.alloc(), 25_000),
-        Ok((312_487_500, 0)),
-    );
+    let handed = hand_over(&rt, rt.alloc(), 25_000);
+    is(&rt, handed, Ok((312_487_500, 0)));
 }
 
 #[test]
@@ -23,11 +20,8 @@ fn handed_to_one_and_to_five(rt: HostRuntime) {
 
 #[test]
 fn through_one_party(rt: HostRuntime) {
-    is(
-        &rt,
-        through_a_shared_slot(&rt, rt.alloc(), 7, 8),
-        Ok((7, 8)),
-    );
+    let through = through_a_shared_slot(&rt, rt.alloc(), 7, 8);
+    is(&rt, through, Ok((7, 8)));
 }
 
 #[test]
@@ -49,11 +43,7 @@ fn a_value_goes_through_a_slot(rt: HostRuntime) {
 fn all_that_two_threads_send_comes(rt: HostRuntime) {
     for cap in [1usize, 3, 5000] {
         let all = gather(&rt, rt.alloc(), cap, 1000).expect(&rt, "memory");
-        is_in(
-            &rt,
-            cap,
-            (all.sent, all.came, all.left),
-            ((1000, 1000), 2000, 0),
-        );
+        let seen = (all.sent, all.came, all.left);
+        is_in(&rt, cap, seen, ((1000, 1000), 2000, 0));
     }
 }

@@ -36,33 +36,6 @@ impl Shift<u64, Global> for Signing {
 /// What the caller pushes before the crew.
 const BEFORE: u64 = 1000;
 
-/// What came of such a crew. Asserts that there is memory for its posts.
-fn worked<R: Abort + Threads + Wait + Sync>(
-    rt: &R,
-    alloc: Global,
-    queue: &ConcurrentQueue<u64>,
-    party: Party<u64>,
-    roster: Roster,
-) -> Gathered<u64, Sign>
-    requires { IsPartyOf party queue.now }
-    ensures { IsPartyOf result.party queue.now }
-{
-    match run_shift(rt, alloc, queue, party, &Signing, roster) {
-        Ok(crew) => crew,
-        Err(_) => panic!(rt; "no memory for the posts"),
-    }
-}
-
-/// The queue that a party leaves, which is to have all of it. Asserts that it has.
-fn left(rt: &impl Abort, queue: ConcurrentQueue<u64>, party: Party<u64>) -> Exclusive<u64>
-    requires { IsPartyOf party queue }
-{
-    match queue.finish(party) {
-        Ok(left) => left,
-        Err(_) => panic!(rt; "a party is missing"),
-    }
-}
-
 /// How many of these pushed their number.
 fn pushed(posts: &[Sign]) -> usize {
     let mut count: usize = 0;
@@ -100,36 +73,31 @@ fn are_left(queue: &mut Exclusive<u64>, posts: &mut [Sign], count: usize) -> boo
 /// are in the queue.
 type Seen = (u64, bool, bool, usize, usize, bool);
 
-/// What came of a crew that left this queue and these posts, and whether its last thread pushed its number.
-fn seen_of(
-    left: &mut Exclusive<u64>,
-    posts: &mut [Sign],
-    started: u64,
-    all_started: bool,
-) -> (Seen, bool) {
-    let closed = left.is_closed();
-    let count = pushed(posts);
-    let last = match posts.last() {
-        Some((_, accepted)) => *accepted,
-        None => false,
-    };
-    let are_left = are_left(left, posts, count);
-    let seen = (started, all_started, closed, posts.len(), count, are_left);
-    (seen, last)
-}
-
-/// Runs such a crew on a queue with one item. Gives what came of it, and whether its last thread pushed its number.
+/// Runs such a crew on a queue with one item. Asserts that there is memory, and that no party is missing then. Gives what came of it, and whether its last thread pushed its number.
 fn run<R: Abort + Threads + Wait + Sync>(rt: &R, alloc: Global, roster: Roster) -> (Seen, bool) {
     let (queue, mut party) = open_surely(rt, alloc, Some(64));
     is(rt, queue.push(rt, &mut party, BEFORE).is_ok(), true);
+    let Ok(crew) = run_shift(rt, alloc, &queue, party, &Signing, roster) else {
+        panic!(rt; "no memory for the posts")
+    };
     let Gathered {
         party,
         mut posts,
         started,
         all_started,
-    } = worked(rt, alloc, &queue, party, roster);
-    let mut left = left(rt, queue, party);
-    seen_of(&mut left, &mut posts, started, all_started)
+    } = crew;
+    let Ok(mut left) = queue.finish(party) else {
+        panic!(rt; "a party is missing")
+    };
+    let closed = left.is_closed();
+    let count = pushed(&posts);
+    let last = match posts.last() {
+        Some((_, accepted)) => *accepted,
+        None => false,
+    };
+    let are_left = are_left(&mut left, &mut posts, count);
+    let seen = (started, all_started, closed, posts.len(), count, are_left);
+    (seen, last)
 }
 
 #[test]
@@ -148,44 +116,24 @@ fn each_thread_works_once(rt: HostRuntime) {
     }
 }
 
-/// What came of such a crew where of so many threads one is refused.
-fn refused<R: Abort + Threads + Wait + Sync>(
-    rt: &R,
-    alloc: Global,
-    threads: u64,
-    started: u64,
-    on_refusal: OnRefusal,
-) -> (Seen, bool) {
-    let roster = Roster {
-        threads,
-        limit: Limit(started),
-        on_refusal,
-    };
-    run(rt, alloc, roster)
-}
-
-/// One piece of work more than threads were started: the calling thread does it.
+/// One piece of work more than threads were started: the calling thread does it, or finds the queue closed. What is pushed is what the posts say.
 #[test]
 fn the_work_of_a_thread_that_is_refused_is_done_here(rt: HostRuntime) {
     for threads in [1, 3, 40] {
         for started in 0..threads {
-            let found = refused(&rt, rt.alloc(), threads, started, OnRefusal::GoOn);
-            let posts = started as usize + 1;
-            let wanted = ((started, false, false, posts, posts, true), true);
-            is_in(&rt, (threads, started), found, wanted);
-        }
-    }
-}
-
-/// What is pushed is what the posts say, and the thread that is refused finds the queue closed.
-#[test]
-fn the_queue_is_closed_where_a_thread_is_refused(rt: HostRuntime) {
-    for threads in [1, 3, 40] {
-        for started in 0..threads {
-            let found = refused(&rt, rt.alloc(), threads, started, OnRefusal::CloseQueue);
-            let posts = started as usize + 1;
-            let wanted = ((started, false, true, posts, found.0.4, true), false);
-            is_in(&rt, (threads, started), found, wanted);
+            for on_refusal in [OnRefusal::GoOn, OnRefusal::CloseQueue] {
+                let closes = on_refusal == OnRefusal::CloseQueue;
+                let roster = Roster {
+                    threads,
+                    limit: Limit(started),
+                    on_refusal,
+                };
+                let found = run(&rt, rt.alloc(), roster);
+                let posts = started as usize + 1;
+                let count = if closes { found.0.4 } else { posts };
+                let wanted = ((started, false, closes, posts, count, true), !closes);
+                is_in(&rt, (threads, started, closes), found, wanted);
+            }
         }
     }
 }
