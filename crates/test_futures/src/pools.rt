@@ -25,13 +25,29 @@ enum Workers {
 /// How many numbers each sender sends.
 const COUNT: u64 = 1000;
 
+/// Who sends and receives beside the tasks.
+#[derive(Clone, Copy, Debug, Drop)]
+enum Beside {
+    Nobody,
+    /// A thread that sends, and one that receives.
+    Threads,
+}
+
+/// What each second receiver does.
+#[derive(Clone, Copy, Debug, Drop)]
+enum Second {
+    /// It receives as the others do.
+    Receives,
+    /// It drops its futures.
+    Cancels,
+}
+
 /// What a run is of.
 #[derive(Clone, Copy, Debug, Drop)]
-struct Case {
-    cap: Option<usize>,
+struct Plan {
     workers: Workers,
-    /// Whether each second receiver drops its futures.
-    cancels: bool,
+    beside: Beside,
+    second: Second,
 }
 
 /// Sends all numbers from a thread.
@@ -82,26 +98,26 @@ fn work<R: Wait + Threads + Sync>(rt: &R, set: &TaskSet<Task>, workers: Workers)
 }
 
 /// Puts a task into the set.
-fn spawn(rt: &impl Abort, case: Case, set: &TaskSet<Task>, work: Work, came: &Arc<Came>) {
+fn spawn(rt: &impl Abort, set: &TaskSet<Task>, work: Work, came: &Arc<Came>) {
     let came = Arc::try_clone(came).expect(rt, "one more owner");
-    is_in(rt, case, set.spawn(Task { work, came }).is_ok(), true);
+    is_in(rt, "spawn", set.spawn(Task { work, came }).is_ok(), true);
 }
 
 /// What a receiver does.
-fn receives(case: Case, number: u64, stream: Incoming<u64>) -> Work {
-    if case.cancels && number % 2 == 0 {
-        return Work::Cancels {
+fn receives(second: Second, number: u64, stream: Incoming<u64>) -> Work {
+    match second {
+        Second::Cancels if number % 2 == 0 => Work::Cancels {
             stream,
             waits: false,
-        };
+        },
+        _ => Work::Receives(stream),
     }
-    Work::Receives(stream)
 }
 
 /// The tasks of a run, whose ends are parted from these.
 fn tasks<R: RandomSource + AllocGlobal + Abort>(
     rt: &R,
-    case: Case,
+    second: Second,
     sender: &mut Sender<u64>,
     receiver: &mut Receiver<u64>,
     came: &Arc<Came>,
@@ -110,14 +126,8 @@ fn tasks<R: RandomSource + AllocGlobal + Abort>(
     for number in 0..TASKS {
         let sink = outgoing(rt, sender.split().expect(rt, "a sender"));
         let stream = incoming(rt, receiver.split().expect(rt, "a receiver"));
-        spawn(
-            rt,
-            case,
-            &set,
-            Work::Sends(Sends::new(sink, COUNT, 0)),
-            came,
-        );
-        spawn(rt, case, &set, receives(case, number, stream), came);
+        spawn(rt, &set, Work::Sends(Sends::new(sink, COUNT, 0)), came);
+        spawn(rt, &set, receives(second, number, stream), came);
     }
     set
 }
@@ -128,91 +138,83 @@ fn wanted(ends: u64) -> (u64, u64, u64) {
     (ends.wrapping_mul(COUNT), ends.wrapping_mul(sum), ends)
 }
 
-/// What comes to tasks alone.
-fn run<R: Wait + Threads + RandomSource + AllocGlobal + Abort + Sync>(rt: &R, case: Case) {
-    let (mut sender, mut receiver) = opened(rt, case.cap);
+/// Each number comes once, at a channel of this capacity, and all receivers end.
+fn run<R: Wait + Threads + RandomSource + AllocGlobal + Abort + Sync>(
+    rt: &R,
+    cap: Option<usize>,
+    plan: Plan,
+) {
+    let (mut sender, mut receiver) = opened(rt, cap);
     let came = Arc::new(rt.alloc(), Came::new()).expect(rt, "memory");
-    let set = tasks(rt, case, &mut sender, &mut receiver, &came);
-    drop(sender);
-    drop(receiver);
-    work(rt, &set, case.workers);
-    is_in(rt, case, came.all(), wanted(TASKS));
+    let set = tasks(rt, plan.second, &mut sender, &mut receiver, &came);
+    let ends = match plan.beside {
+        Beside::Nobody => {
+            drop(sender);
+            drop(receiver);
+            work(rt, &set, plan.workers);
+            TASKS
+        }
+        Beside::Threads => {
+            join(
+                rt,
+                || join(
+                    rt,
+                    || send_all(rt, sender),
+                    || receive_all(rt, receiver, &came),
+                ),
+                || work(rt, &set, plan.workers),
+            );
+            TASKS + 1
+        }
+    };
+    is_in(rt, (cap, plan), came.all(), wanted(ends));
 }
 
-/// What comes to tasks and to a thread, where a thread sends too.
-fn run_beside_threads<R: Wait + Threads + RandomSource + AllocGlobal + Abort + Sync>(
-    rt: &R,
-    case: Case,
-) {
-    let (mut sender, mut receiver) = opened(rt, case.cap);
-    let came = Arc::new(rt.alloc(), Came::new()).expect(rt, "memory");
-    let set = tasks(rt, case, &mut sender, &mut receiver, &came);
-    join(
-        rt,
-        || join(
-            rt,
-            || send_all(rt, sender),
-            || receive_all(rt, receiver, &came),
-        ),
-        || work(rt, &set, case.workers),
-    );
-    is_in(rt, case, came.all(), wanted(TASKS.wrapping_add(1)));
+/// A run at each capacity.
+fn run_all<R: Wait + Threads + RandomSource + AllocGlobal + Abort + Sync>(rt: &R, plan: Plan) {
+    for cap in CAPACITIES {
+        run(rt, cap, plan);
+    }
 }
 
 #[test]
 fn each_number_comes_once_to_tasks_of_one_thread(rt: HostRuntime) {
-    for cap in CAPACITIES {
-        run(
-            &rt,
-            Case {
-                cap,
-                workers: Workers::One,
-                cancels: false,
-            },
-        );
-    }
+    let plan = Plan {
+        workers: Workers::One,
+        beside: Beside::Nobody,
+        second: Second::Receives,
+    };
+    run_all(&rt, plan);
 }
 
 #[test]
 fn each_number_comes_once_to_tasks_of_four_threads(rt: HostRuntime) {
-    for cap in CAPACITIES {
-        run(
-            &rt,
-            Case {
-                cap,
-                workers: Workers::Four,
-                cancels: false,
-            },
-        );
-    }
+    let plan = Plan {
+        workers: Workers::Four,
+        beside: Beside::Nobody,
+        second: Second::Receives,
+    };
+    run_all(&rt, plan);
 }
 
 #[test]
 fn each_number_comes_once_to_tasks_and_threads(rt: HostRuntime) {
-    for cap in CAPACITIES {
-        run_beside_threads(
-            &rt,
-            Case {
-                cap,
-                workers: Workers::Four,
-                cancels: false,
-            },
-        );
-    }
+    let plan = Plan {
+        workers: Workers::Four,
+        beside: Beside::Threads,
+        second: Second::Receives,
+    };
+    run_all(&rt, plan);
 }
 
 #[test]
 fn futures_that_are_dropped_lose_nothing(rt: HostRuntime) {
-    for cap in CAPACITIES {
-        run_beside_threads(
-            &rt,
-            Case {
-                cap,
-                workers: Workers::Four,
-                cancels: true,
-            },
-        );
-    }
+    let plan = Plan {
+        workers: Workers::Four,
+        beside: Beside::Threads,
+        second: Second::Cancels,
+    };
+    run_all(&rt, plan);
 }
 
 /// How often a receiver is polled by the thread that also polls its sender, where one number is in the channel at a time.
@@ -221,10 +223,8 @@ fn polls_at_one_slot<R: Wait + RandomSource + AllocGlobal + Abort>(rt: &R) -> u6
     let came = Arc::new(rt.alloc(), Came::new()).expect(rt, "memory");
     let set: TaskSet<Task> = TaskSet::new(rt, Doorbell::parking(), 1).expect(rt, "memory");
     let sends = Work::Sends(Sends::new(outgoing(rt, sender), COUNT, 10));
-    for work in [sends, Work::Receives(incoming(rt, receiver))] {
-        let came = Arc::try_clone(&came).expect(rt, "one more owner");
-        is_in(rt, 1, set.spawn(Task { work, came }).is_ok(), true);
-    }
+    spawn(rt, &set, sends, &came);
+    spawn(rt, &set, Work::Receives(incoming(rt, receiver)), &came);
     set.work(rt, 0);
     is_in(rt, 1, came.all(), wanted(1));
     came.polls()

@@ -118,6 +118,23 @@ impl Sends {
     }
 }
 
+/// A number came, or the end.
+fn note(came: &Came, cx: &mut Context<'_>, item: Option<u64>) -> Poll<()>
+    ensures armed { OnPending result (IsArmed cx.new) }
+    ensures kept { Keeps cx.old cx.new }
+{
+    match item {
+        Some(item) => {
+            came.note(item);
+            cx.yield_now()
+        }
+        None => {
+            came.end();
+            Poll::Ready(())
+        }
+    }
+}
+
 /// Receives the next number once there is one.
 fn receive(stream: &mut Incoming<u64>, cx: &mut Context<'_>, came: &Came) -> Poll<()>
     ensures armed { OnPending result (IsArmed cx.new) }
@@ -126,14 +143,7 @@ fn receive(stream: &mut Incoming<u64>, cx: &mut Context<'_>, came: &Came) -> Pol
     came.polls.fetch_add(1, SeqCst);
     match stream.poll_next(cx) {
         Poll::Pending => Poll::Pending,
-        Poll::Ready(Some(item)) => {
-            came.note(item);
-            cx.yield_now()
-        }
-        Poll::Ready(None) => {
-            came.end();
-            Poll::Ready(())
-        }
+        Poll::Ready(item) => note(came, cx, item),
     }
 }
 
@@ -153,20 +163,9 @@ fn cancel(
         recv.poll(cx)
     };
     match polled {
-        Poll::Ready(Ok(item)) => {
-            came.note(item);
-            cx.yield_now()
-        }
-        Poll::Ready(Err(_)) => {
-            came.end();
-            Poll::Ready(())
-        }
-        Poll::Pending => {
-            if *waits {
-                return receive(stream, cx, came);
-            }
-            cx.yield_now()
-        }
+        Poll::Ready(answer) => note(came, cx, answer.ok()),
+        Poll::Pending if *waits => receive(stream, cx, came),
+        Poll::Pending => cx.yield_now(),
     }
 }
 
