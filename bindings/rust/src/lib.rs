@@ -28,13 +28,12 @@ pub use handle::Handle;
 use pool::Pool;
 use raw::Party;
 use std::fmt;
+use std::num::NonZeroUsize;
 use std::panic::{RefUnwindSafe, UnwindSafe};
-use std::sync::OnceLock;
 
 /// A queue that any thread may use.
 pub struct ConcurrentQueue<T> {
-    capacity: Option<usize>,
-    pool: OnceLock<Pool<T>>,
+    pool: Pool<T>,
 }
 
 impl<T> UnwindSafe for ConcurrentQueue<T> {}
@@ -47,19 +46,12 @@ impl<T> ConcurrentQueue<T> {
     ///
     /// Where the capacity is 0, or so large that no memory has room for it.
     pub fn bounded(cap: usize) -> Self {
-        assert!(cap > 0, "capacity must be positive");
-        ConcurrentQueue { capacity: Some(cap), pool: OnceLock::from(Pool::new(Some(cap))) }
+        ConcurrentQueue { pool: Pool::bounded(NonZeroUsize::new(cap).expect("capacity must be positive")) }
     }
 
     /// A queue without a limit. It asks for memory at its first call.
     pub const fn unbounded() -> Self {
-        ConcurrentQueue { capacity: None, pool: OnceLock::new() }
-    }
-
-    /// Runs a call with a party that no other thread has.
-    #[inline]
-    fn with<R>(&self, call: impl FnOnce(&mut Party<T>) -> R) -> R {
-        self.pool.get_or_init(|| Pool::new(self.capacity)).with(call)
+        ConcurrentQueue { pool: Pool::unbounded() }
     }
 
     /// Appends an item.
@@ -68,7 +60,7 @@ impl<T> ConcurrentQueue<T> {
     ///
     /// Where the queue is full or closed, the item comes back.
     pub fn push(&self, value: T) -> Result<(), PushError<T>> {
-        self.with(|party| party.push(value))
+        self.pool.with(|party| party.push(value))
     }
 
     /// Appends an item, and hands the front out where the queue was full.
@@ -77,7 +69,7 @@ impl<T> ConcurrentQueue<T> {
     ///
     /// Where the queue is closed, the item comes back.
     pub fn force_push(&self, value: T) -> Result<Option<T>, ForcePushError<T>> {
-        self.with(|party| party.force_push(value))
+        self.pool.with(|party| party.force_push(value))
     }
 
     /// Takes the front off.
@@ -86,7 +78,7 @@ impl<T> ConcurrentQueue<T> {
     ///
     /// Where the queue is empty, which says whether it is closed too.
     pub fn pop(&self) -> Result<T, PopError> {
-        self.with(Party::pop)
+        self.pool.with(Party::pop)
     }
 
     /// Pops until nothing is there.
@@ -96,32 +88,32 @@ impl<T> ConcurrentQueue<T> {
 
     /// Whether the queue has no item at a moment of the call.
     pub fn is_empty(&self) -> bool {
-        self.with(Party::is_empty)
+        self.pool.with(Party::is_empty)
     }
 
     /// Whether the queue has as many items as its capacity at a moment of the call.
     pub fn is_full(&self) -> bool {
-        self.with(Party::is_full)
+        self.pool.with(Party::is_full)
     }
 
     /// The number of items at a moment of the call.
     pub fn len(&self) -> usize {
-        self.with(Party::len)
+        self.pool.with(Party::len)
     }
 
     /// The capacity, if there is one.
     pub fn capacity(&self) -> Option<usize> {
-        self.capacity
+        self.pool.capacity()
     }
 
     /// Closes the queue, and tells whether this call did it. The items stay.
     pub fn close(&self) -> bool {
-        self.with(Party::close)
+        self.pool.with(Party::close)
     }
 
     /// Whether the queue is closed.
     pub fn is_closed(&self) -> bool {
-        self.with(Party::is_closed)
+        self.pool.with(Party::is_closed)
     }
 }
 

@@ -2,58 +2,45 @@
 use crate::handle::Last;
 use crate::places::Places;
 use crate::raw::Party;
-use std::sync::{Mutex, MutexGuard, PoisonError};
+use std::num::NonZeroUsize;
+use std::sync::{Mutex, PoisonError};
 
-/// The parties that are at no place, and one that makes more of them.
-struct Reserve<T> {
-    spare: Vec<Party<T>>,
-    // Dropped after the others.
-    last: Last<T>,
-}
-
-/// A party for each thread, at its place or, where it has none, in the reserve.
+/// A party for each thread, at its place or, where it has none, for one call.
 pub struct Pool<T> {
+    capacity: Option<NonZeroUsize>,
     places: Places<T>,
-    // Dropped after the places.
-    reserve: Mutex<Reserve<T>>,
+    /// The party that makes the others, and none before the first call of a queue without a limit. Dropped after the places.
+    last: Mutex<Option<Last<T>>>,
 }
 
 impl<T> Pool<T> {
-    /// The pool of a new queue.
-    pub fn new(capacity: Option<usize>) -> Self {
-        let last = Last(Party::new(capacity));
-        Pool { places: Places::new(), reserve: Mutex::new(Reserve { spare: Vec::new(), last }) }
+    /// The pool of a new queue of this capacity.
+    pub fn bounded(capacity: NonZeroUsize) -> Self {
+        let last = Last(Party::new(Some(capacity.get())));
+        Pool { capacity: Some(capacity), places: Places::new(), last: Mutex::new(Some(last)) }
     }
 
-    fn reserve(&self) -> MutexGuard<'_, Reserve<T>> {
-        self.reserve.lock().unwrap_or_else(PoisonError::into_inner)
+    /// The pool of a new queue without a limit.
+    pub const fn unbounded() -> Self {
+        Pool { capacity: None, places: Places::new(), last: Mutex::new(None) }
+    }
+
+    /// The capacity, if there is one.
+    pub fn capacity(&self) -> Option<usize> {
+        self.capacity.map(NonZeroUsize::get)
     }
 
     #[cold]
     fn another(&self) -> Party<T> {
-        let mut reserve = self.reserve();
-        reserve.spare.pop().unwrap_or_else(|| reserve.last.0.split())
+        self.places.spare().unwrap_or_else(|| {
+            let mut last = self.last.lock().unwrap_or_else(PoisonError::into_inner);
+            last.get_or_insert_with(|| Last(Party::new(self.capacity()))).0.split()
+        })
     }
 
-    #[cold]
-    fn give_back(&self, party: Party<T>) {
-        self.reserve().spare.push(party);
-    }
-
-    /// Runs a call with a party that no other thread has.
+    /// Runs a call with a party that no other call has.
     #[inline]
     pub fn with<R>(&self, call: impl FnOnce(&mut Party<T>) -> R) -> R {
-        let mine = self.places.mine();
-        let mut party = mine.as_ref().and_then(|place| place.take()).unwrap_or_else(|| self.another());
-        let result = call(&mut party);
-        match mine {
-            Some(place) => {
-                if let Some(other) = place.put(party) {
-                    self.give_back(other);
-                }
-            }
-            None => self.give_back(party),
-        }
-        result
+        call(&mut self.places.lend(|| self.another()))
     }
 }

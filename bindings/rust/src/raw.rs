@@ -6,7 +6,7 @@ use std::alloc::{Layout, handle_alloc_error};
 use std::ffi::c_void;
 use std::marker::PhantomData;
 use std::mem::MaybeUninit;
-use std::ptr::null_mut;
+use std::ptr::NonNull;
 use std::thread::yield_now;
 
 const DONE: u32 = 0;
@@ -19,19 +19,16 @@ const PENDING: u32 = 12;
 /// A word of the queue: an item of at most its size, or a box of a larger one. The library never looks at it.
 type Word = MaybeUninit<u64>;
 
-/// A party as C sees it, or none where the pointer is null.
-#[repr(C)]
-struct Handle {
-    at: *mut c_void,
-}
-
-const NO_PARTY: Handle = Handle { at: null_mut() };
+/// A party as C sees it: a pointer that is null where there is none.
+#[derive(Clone, Copy, PartialEq)]
+#[repr(transparent)]
+struct Handle(NonNull<c_void>);
 
 unsafe extern "C" {
-    fn queue_c_bounded(out: &mut Handle, cap: usize) -> u32;
-    fn queue_c_unbounded(out: &mut Handle) -> u32;
-    fn queue_c_split(party: &mut Handle, out: &mut Handle) -> u32;
-    fn queue_c_drop(party: &mut Handle) -> u32;
+    fn queue_c_bounded(out: &mut Option<Handle>, cap: usize) -> u32;
+    fn queue_c_unbounded(out: &mut Option<Handle>) -> u32;
+    fn queue_c_split(party: &mut Handle, out: &mut Option<Handle>) -> u32;
+    fn queue_c_drop(party: &mut Option<Handle>) -> u32;
     fn queue_c_push(party: &mut Handle, value: Word) -> u32;
     fn queue_c_force_push(party: &mut Handle, value: Word, old: &mut Word) -> u32;
     fn queue_c_pop(party: &mut Handle, value: &mut Word) -> u32;
@@ -100,26 +97,29 @@ unsafe impl<T: Send> Send for Party<T> {}
 impl<T> Party<T> {
     /// The first party of a new queue of this capacity, or of one without a limit.
     pub fn new(cap: Option<usize>) -> Self {
-        let mut handle = NO_PARTY;
+        let mut handle = None;
         // SAFETY: the handle is new, and only this call has it.
-        let answer = match cap {
+        match cap {
             Some(cap) => unsafe { queue_c_bounded(&mut handle, cap) },
             None => unsafe { queue_c_unbounded(&mut handle) },
         };
-        if answer != DONE {
-            no_memory_for::<T>(cap.unwrap_or(1));
-        }
+        let Some(handle) = handle else { no_memory_for::<T>(cap.unwrap_or(1)) };
         Party { handle, items: PhantomData }
     }
 
     /// Another party of the same queue.
     pub fn split(&mut self) -> Self {
-        let mut other = NO_PARTY;
+        let mut other = None;
         // SAFETY: two handles, and only this call has them.
-        if unsafe { queue_c_split(&mut self.handle, &mut other) } != DONE {
-            no_memory();
-        }
-        Party { handle: other, items: PhantomData }
+        unsafe { queue_c_split(&mut self.handle, &mut other) };
+        let Some(handle) = other else { no_memory() };
+        Party { handle, items: PhantomData }
+    }
+
+    /// Whether the two are one party under one handle.
+    #[inline]
+    pub fn has_the_handle_of(&self, other: &Self) -> bool {
+        self.handle == other.handle
     }
 
     #[cold]
@@ -220,7 +220,7 @@ impl<T> Party<T> {
 
 impl<T> Drop for Party<T> {
     fn drop(&mut self) {
-        // SAFETY: only this call has the handle.
-        unsafe { queue_c_drop(&mut self.handle) };
+        // SAFETY: only this call has the handle, and nobody has it afterwards.
+        unsafe { queue_c_drop(&mut Some(self.handle)) };
     }
 }
