@@ -2,6 +2,7 @@
 ghost use Rattle.std.specs.Prelude.{IfSome};
 ghost use Rattle.concurrent_queue.specs.Shared.{IsPartyOf};
 ghost use Rattle.test_shared.specs.Outcomes.{IsOf};
+ghost use denote.Param.Send.{IsSync};
 
 use crate::asserts::{is, is_in};
 use crate::calls::Memory;
@@ -14,6 +15,7 @@ use crate::stories::lines::{
 use crate::stories::words::{call_of, reply_words};
 use app_text::args::{KindName, parse_kind};
 use concurrent_queue::Exclusive;
+use queue_steps::model::Reply;
 use std::alloc::Global;
 use std::process::Abort;
 use std::sync::Wait;
@@ -164,7 +166,7 @@ fn held_parts(deed: &str) -> (&str, &str, bool) {
     (call, step, once_asked)
 }
 
-/// The parties after a call of A that is held, as the first line says, and the others, which are B's. Asserts what the call is answered, that it was held and let go where it has to be, and that B's request was.
+/// All parties as one, after a call of A that is held, as the first line says, and the others, which are B's. Asserts what the call is answered, that it was held and let go where it has to be, and that B's request was.
 fn held_told<A: Memory + Send + Sync, R: Wait + Threads + Sync + Abort>(
     rt: &R,
     world: World<'_>,
@@ -172,9 +174,9 @@ fn held_told<A: Memory + Send + Sync, R: Wait + Threads + Sync + Abort>(
     party: Party,
     line: &str,
     lines: &str,
-) -> Pair
+) -> Party
     requires { IsPartyOf party queue.now }
-    ensures { IsPartyOf result.0 queue.now × IfSome result.1 (λ p. IsPartyOf p queue.now) }
+    ensures { IsPartyOf result queue.now }
 {
     let (deed, _) = sides(rt, line);
     let (text, step, once_asked) = held_parts(deed);
@@ -191,14 +193,23 @@ fn held_told<A: Memory + Send + Sync, R: Wait + Threads + Sync + Abort>(
     };
     let ((first, reply), second) = join(
         rt,
-        || call_held(rt, queue, first, call, &gate),
-        || other_told(rt, world, queue, second, lines, once_asked),
+        || -> (Party, Reply<Item>)
+            requires { IsSync R.row × IsPartyOf first queue.now }
+            ensures { IsPartyOf result.0 queue.entry.now }
+        { call_held(rt, queue, first, call, &gate) },
+        || -> Option<Party>
+            requires { IsSync R.row × IsPartyOf second queue.now }
+            ensures { IfSome result (λ p. IsPartyOf p queue.entry.now) }
+        { other_told(rt, world, queue, second, lines, once_asked) },
     );
     let let_go = world.signs.let_go.load(Ordering::SeqCst);
     let seen = (let_go, world.heap.held_until_let_go());
     is_in(rt, world.name, seen, (!step.is_empty(), once_asked));
     is_said(rt, world, line, reply_words(reply));
-    (first, second)
+    match second {
+        Some(second) => queue.join(first, second),
+        None => first,
+    }
 }
 
 /// A number of these digits. Asserts that it is one.
@@ -290,7 +301,7 @@ fn tell<A: Memory + Send + Sync, R: Wait + Threads + Sync + Abort>(
     let pair = match lines.strip_prefix("hold A ") {
         Some(held) => {
             let (line, lines) = held.split_once("\n").expect(rt, "lines of B");
-            held_told(rt, world, &queue, party, line, lines)
+            (held_told(rt, world, &queue, party, line, lines), None)
         }
         None => both_told(rt, world, &queue, party, lines),
     };
