@@ -15,7 +15,7 @@ use crate::stories::lines::{
 use crate::stories::words::{call_of, reply_words};
 use app_text::args::{KindName, parse_kind};
 use concurrent_queue::Exclusive;
-use queue_steps::model::Reply;
+use queue_steps::model::{Call, Reply};
 use std::alloc::Global;
 use std::process::Abort;
 use std::sync::Wait;
@@ -156,14 +156,58 @@ fn other_told<A: Memory, R: Wait + Abort>(
     other(rt, queue, b)
 }
 
-/// The call of A, the step before which it is held, if there is one, and whether it is to begin once B has asked for a block.
-fn held_parts(deed: &str) -> (&str, &str, bool) {
-    let (deed, once_asked) = match deed.strip_suffix(" once asked") {
-        Some(deed) => (deed, true),
-        None => (deed, false),
-    };
-    let (call, step) = deed.split_once(" at ").unwrap_or((deed, ""));
-    (call, step, once_asked)
+/// The text of the call that is held.
+fn call_in(deed: &str) -> &str {
+    let (deed, _) = deed.split_once(" once asked").unwrap_or((deed, ""));
+    let (call, _) = deed.split_once(" at ").unwrap_or((deed, ""));
+    call
+}
+
+/// The gate of a call that is held: its step, if there is one, and whether it is to begin once B has asked for a block, whose request is held then.
+fn gate_of<'a>(world: World<'a>, deed: &'a str) -> Holding<'a> {
+    let once_asked = deed.ends_with(" once asked");
+    if once_asked {
+        world.heap.hold_next();
+    }
+    let (deed, _) = deed.split_once(" once asked").unwrap_or((deed, ""));
+    let (_, step) = deed.split_once(" at ").unwrap_or((deed, ""));
+    Holding {
+        step,
+        once_asked,
+        signs: world.signs,
+        heap: world.heap,
+    }
+}
+
+/// Makes the call that is held at this gate, and lets B follow these lines. Gives all parties as one, and what the call is answered.
+fn make_both<A: Memory + Send + Sync, R: Wait + Threads + Sync + Abort>(
+    rt: &R,
+    world: World<'_>,
+    queue: &Queue<A>,
+    first: Party,
+    second: Party,
+    call: Call<Item>,
+    gate: &Holding<'_>,
+    lines: &str,
+) -> (Party, Reply<Item>)
+    requires { IsPartyOf first queue.now × IsPartyOf second queue.now }
+    ensures { IsPartyOf result.0 queue.now }
+{
+    let ((first, reply), second) = join(
+        rt,
+        || -> (Party, Reply<Item>)
+            requires { IsSync R.row × IsPartyOf first queue.now }
+            ensures { IsPartyOf result.0 queue.entry.now }
+        { call_held(rt, queue, first, call, gate) },
+        || -> Option<Party>
+            requires { IsSync R.row × IsPartyOf second queue.now }
+            ensures { IfSome result (λ p. IsPartyOf p queue.entry.now) }
+        { other_told(rt, world, queue, second, lines, gate.once_asked) },
+    );
+    match second {
+        Some(second) => (queue.join(first, second), reply),
+        None => (first, reply),
+    }
 }
 
 /// All parties as one, after a call of A that is held, as the first line says, and the others, which are B's. Asserts what the call is answered, that it was held and let go where it has to be, and that B's request was.
@@ -179,37 +223,20 @@ fn held_told<A: Memory + Send + Sync, R: Wait + Threads + Sync + Abort>(
     ensures { IsPartyOf result queue.now }
 {
     let (deed, _) = sides(rt, line);
-    let (text, step, once_asked) = held_parts(deed);
-    let call = call_of(rt, world.items, text);
+    let gate = gate_of(world, deed);
+    let call = call_of(rt, world.items, call_in(deed));
     let (first, second) = part(rt, queue, party);
-    if once_asked {
-        world.heap.hold_next();
-    }
-    let gate = Holding {
-        step,
-        once_asked,
-        signs: world.signs,
-        heap: world.heap,
-    };
-    let ((first, reply), second) = join(
-        rt,
-        || -> (Party, Reply<Item>)
-            requires { IsSync R.row × IsPartyOf first queue.now }
-            ensures { IsPartyOf result.0 queue.entry.now }
-        { call_held(rt, queue, first, call, &gate) },
-        || -> Option<Party>
-            requires { IsSync R.row × IsPartyOf second queue.now }
-            ensures { IfSome result (λ p. IsPartyOf p queue.entry.now) }
-        { other_told(rt, world, queue, second, lines, once_asked) },
-    );
+    let (whole, reply) = make_both(rt, world, queue, first, second, call, &gate, lines);
     let let_go = world.signs.let_go.load(Ordering::SeqCst);
     let seen = (let_go, world.heap.held_until_let_go());
-    is_in(rt, world.name, seen, (!step.is_empty(), once_asked));
+    is_in(
+        rt,
+        world.name,
+        seen,
+        (!gate.step.is_empty(), gate.once_asked),
+    );
     is_said(rt, world, line, reply_words(reply));
-    match second {
-        Some(second) => queue.join(first, second),
-        None => first,
-    }
+    whole
 }
 
 /// A number of these digits. Asserts that it is one.
