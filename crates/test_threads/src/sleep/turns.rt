@@ -29,14 +29,25 @@ fn call<R: Host>(rt: &R, other: &Watched, mut sender: Sender<u64>, mut receiver:
     }
 }
 
+/// One thread sends to the other, which sends back.
+fn send_to_and_fro<R: Host + Sync>(
+    rt: &R,
+    sender: Sender<u64>,
+    other_receiver: Receiver<u64>,
+    other_sender: Sender<u64>,
+    receiver: Receiver<u64>,
+) {
+    let other = Watched::new();
+    join(
+        rt,
+        || echo(rt, &other, other_receiver, other_sender),
+        || call(rt, &other, sender, receiver),
+    );
+}
+
 #[test]
 fn no_turn_is_slept_through(rt: HostRuntime) {
     let (sender, other_receiver) = opened_surely(&rt, rt.alloc(), Some(1));
     let (other_sender, receiver) = opened_surely(&rt, rt.alloc(), Some(1));
-    let other = Watched::new();
-    join(
-        &rt,
-        || echo(&rt, &other, other_receiver, other_sender),
-        || call(&rt, &other, sender, receiver),
-    );
+    send_to_and_fro(&rt, sender, other_receiver, other_sender, receiver);
 }
