@@ -46,11 +46,12 @@ fn two_receivers_are_selected_from(rt: HostRuntime) {
         let (mut left_sender, left) = opened(&rt, cap);
         let (mut right_sender, right) = opened(&rt, cap);
         let (mut one, mut two) = (incoming(&rt, left), incoming(&rt, right));
-        for (sender, value) in [(&mut right_sender, 2), (&mut left_sender, 1)] {
-            is_in(&rt, cap, sender.send(&rt, value), Ok(()));
-            let first = receive_first(&rt, &mut one, &mut two);
-            is_in(&rt, cap, first.ok(), Some(Ok(value)));
-        }
+        is_in(&rt, cap, right_sender.send(&rt, 2), Ok(()));
+        let first = receive_first(&rt, &mut one, &mut two);
+        is_in(&rt, cap, first.ok(), Some(Ok(2)));
+        is_in(&rt, cap, left_sender.send(&rt, 1), Ok(()));
+        let then = receive_first(&rt, &mut one, &mut two);
+        is_in(&rt, cap, then.ok(), Some(Ok(1)));
     }
 }
 
