@@ -193,16 +193,42 @@ fn make_both<A: Memory + Send + Sync, R: Wait + Threads + Sync + Abort>(
     requires { IsPartyOf first queue.now × IsPartyOf second queue.now }
     ensures { IsPartyOf result.0 queue.now }
 {
+    // Each closure takes references alone: what it promises is not known where it has a value of another lifetime.
+    let World {
+        alloc,
+        name,
+        heap,
+        items,
+        signs,
+    } = world;
+    let (step, once_asked) = (gate.step, gate.once_asked);
     let ((first, reply), second) = join(
         rt,
         || -> (Party, Reply<Item>)
             requires { IsSync R.row × IsPartyOf first queue.now }
             ensures { IsPartyOf result.0 queue.entry.now }
-        { call_held(rt, queue, first, call, gate) },
+        {
+            let gate = Holding {
+                step,
+                once_asked,
+                signs,
+                heap,
+            };
+            call_held(rt, queue, first, call, &gate)
+        },
         || -> Option<Party>
             requires { IsSync R.row × IsPartyOf second queue.now }
             ensures { IfSome result (λ p. IsPartyOf p queue.entry.now) }
-        { other_told(rt, world, queue, second, lines, gate.once_asked) },
+        {
+            let world = World {
+                alloc,
+                name,
+                heap,
+                items,
+                signs,
+            };
+            other_told(rt, world, queue, second, lines, once_asked)
+        },
     );
     match second {
         Some(second) => (queue.join(first, second), reply),
