@@ -1,7 +1,5 @@
 //! Channels.
-pub mod deeds;
-pub mod ended;
-pub mod leaving;
+pub mod ends;
 pub mod many_ends;
 pub mod memory;
 pub mod opening;

@@ -1,0 +1,56 @@
+//! Channels as the tests open them.
+ghost use Rattle.std.specs.Prelude.{IfOk};
+ghost use Rattle.channel_handle.specs.Ends.{IsPair};
+ghost use Rattle.counted_channel.specs.Channel.{EndParts};
+
+use channel_handle::{Handle, Receiver, Sender, bounded, unbounded};
+use counted_channel::ChannelEnd;
+use mem_blocks::null_testable::NullTestable;
+use std::alloc::AllocError;
+use std::process::Abort;
+
+/// The two ends of a channel, where there was memory.
+pub type Opened<T, A> = Result<(Sender<T, A>, Receiver<T, A>), AllocError>;
+
+/// The two ends of a channel of this capacity, or without one. Asserts that the capacity is not 0.
+pub fn opened<T: Drop, A: NullTestable + Clone>(
+    rt: &impl Abort,
+    alloc: A,
+    cap: Option<usize>,
+) -> Opened<T, A>
+    ensures { IfOk result (λ r. IsPair cap r.0 r.1) }
+{
+    match cap {
+        Some(0) => panic!(rt; "a capacity of 0"),
+        Some(slots) => bounded(alloc, slots),
+        None => unbounded(alloc),
+    }
+}
+
+/// The same, where there has to be memory. Asserts that there is.
+pub fn opened_surely<T: Drop, A: NullTestable + Clone>(
+    rt: &impl Abort,
+    alloc: A,
+    cap: Option<usize>,
+) -> (Sender<T, A>, Receiver<T, A>)
+    ensures { IsPair cap result.0 result.1 }
+{
+    match opened(rt, alloc, cap) {
+        Ok(ends) => ends,
+        Err(_) => panic!(rt; "no memory"),
+    }
+}
+
+/// One more end of this one. Asserts that there is one.
+pub fn one_more<E, T, A>(rt: &impl Abort, end: &mut Handle<E, T, A>) -> Handle<E, T, A>
+where
+    E: ChannelEnd<T>,
+    T: Drop,
+    A: NullTestable,
+    ensures { EndParts end.old end.new result }
+{
+    match end.split() {
+        Ok(other) => other,
+        Err(_) => panic!(rt; "no second end"),
+    }
+}
