@@ -4,7 +4,7 @@ use crate::opening::{CAPACITIES, incoming, opened, outgoing};
 use callers::in_futures::{collect_all, receive_first, sum_in_tasks};
 use channel_futures::{Receiver, SendError, Sender};
 use futures::executor::block_on;
-use futures::{FutureExt, StreamExt, stream};
+use futures::{FutureExt, StreamExt, future, stream};
 use std::alloc::AllocGlobal;
 use std::process::Abort;
 use std::random::RandomSource;
@@ -12,6 +12,25 @@ use std::sync::Wait;
 use std::thread::join;
 
 static VALUES: [u64; 8] = [3, 1, 4, 1, 5, 9, 2, 6];
+
+/// A stream is forwarded into a sink, and collected at the other end, by one thread.
+#[test]
+fn a_stream_is_forwarded(rt: HostRuntime) {
+    for cap in CAPACITIES {
+        let (sender, receiver) = opened(&rt, cap);
+        let (sink, came) = (outgoing(&rt, sender), incoming(&rt, receiver));
+        let values = VALUES.to_vec(rt.alloc()).expect(&rt, "memory");
+        let sends = stream::iter(values)
+            .map(|value: u64| -> Result<u64, SendError<u64>> { Ok(value) })
+            .forward(sink)
+            .map(|sent| sent.is_ok());
+        let both = future::join(sends, came.collect(rt.alloc()));
+        let (sent, all) = block_on(&rt, both).expect(&rt, "memory");
+        let all = all.expect(&rt, "memory");
+        is_in(&rt, cap, sent, true);
+        is_in(&rt, cap, all.as_slice() == VALUES.as_slice(), true);
+    }
+}
 
 /// Forwards a stream of the values into the channel. Gives whether all were sent.
 fn forward<R: Wait + RandomSource + AllocGlobal + Abort>(rt: &R, sender: Sender<u64>) -> bool {
@@ -32,7 +51,7 @@ fn collects<R: Wait + RandomSource + AllocGlobal>(rt: &R, receiver: Receiver<u64
 }
 
 #[test]
-fn a_stream_is_forwarded_and_collected(rt: HostRuntime) {
+fn what_a_thread_forwards_is_collected(rt: HostRuntime) {
     for cap in CAPACITIES {
         let (sender, receiver) = opened(&rt, cap);
         let both = join(&rt, || forward(&rt, sender), || collects(&rt, receiver));
