@@ -11,12 +11,6 @@ pub const MAX_ENDS: u64 = 1 << 31;
 
 const _: () = prove!(MAX_ENDS == 2147483648);
 
-/// The word that counts the senders.
-pub(crate) const SENDERS: usize = 0;
-
-/// The word that counts the receivers.
-pub(crate) const RECEIVERS: usize = 1;
-
 /// What a seat knows of a side: for how many ends of it it counts, how many more it was counted for, and its part of all stakes in the side. No value of it is
 /// made.
 pub struct Side {

@@ -8,14 +8,16 @@ ghost use Rattle.concurrent_queue.specs.Shared.{IsPartyOf};
 ghost use Rattle.counted_channel.specs.Channel.{End, IsEndOf, ChannelCall, EndParts, EndJoins, Ends, GivenBack};
 
 use crate::calls::WaitedQueue;
-use crate::ends::{Channel, Receiver, Sender};
+use crate::counting::{leave, part, unite};
+use crate::ends::Channel;
+use crate::sides::{ChannelSide, SideEnd};
 use crate::waiting::Awaited;
 use crate::waking::close;
 use concurrent_queue::Party;
 use std::alloc::Allocator;
 use std::sync::Wait;
 
-/// An end of a channel: a [`Sender`] or a [`Receiver`]. Its methods are those of [`Channel`](crate::Channel), and no other crate can implement it.
+/// An end of a channel: a [`Sender`](crate::Sender) or a [`Receiver`](crate::Receiver). Its methods are those of [`Channel`](crate::Channel), and no other crate can implement it.
 pub trait ChannelEnd<T>: Sized {
     /// What contracts see of it.
     ghost end: { Self → End T };
@@ -66,82 +68,59 @@ pub trait ChannelEnd<T>: Sized {
         ensures { IsView (end self.now).party.queue.cap (end self.now).party.view };
 }
 
-impl<T> ChannelEnd<T> for Sender<T> {
-    ghost end = { λ s. s };
+impl<T, S: ChannelSide> ChannelEnd<T> for SideEnd<T, S> {
+    ghost end = { λ e. e };
 
     fn close_queue<A: Allocator>(&mut self, queue: &WaitedQueue<T, A>, awaited: &Awaited) -> bool {
-        close(queue, awaited, &mut self.end.party)
+        close(queue, awaited, &mut self.party)
     }
 
     fn sees_closed<A: Allocator>(&mut self, queue: &WaitedQueue<T, A>) -> bool {
-        queue.is_closed(&mut self.end.party)
+        queue.is_closed(&mut self.party)
     }
 
     fn count_items<A: Allocator, R: Wait>(&mut self, queue: &WaitedQueue<T, A>, rt: &R) -> usize {
-        queue.len(rt, &mut self.end.party)
+        queue.len(rt, &mut self.party)
     }
 
     fn sees_empty<A: Allocator>(&mut self, queue: &WaitedQueue<T, A>) -> bool {
-        queue.is_empty(&mut self.end.party)
+        queue.is_empty(&mut self.party)
     }
 
     fn sees_full<A: Allocator>(&mut self, queue: &WaitedQueue<T, A>) -> bool {
-        queue.is_full(&mut self.end.party)
+        queue.is_full(&mut self.party)
     }
 
     fn split_on<A: Allocator>(self, channel: &Channel<T, A>) -> Result<(Self, Self), Self> {
-        channel.split_sender(self)
+        let mut place = self.place;
+        match channel.queue.split(self.party) {
+            Err(party) => Err(SideEnd::of(party, place)),
+            Ok((first, second)) => match part(&channel.counts.shared, &mut place, S::WORD) {
+                Some(other) => Ok((SideEnd::of(first, place), SideEnd::of(second, other))),
+                None => {
+                    let party = channel.queue.join(first, second);
+                    Err(SideEnd::of(party, place))
+                }
+            },
+        }
     }
 
     fn join_on<A: Allocator>(self, other: Self, channel: &Channel<T, A>) -> Self {
-        channel.join_senders(self, other)
+        let mut place = self.place;
+        unite(&channel.counts.shared, &mut place, other.place, S::WORD);
+        SideEnd::of(channel.queue.join(self.party, other.party), place)
     }
 
     fn end_on<A: Allocator>(self, channel: &Channel<T, A>) -> (Party<T>, bool) {
-        channel.end_sender(self)
+        let mut party = self.party;
+        let last = leave(&channel.counts.shared, self.place, S::WORD);
+        if last {
+            close(&channel.queue, &channel.awaited, &mut party);
+        }
+        (party, last)
     }
 
     fn shows_view(&self) {
-        self.end.party.show_view();
-    }
-}
-
-impl<T> ChannelEnd<T> for Receiver<T> {
-    ghost end = { λ r. r };
-
-    fn close_queue<A: Allocator>(&mut self, queue: &WaitedQueue<T, A>, awaited: &Awaited) -> bool {
-        close(queue, awaited, &mut self.end.party)
-    }
-
-    fn sees_closed<A: Allocator>(&mut self, queue: &WaitedQueue<T, A>) -> bool {
-        queue.is_closed(&mut self.end.party)
-    }
-
-    fn count_items<A: Allocator, R: Wait>(&mut self, queue: &WaitedQueue<T, A>, rt: &R) -> usize {
-        queue.len(rt, &mut self.end.party)
-    }
-
-    fn sees_empty<A: Allocator>(&mut self, queue: &WaitedQueue<T, A>) -> bool {
-        queue.is_empty(&mut self.end.party)
-    }
-
-    fn sees_full<A: Allocator>(&mut self, queue: &WaitedQueue<T, A>) -> bool {
-        queue.is_full(&mut self.end.party)
-    }
-
-    fn split_on<A: Allocator>(self, channel: &Channel<T, A>) -> Result<(Self, Self), Self> {
-        channel.split_receiver(self)
-    }
-
-    fn join_on<A: Allocator>(self, other: Self, channel: &Channel<T, A>) -> Self {
-        channel.join_receivers(self, other)
-    }
-
-    fn end_on<A: Allocator>(self, channel: &Channel<T, A>) -> (Party<T>, bool) {
-        channel.end_receiver(self)
-    }
-
-    fn shows_view(&self) {
-        self.end.party.show_view();
+        self.party.show_view();
     }
 }

@@ -2,15 +2,14 @@
 ghost use Rattle.std.specs.Prelude.{◌≡◌, true, MatchResult};
 ghost use Rattle.queue_steps.specs.declared.model.Call.TheVariants as call;
 ghost use Rattle.queue_steps.specs.declared.model.Reply.TheVariants as reply;
-ghost use Rattle.queue_steps.specs.Parties.{IsView};
 ghost use Rattle.queue_steps.specs.Shares.{IsEntire};
 ghost use Rattle.concurrent_queue.specs.Shared.{Calls, IsPartyOf, Joins, Finishes};
 ghost use Rattle.counted_channel.specs.Channel.{IsEndOf, ChannelCall, EndParts, EndJoins, Ends, GivenBack, sent, force_sent, received};
 
 use crate::calls::{Disconnected, SendError, WaitedQueue};
-use crate::counting::{Counts, RECEIVERS, SENDERS};
+use crate::counting::Counts;
 use crate::either::ChannelEnd;
-use crate::sides::{SideEnd, end_one, join_ends, split_end};
+use crate::sides::{Receiver, Sender};
 use crate::tries::{pop_until, push_until};
 use crate::waiting::Awaited;
 use crate::waking::{force_push, pop, push};
@@ -41,62 +40,6 @@ impl<T, A: Allocator> Model for Channel<T, A> {
     ghost invariant = { λ c. c.counts.shared.table_id.words ≡ 2 };
 }
 
-/// An end that sends. It has a party of the queue.
-///
-/// One that is dropped was not ended: its side has no last end from then on, and the channel cannot be finished.
-#[derive(Drop)]
-pub struct Sender<T> {
-    pub(crate) end: SideEnd<T>,
-}
-
-impl<T> Model for Sender<T> {
-    ghost use Rattle.counted_channel.specs.Channel.{End, end_at};
-    ghost use Rattle.counted_channel.specs.Counting.{IsEndSeat};
-
-    ghost Value = { End T };
-
-    ghost view = { λ s. end_at 0 s.end.party s.end.place.table_id s.end.place.me.0 };
-
-    ghost invariant = { λ s. IsEndSeat 0 s.end.place.me };
-}
-
-/// An end that receives. It has a party of the queue.
-///
-/// One that is dropped was not ended: its side has no last end from then on, and the channel cannot be finished.
-#[derive(Drop)]
-pub struct Receiver<T> {
-    pub(crate) end: SideEnd<T>,
-}
-
-impl<T> Model for Receiver<T> {
-    ghost use Rattle.counted_channel.specs.Channel.{End, end_at};
-    ghost use Rattle.counted_channel.specs.Counting.{IsEndSeat};
-
-    ghost Value = { End T };
-
-    ghost view = { λ r. end_at 1 r.end.party r.end.place.table_id r.end.place.me.0 };
-
-    ghost invariant = { λ r. IsEndSeat 1 r.end.place.me };
-}
-
-impl<T> Sender<T> {
-    /// Does nothing. Its contract tells of the sender's party what `Party::show_view` tells of every party.
-    pub fn show_view(&self)
-        ensures { IsView self.now.party.queue.cap self.now.party.view }
-    {
-        self.end.party.show_view();
-    }
-}
-
-impl<T> Receiver<T> {
-    /// Does nothing. Its contract tells of the receiver's party what `Party::show_view` tells of every party.
-    pub fn show_view(&self)
-        ensures { IsView self.now.party.queue.cap self.now.party.view }
-    {
-        self.end.party.show_view();
-    }
-}
-
 impl<T, A: Allocator> Channel<T, A> {
     /// Parts a sender in two, so that each of two threads has one.
     ///
@@ -107,10 +50,7 @@ impl<T, A: Allocator> Channel<T, A> {
         requires is_end { IsEndOf sender self.now }
         ensures { MatchResult result (λ r. EndParts sender r.0 r.1) (λ s. GivenBack sender s) }
     {
-        match split_end(&self.queue, &self.counts.shared, sender.end, SENDERS) {
-            Ok((one, two)) => Ok((Sender { end: one }, Sender { end: two })),
-            Err(end) => Err(Sender { end }),
-        }
+        sender.split_on(self)
     }
 
     /// Parts a receiver in two, so that each of two threads has one.
@@ -125,10 +65,7 @@ impl<T, A: Allocator> Channel<T, A> {
         requires is_end { IsEndOf receiver self.now }
         ensures { MatchResult result (λ r. EndParts receiver r.0 r.1) (λ r. GivenBack receiver r) }
     {
-        match split_end(&self.queue, &self.counts.shared, receiver.end, RECEIVERS) {
-            Ok((one, two)) => Ok((Receiver { end: one }, Receiver { end: two })),
-            Err(end) => Err(Receiver { end }),
-        }
+        receiver.split_on(self)
     }
 
     /// Makes one sender of two, as before a split. It is ended once.
@@ -136,15 +73,7 @@ impl<T, A: Allocator> Channel<T, A> {
         requires is_end { IsEndOf first self.now × IsEndOf second self.now }
         ensures { EndJoins first second result }
     {
-        Sender {
-            end: join_ends(
-                &self.queue,
-                &self.counts.shared,
-                first.end,
-                second.end,
-                SENDERS,
-            ),
-        }
+        first.join_on(second, self)
     }
 
     /// Makes one receiver of two, as before a split. It is ended once.
@@ -152,15 +81,7 @@ impl<T, A: Allocator> Channel<T, A> {
         requires is_end { IsEndOf first self.now × IsEndOf second self.now }
         ensures { EndJoins first second result }
     {
-        Receiver {
-            end: join_ends(
-                &self.queue,
-                &self.counts.shared,
-                first.end,
-                second.end,
-                RECEIVERS,
-            ),
-        }
+        first.join_on(second, self)
     }
 
     /// Appends `value`. It waits while the queue is full: it gives way a few times, and then sleeps.
@@ -179,7 +100,7 @@ impl<T, A: Allocator> Channel<T, A> {
         requires is_end { IsEndOf sender.old self.now }
         ensures { ChannelCall sender.old (call.Push value) (sent result) sender.new }
     {
-        let party = &mut sender.end.party;
+        let party = &mut sender.party;
         match push_until(&self.queue, &self.awaited, rt, party, value, &Never) {
             Ok(()) => Ok(()),
             Err(PushError::Closed(back)) => Err(SendError::Closed(back)),
@@ -204,7 +125,7 @@ impl<T, A: Allocator> Channel<T, A> {
         requires is_end { IsEndOf sender.old self.now }
         ensures { ChannelCall sender.old (call.Push value) (reply.Push result) sender.new }
     {
-        push(&self.queue, &self.awaited, rt, &mut sender.end.party, value)
+        push(&self.queue, &self.awaited, rt, &mut sender.party, value)
     }
 
     /// Appends `value`, and takes the front off and hands it out where the queue was full.
@@ -223,7 +144,7 @@ impl<T, A: Allocator> Channel<T, A> {
         requires is_end { IsEndOf sender.old self.now }
         ensures { ChannelCall sender.old (call.ForcePush value) (force_sent result) sender.new }
     {
-        force_push(&self.queue, &self.awaited, rt, &mut sender.end.party, value)
+        force_push(&self.queue, &self.awaited, rt, &mut sender.party, value)
     }
 
     /// Takes the front off. It waits while the queue is open and empty: it gives way a few times, and then sleeps.
@@ -235,7 +156,7 @@ impl<T, A: Allocator> Channel<T, A> {
         requires is_end { IsEndOf receiver.old self.now }
         ensures { ChannelCall receiver.old call.Pop (received result) receiver.new }
     {
-        let party = &mut receiver.end.party;
+        let party = &mut receiver.party;
         match pop_until(&self.queue, &self.awaited, rt, party, &Never) {
             Ok(item) => Ok(item),
             Err(PopError::Closed) => Err(Disconnected),
@@ -252,7 +173,7 @@ impl<T, A: Allocator> Channel<T, A> {
         requires is_end { IsEndOf receiver.old self.now }
         ensures { ChannelCall receiver.old call.Pop (reply.Pop result) receiver.new }
     {
-        pop(&self.queue, &self.awaited, rt, &mut receiver.end.party)
+        pop(&self.queue, &self.awaited, rt, &mut receiver.party)
     }
 
     /// Closes the channel, by an end of either side, and returns whether it was open. Nothing can be sent from then on; what was sent is received. Every end that
@@ -309,13 +230,7 @@ impl<T, A: Allocator> Channel<T, A> {
         ensures party { Ends sender.party result.0 result.1 }
         ensures last { IsEntire sender.stake → result.1 ≡ true }
     {
-        end_one(
-            &self.queue,
-            &self.awaited,
-            &self.counts.shared,
-            sender.end,
-            SENDERS,
-        )
+        sender.end_on(self)
     }
 
     /// Ends a receiver, and gives its party and whether it was the last. The last closes the queue.
@@ -324,13 +239,7 @@ impl<T, A: Allocator> Channel<T, A> {
         ensures party { Ends receiver.party result.0 result.1 }
         ensures last { IsEntire receiver.stake → result.1 ≡ true }
     {
-        end_one(
-            &self.queue,
-            &self.awaited,
-            &self.counts.shared,
-            receiver.end,
-            RECEIVERS,
-        )
+        receiver.end_on(self)
     }
 
     /// Makes one party of two that ends gave back, which has seen and done what both have.

@@ -3,7 +3,8 @@ ghost use Rattle.std.specs.Prelude.{◌≡◌};
 ghost use Rattle.counted_channel.specs.Channel.{IsEndOf};
 ghost use Rattle.counted_channel.specs.Receiving.{IsItemsOf, Receives, items_lender};
 
-use crate::ends::{Channel, Receiver};
+use crate::ends::Channel;
+use crate::sides::Receiver;
 use std::alloc::{Allocator, Global};
 use std::sync::Wait;
 

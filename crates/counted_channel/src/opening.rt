@@ -5,8 +5,8 @@ ghost use Rattle.counted_channel.specs.Channel.{Opens};
 
 use crate::calls::WaitedQueue;
 use crate::counting::open;
-use crate::ends::{Channel, Receiver, Sender};
-use crate::sides::SideEnd;
+use crate::ends::Channel;
+use crate::sides::{Receiver, Sender};
 use crate::waiting::Awaited;
 use concurrent_queue::{ConcurrentQueue, Party};
 use std::alloc::{Allocator, Global};
@@ -61,18 +61,8 @@ fn open_over<T, A: Allocator>(
     };
     match queue.split(party) {
         Ok((first, second)) => {
-            let sender = Sender {
-                end: SideEnd {
-                    party: first,
-                    place: sending,
-                },
-            };
-            let receiver = Receiver {
-                end: SideEnd {
-                    party: second,
-                    place: receiving,
-                },
-            };
+            let sender = Sender::of(first, sending);
+            let receiver = Receiver::of(second, receiving);
             let channel = Channel {
                 queue: WaitedQueue::new(queue),
                 counts,

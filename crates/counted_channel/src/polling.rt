@@ -5,8 +5,8 @@ ghost use Rattle.counted_channel.specs.Polling.{PollsRecv, PollsSend, RecvKeeps,
 
 use crate::calls::{At, Disconnected, Items, PolledPop, PolledPush, Room, SendError};
 use crate::counting::EndSeat;
-use crate::ends::{Channel, Receiver, Sender};
-use crate::sides::SideEnd;
+use crate::ends::Channel;
+use crate::sides::{Receiver, Sender};
 use concurrent_queue::NullTestable;
 use concurrent_queue::one_heap::OneHeap;
 use std::alloc::{Allocator, Global};
@@ -65,10 +65,9 @@ impl<T> Receiver<T> {
     pub fn into_polling<A: Allocator>(self) -> PollingReceiver<T, A>
         ensures { result ≡ self }
     {
-        let SideEnd { party, place } = self.end;
         PollingReceiver {
-            at: At::Between(party),
-            place,
+            at: At::Between(self.party),
+            place: self.place,
         }
     }
 }
@@ -84,10 +83,7 @@ impl<T, A: Allocator> PollingReceiver<T, A> {
     {
         let PollingReceiver { at, place } = self;
         match at {
-            At::Between(party) => {
-                let end = SideEnd { party, place };
-                Ok(Receiver { end })
-            }
+            At::Between(party) => Ok(Receiver::of(party, place)),
             popping => Err(PollingReceiver { at: popping, place }),
         }
     }
@@ -175,7 +171,7 @@ impl<T, A: NullTestable> Channel<T, A> {
         ensures polls { PollsSend sender.old value result sender.new }
         ensures keeps { SendKeeps look.entry result }
     {
-        match self.queue.poll_push(&mut sender.end.party, value, look) {
+        match self.queue.poll_push(&mut sender.party, value, look) {
             PolledPush::Done(place, owed) => {
                 self.awaited.items.notify_one(owed);
                 PolledSend::Answered(Ok(()), place)

@@ -1,100 +1,94 @@
-//! What the ends of both sides have in common. A side is told by the word of the channel's table that counts it.
-ghost use Rattle.std.specs.Prelude.{◌≡◌, ◌<◌, true, MatchResult};
-ghost use Rattle.queue_steps.specs.Shares.{IsEntire};
-ghost use Rattle.concurrent_queue.specs.Shared.{IsPartyOf};
-ghost use Rattle.counted_channel.specs.Channel.{EndParts, EndJoins, Ends, GivenBack, end_at};
-ghost use Rattle.counted_channel.specs.Counting.{IsEndSeat, stake_at};
+//! The sides of a channel, and the ends of a side. A side is told by the word of the channel's table that counts its ends.
+ghost use Rattle.std.specs.Prelude.{◌≡◌, ℕ, ◌<◌};
+ghost use Rattle.std.proofs.Math.Nat.{zero-lt-suc, lt-suc_self};
+ghost use Rattle.queue_steps.specs.Parties.{IsView};
+ghost use Rattle.counted_channel.specs.Channel.{end_at};
+ghost use Rattle.counted_channel.specs.Counting.{IsEndSeat};
 
-use crate::calls::WaitedQueue;
-use crate::counting::{EndSeat, SharedCounts, leave, part, unite};
-use crate::waiting::Awaited;
-use crate::waking::close;
+use crate::counting::EndSeat;
 use concurrent_queue::Party;
-use std::alloc::Allocator;
+use std::marker::{Model, PhantomData};
 
-/// An end of either side: its party of the queue, and its seat at the counts.
+/// A side of a channel. No other crate can name it.
+pub trait ChannelSide {
+    /// The word that counts its ends.
+    const WORD: usize;
+
+    ghost WORD: { ℕ };
+
+    ghost is_word: { WORD < 2 };
+}
+
+/// The side of the senders.
 #[derive(Drop)]
-pub(crate) struct SideEnd<T> {
+pub struct Senders;
+
+/// The side of the receivers.
+#[derive(Drop)]
+pub struct Receivers;
+
+impl ChannelSide for Senders {
+    const WORD: usize = 0;
+
+    ghost WORD = { 0 };
+
+    ghost is_word = { zero-lt-suc 1 };
+}
+
+impl ChannelSide for Receivers {
+    const WORD: usize = 1;
+
+    ghost WORD = { 1 };
+
+    ghost is_word = { lt-suc_self 1 };
+}
+
+/// An end of this side: its party of the queue, and its seat at the counts.
+#[derive(Drop)]
+pub struct SideEnd<T, S: ChannelSide> {
     pub(crate) party: Party<T>,
     pub(crate) place: EndSeat,
+    side: PhantomData<S>,
 }
 
-/// Parts an end in two, or gives it back where the queue has as many parties as it may, or the channel as many ends of this side.
-pub(crate) fn split_end<T, A: Allocator>(
-    queue: &WaitedQueue<T, A>,
-    words: &SharedCounts,
-    end: SideEnd<T>,
-    word: usize,
-) -> Result<(SideEnd<T>, SideEnd<T>), SideEnd<T>>
-    requires table { (end.place.table_id ≡ words.now.table_id) × (words.now.table_id.words ≡ 2) × (word < 2) }
-    requires end { IsPartyOf end.party queue.now × IsEndSeat word end.place.me }
-    ensures ends { MatchResult result (λ r. IsEndSeat word r.0.place.me × IsEndSeat word r.1.place.me) (λ e. IsEndSeat word e.place.me) }
-    ensures parted { MatchResult result
-        (λ r. EndParts (end_at word end.party end.place.table_id end.place.me.0) (end_at word r.0.party r.0.place.table_id r.0.place.me.0) (end_at word r.1.party r.1.place.table_id r.1.place.me.0))
-        (λ e. GivenBack (end_at word end.party end.place.table_id end.place.me.0) (end_at word e.party e.place.table_id e.place.me.0)) }
-{
-    let SideEnd { party, mut place } = end;
-    match queue.split(party) {
-        Err(party) => Err(SideEnd { party, place }),
-        Ok((first, second)) => match part(words, &mut place, word) {
-            Some(other) => {
-                let one = SideEnd {
-                    party: first,
-                    place,
-                };
-                let two = SideEnd {
-                    party: second,
-                    place: other,
-                };
-                Ok((one, two))
-            }
-            None => {
-                let party = queue.join(first, second);
-                Err(SideEnd { party, place })
-            }
-        },
-    }
+impl<T, S: ChannelSide> Model for SideEnd<T, S> {
+    ghost use Rattle.counted_channel.specs.Channel.{End, end_at};
+    ghost use Rattle.counted_channel.specs.Counting.{IsEndSeat};
+
+    ghost Value = { End T };
+
+    ghost view = { λ e. end_at S.WORD e.party e.place.table_id e.place.me.0 };
+
+    ghost invariant = { λ e. IsEndSeat S.WORD e.place.me };
 }
 
-/// Makes one end of two of a side.
-pub(crate) fn join_ends<T, A: Allocator>(
-    queue: &WaitedQueue<T, A>,
-    words: &SharedCounts,
-    first: SideEnd<T>,
-    second: SideEnd<T>,
-    word: usize,
-) -> SideEnd<T>
-    requires table { (first.place.table_id ≡ words.now.table_id) × (second.place.table_id ≡ words.now.table_id) × (words.now.table_id.words ≡ 2) × (word < 2) }
-    requires first { IsPartyOf first.party queue.now × IsEndSeat word first.place.me }
-    requires second { IsPartyOf second.party queue.now × IsEndSeat word second.place.me }
-    ensures end { IsEndSeat word result.place.me }
-    ensures joined { EndJoins (end_at word first.party first.place.table_id first.place.me.0) (end_at word second.party second.place.table_id second.place.me.0) (end_at word result.party result.place.table_id result.place.me.0) }
-{
-    let SideEnd { party, mut place } = first;
-    unite(words, &mut place, second.place, word);
-    SideEnd {
-        party: queue.join(party, second.party),
-        place,
-    }
-}
+/// An end that sends. It has a party of the queue.
+///
+/// One that is dropped was not ended: its side has no last end from then on, and the channel cannot be finished.
+pub type Sender<T> = SideEnd<T, Senders>;
 
-/// Ends an end, and gives its party and whether it was the last of its side. The last closes the queue.
-pub(crate) fn end_one<T, A: Allocator>(
-    queue: &WaitedQueue<T, A>,
-    awaited: &Awaited,
-    words: &SharedCounts,
-    end: SideEnd<T>,
-    word: usize,
-) -> (Party<T>, bool)
-    requires table { (end.place.table_id ≡ words.now.table_id) × (words.now.table_id.words ≡ 2) × (word < 2) }
-    requires end { IsPartyOf end.party queue.now × IsEndSeat word end.place.me }
-    ensures party { Ends end.party result.0 result.1 }
-    ensures last { IsEntire (stake_at word end.place.me.0) → result.1 ≡ true }
-{
-    let SideEnd { mut party, place } = end;
-    let last = leave(words, place, word);
-    if last {
-        close(queue, awaited, &mut party);
+/// An end that receives. It has a party of the queue.
+///
+/// One that is dropped was not ended: its side has no last end from then on, and the channel cannot be finished.
+pub type Receiver<T> = SideEnd<T, Receivers>;
+
+impl<T, S: ChannelSide> SideEnd<T, S> {
+    /// The end of this party and this seat.
+    pub(crate) fn of(party: Party<T>, place: EndSeat) -> Self
+        requires { IsEndSeat S.WORD place.me }
+        ensures { result ≡ end_at S.WORD party place.table_id place.me.0 }
+    {
+        SideEnd {
+            party,
+            place,
+            side: PhantomData,
+        }
     }
-    (party, last)
+
+    /// Does nothing. Its contract tells of the end's party what `Party::show_view` tells of every party.
+    pub fn show_view(&self)
+        ensures { IsView self.now.party.queue.cap self.now.party.view }
+    {
+        self.party.show_view();
+    }
 }

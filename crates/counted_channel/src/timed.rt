@@ -3,7 +3,8 @@ ghost use Rattle.queue_steps.specs.declared.model.Call.TheVariants as call;
 ghost use Rattle.queue_steps.specs.declared.model.Reply.TheVariants as reply;
 ghost use Rattle.counted_channel.specs.Channel.{IsEndOf, ChannelCall};
 
-use crate::ends::{Channel, Receiver, Sender};
+use crate::ends::Channel;
+use crate::sides::{Receiver, Sender};
 use crate::tries::{pop_until, push_until};
 use concurrent_queue::{NullTestable, PopError, PushError};
 use event_count::Until;
@@ -30,7 +31,7 @@ impl<T, A: Allocator> Channel<T, A> {
         ensures { ChannelCall sender.old (call.Push value) (reply.Push result) sender.new }
     {
         let until = Until::after(rt, timeout);
-        let party = &mut sender.end.party;
+        let party = &mut sender.party;
         push_until(&self.queue, &self.awaited, rt, party, value, &until)
     }
 
@@ -49,7 +50,7 @@ impl<T, A: Allocator> Channel<T, A> {
         ensures { ChannelCall receiver.old call.Pop (reply.Pop result) receiver.new }
     {
         let until = Until::after(rt, timeout);
-        let party = &mut receiver.end.party;
+        let party = &mut receiver.party;
         pop_until(&self.queue, &self.awaited, rt, party, &until)
     }
 }

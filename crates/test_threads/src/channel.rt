@@ -1,5 +1,7 @@
 //! Channels.
-pub mod ends;
+pub mod deeds;
+pub mod ended;
+pub mod leaving;
 pub mod many_ends;
 pub mod memory;
 pub mod opening;

@@ -8,7 +8,7 @@ mod blocks;
 #[cfg(test)]
 mod channel;
 #[cfg(test)]
-mod handles;
+mod host;
 #[cfg(test)]
 mod opening;
 #[cfg(test)]

@@ -1,13 +1,12 @@
-//! Channels of many ends, which end in many orders: the last of a side closes, and none before it.
+//! Channels by hand of many ends, which end in many orders: the last of a side closes, and none before it.
 ghost use Rattle.concurrent_queue.specs.Shared.{IsPartyOf};
 ghost use Rattle.counted_channel.specs.Channel.{IsEndOf};
 
 use crate::asserts::is_in;
-use crate::channel::ends::AnyEnd;
-use crate::channel::opening::{left, opened_surely};
+use crate::channel::opening::{opened_by_hand, two};
+use crate::host::Host;
 use concurrent_queue::Party;
-use counted_channel::Channel;
-use std::alloc::Global;
+use counted_channel::{Channel, ChannelEnd};
 use std::process::Abort;
 
 /// When an end of each side that are parted off end: before those that are parted off later, or after them.
@@ -20,11 +19,11 @@ enum Turn {
 type Seen = (usize, usize, usize);
 
 /// Ends an end, and looks at the channel then.
-fn end<E: AnyEnd>(channel: &Channel<u64>, end: E, seen: &mut Seen) -> Party<u64>
+fn end<E: ChannelEnd<u64>>(channel: &Channel<u64>, end: E, seen: &mut Seen) -> Party<u64>
     requires { IsEndOf (E.end end) channel.now }
     ensures { IsPartyOf result channel.now.queue }
 {
-    let (mut party, is_last) = end.leave(channel);
+    let (mut party, is_last) = end.end_on(channel);
     let is_closed = channel.is_closed_by(&mut party);
     *seen = (
         seen.0.wrapping_add(1),
@@ -35,7 +34,7 @@ fn end<E: AnyEnd>(channel: &Channel<u64>, end: E, seen: &mut Seen) -> Party<u64>
 }
 
 /// Ends an end of each side, in this order. Gives the party of both.
-fn end_two<E: AnyEnd, F: AnyEnd>(
+fn end_two<E: ChannelEnd<u64>, F: ChannelEnd<u64>>(
     channel: &Channel<u64>,
     first: E,
     second: F,
@@ -49,7 +48,7 @@ fn end_two<E: AnyEnd, F: AnyEnd>(
 }
 
 /// Parts an end of each side off for each of so many turns, of which there are these again and again, the last one first, and ends them all, each two in their turn. Gives the party of all.
-fn end_all<E: AnyEnd, F: AnyEnd>(
+fn end_all<E: ChannelEnd<u64>, F: ChannelEnd<u64>>(
     rt: &impl Abort,
     channel: &Channel<u64>,
     first: E,
@@ -64,12 +63,12 @@ fn end_all<E: AnyEnd, F: AnyEnd>(
     let Some(later) = count.checked_sub(1) else {
         return end_two(channel, first, second, seen);
     };
-    let (first, one) = first.two(rt, channel);
-    let (second, other) = second.two(rt, channel);
+    let (first, one) = two(rt, channel, first);
+    let (second, other) = two(rt, channel, second);
     match turns.get(later % turns.len().max(1)) {
         Some(Turn::Before) => {
-            let two = end_two(channel, first, second, seen);
-            channel.join(two, end_all(rt, channel, one, other, turns, later, seen))
+            let these = end_two(channel, first, second, seen);
+            channel.join(these, end_all(rt, channel, one, other, turns, later, seen))
         }
         Some(Turn::After) | None => {
             let all = end_all(rt, channel, one, other, turns, later, seen);
@@ -79,22 +78,21 @@ fn end_all<E: AnyEnd, F: AnyEnd>(
 }
 
 /// What is seen where on each side one end more than there are turns has ended, and whether the channel can be finished then. In each turn the sender ends first, or the receiver.
-fn ended(
-    rt: &impl Abort,
-    alloc: Global,
+fn ended<R: Host>(
+    rt: &R,
     cap: Option<usize>,
     turns: &[Turn],
     count: usize,
     sender_first: bool,
 ) -> (Seen, bool) {
-    let (channel, sender, receiver) = opened_surely(rt, alloc, cap);
+    let (channel, sender, receiver) = opened_by_hand(rt, rt.alloc(), cap);
     let mut seen = (0, 0, 0);
     let party = if sender_first {
         end_all(rt, &channel, sender, receiver, turns, count, &mut seen)
     } else {
         end_all(rt, &channel, receiver, sender, turns, count, &mut seen)
     };
-    (seen, left(channel, Some(party)).is_some())
+    (seen, channel.finish(party).is_ok())
 }
 
 const B: Turn = Turn::Before;
@@ -131,7 +129,7 @@ fn the_last_of_many_ends_closes_in_each_order(rt: HostRuntime) {
         let count = turns.len().wrapping_mul(*times);
         let ends = count.wrapping_mul(2).wrapping_add(2);
         for sender_first in [true, false] {
-            let found = ended(&rt, rt.alloc(), *cap, turns, count, sender_first);
+            let found = ended(&rt, *cap, turns, count, sender_first);
             is_in(&rt, (row, sender_first), found, ((ends, 2, 2), true));
         }
     }

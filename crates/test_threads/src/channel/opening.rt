@@ -1,92 +1,86 @@
-//! Channels of the kinds of queues, and what is left of them.
-ghost use Rattle.std.specs.Prelude.{IfOk, IfSome};
-ghost use Rattle.concurrent_queue.specs.Shared.{IsPartyOf};
-ghost use Rattle.counted_channel.specs.Channel.{IsEndOf, Opens};
+//! Channels as the tests open them: with ends that are values of their own, and by hand.
+ghost use Rattle.std.specs.Prelude.{IfOk};
+ghost use Rattle.channel_handle.specs.Ends.{IsPair};
+ghost use Rattle.counted_channel.specs.Channel.{EndParts, IsEndOf};
 
-use crate::opening::open;
-use concurrent_queue::{ConcurrentQueue, Exclusive, NullTestable, Party, PopError};
-use counted_channel::{Channel, Disconnected, Receiver, SendError, Sender, channel};
-use std::alloc::{AllocError, Allocator, Global};
+use crate::opening::open_surely;
+use channel_handle::{Handle, Receiver, Sender, bounded, unbounded};
+use counted_channel::{Channel, ChannelEnd, channel};
+use mem_blocks::null_testable::NullTestable;
+use std::alloc::{AllocError, Global};
 use std::process::Abort;
 
-/// What a sender is answered.
-pub type Sent = Result<(), SendError<u64>>;
+/// The two ends of a channel, where there was memory.
+pub type Opened<T, A> = Result<(Sender<T, A>, Receiver<T, A>), AllocError>;
 
-/// What a receiver is answered.
-pub type Came = Result<u64, Disconnected>;
-
-/// A channel and its first two ends, where there was memory.
-pub type Opened<A> = Result<(Channel<u64, A>, Sender<u64>, Receiver<u64>), AllocError>;
-
-/// A channel over a queue of this capacity, or without one, and its first two ends.
-pub fn opened<A: NullTestable + Copy>(rt: &impl Abort, alloc: A, cap: Option<usize>) -> Opened<A>
-    ensures { IfOk result (λ r. IsEndOf r.1 r.0 × IsEndOf r.2 r.0) }
+/// The two ends of a channel of this capacity, or without one. Asserts that the capacity is not 0.
+pub fn opened<T: Drop, A: NullTestable + Clone>(
+    rt: &impl Abort,
+    alloc: A,
+    cap: Option<usize>,
+) -> Opened<T, A>
+    ensures { IfOk result (λ r. IsPair cap r.0 r.1) }
 {
-    let (queue, party) = open(rt, alloc, cap)?;
-    match channel(alloc, queue, party) {
-        Ok(opened) => Ok(opened),
-        Err(_) => Err(AllocError),
+    match cap {
+        Some(0) => panic!(rt; "a capacity of 0"),
+        Some(slots) => bounded(alloc, slots),
+        None => unbounded(alloc),
     }
 }
 
 /// The same, where there has to be memory. Asserts that there is.
-pub fn opened_surely(
+pub fn opened_surely<T: Drop, A: NullTestable + Clone>(
     rt: &impl Abort,
-    alloc: Global,
+    alloc: A,
     cap: Option<usize>,
-) -> (Channel<u64>, Sender<u64>, Receiver<u64>)
-    ensures { IsEndOf result.1 result.0 × IsEndOf result.2 result.0 }
+) -> (Sender<T, A>, Receiver<T, A>)
+    ensures { IsPair cap result.0 result.1 }
 {
     match opened(rt, alloc, cap) {
-        Ok(opened) => opened,
+        Ok(ends) => ends,
         Err(_) => panic!(rt; "no memory"),
     }
 }
 
-/// A channel over this queue, and its first two ends. Asserts that there is memory.
-pub fn opened_over(
-    rt: &impl Abort,
-    alloc: Global,
-    queue: ConcurrentQueue<u64>,
-    party: Party<u64>,
-) -> (Channel<u64>, Sender<u64>, Receiver<u64>)
-    requires { IsPartyOf party queue }
-    ensures { Opens queue party result.0 result.1 result.2 }
+/// One more end of this one. Asserts that there is one.
+pub fn one_more<E, T, A>(rt: &impl Abort, end: &mut Handle<E, T, A>) -> Handle<E, T, A>
+where
+    E: ChannelEnd<T>,
+    T: Drop,
+    A: NullTestable,
+    ensures { EndParts end.old end.new result }
 {
+    match end.split() {
+        Ok(other) => other,
+        Err(_) => panic!(rt; "no second end"),
+    }
+}
+
+/// A channel by hand, and its first two ends.
+type ByHand = (
+    Channel<u64>,
+    counted_channel::Sender<u64>,
+    counted_channel::Receiver<u64>,
+);
+
+/// A channel by hand over a queue of this capacity, or without one, and its first two ends. Asserts that there is memory.
+pub fn opened_by_hand(rt: &impl Abort, alloc: Global, cap: Option<usize>) -> ByHand
+    ensures { IsEndOf result.1 result.0 × IsEndOf result.2 result.0 }
+{
+    let (queue, party) = open_surely(rt, alloc, cap);
     match channel(alloc, queue, party) {
         Ok(opened) => opened,
         Err(_) => panic!(rt; "no memory"),
     }
 }
 
-/// Ends an end of each side. Gives the party of both.
-pub fn end_both<A: Allocator>(
-    channel: &Channel<u64, A>,
-    sender: Sender<u64>,
-    receiver: Receiver<u64>,
-) -> Party<u64>
-    requires { IsEndOf sender channel.now × IsEndOf receiver channel.now }
-    ensures { IsPartyOf result channel.now.queue }
+/// Parts an end by hand in two. Asserts that it can be.
+pub fn two<E: ChannelEnd<u64>>(rt: &impl Abort, channel: &Channel<u64>, end: E) -> (E, E)
+    requires { IsEndOf (E.end end) channel.now }
+    ensures { IsEndOf (E.end result.0) channel.now × IsEndOf (E.end result.1) channel.now }
 {
-    let (first, _) = channel.end_sender(sender);
-    let (second, _) = channel.end_receiver(receiver);
-    channel.join(first, second)
-}
-
-/// What is left of a channel: how many items, whether it was closed, and what two pops give.
-pub type Left = (usize, bool, Result<u64, PopError>, Result<u64, PopError>);
-
-/// What is left in a queue.
-fn left_in(queue: &mut Exclusive<u64>) -> Left {
-    (queue.len(), queue.is_closed(), queue.pop(), queue.pop())
-}
-
-/// What a channel leaves to this party; nothing where there is none, or another one is missing.
-pub fn left(channel: Channel<u64>, party: Option<Party<u64>>) -> Option<Left>
-    requires { IfSome party (λ p. IsPartyOf p channel.queue) }
-{
-    match channel.finish(party?) {
-        Ok(mut queue) => Some(left_in(&mut queue)),
-        Err(_) => None,
+    match end.split_on(channel) {
+        Ok(both) => both,
+        Err(_) => panic!(rt; "no second end"),
     }
 }

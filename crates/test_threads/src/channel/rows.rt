@@ -1,241 +1,88 @@
 //! What one thread is answered.
-ghost use Rattle.std.specs.Prelude.{◌≡◌};
-ghost use Rattle.concurrent_queue.specs.Shared.{IsPartyOf};
-ghost use Rattle.counted_channel.specs.Channel.{IsEndOf};
-
 use crate::asserts::is;
-use crate::channel::ends::AnyEnd;
-use crate::channel::ends::Call::{
-    Capacity, Close, End, EndOneOfTwo, ForceSend, IsClosed, Items, Len, Recv, Send, TryRecv,
-    TrySend,
-};
-use crate::channel::opening::{Left, end_both, left, opened_over};
-use crate::channel::stories::{Line, Story, tell};
-use crate::opening::{open_surely, part};
-use concurrent_queue::{Party, PopError, PushError};
-use counted_channel::{Channel, Disconnected, Receiver, SendError, Sender};
+use crate::channel::stories::{Told, tell_all};
+use channel_handle::{Disconnected, SendError};
 use std::alloc::Global;
 use std::fmt::{Debug, Display};
-use std::process::Abort;
+use std::io;
+use std::io::ErrorKind;
 
-static STORIES: [Story; 11] = [
-    Story {
-        name: "what was sent comes before the end",
-        cap: Some(2),
-        lines: &[
-            Line::Sender(Send(1, Ok(()))),
-            Line::Sender(Send(2, Ok(()))),
-            Line::Sender(End(true)),
-            Line::Receiver(Recv(Ok(1))),
-            Line::Receiver(Recv(Ok(2))),
-            Line::Receiver(Recv(Err(Disconnected))),
-            Line::Receiver(End(true)),
-        ],
-        left: Some((0, true, Err(PopError::Closed), Err(PopError::Closed))),
-    },
-    Story {
-        name: "nothing is sent to nobody",
-        cap: Some(1),
-        lines: &[
-            Line::Sender(Send(7, Ok(()))),
-            Line::Receiver(End(true)),
-            Line::Sender(Send(8, Err(SendError::Closed(8)))),
-            Line::Sender(End(true)),
-        ],
-        left: Some((1, true, Ok(7), Err(PopError::Closed))),
-    },
-    Story {
-        name: "only the last of two senders closes",
-        cap: None,
-        lines: &[
-            Line::Sender(EndOneOfTwo(false)),
-            Line::Sender(Send(5, Ok(()))),
-            Line::Receiver(Recv(Ok(5))),
-            Line::Sender(End(true)),
-            Line::Receiver(Recv(Err(Disconnected))),
-        ],
-        left: None,
-    },
-    Story {
-        name: "only the last of two receivers closes",
-        cap: Some(2),
-        lines: &[
-            Line::Receiver(EndOneOfTwo(false)),
-            Line::Sender(IsClosed(false)),
-            Line::Sender(Send(6, Ok(()))),
-            Line::Receiver(End(true)),
-            Line::Sender(IsClosed(true)),
-            Line::Sender(Send(7, Err(SendError::Closed(7)))),
-        ],
-        left: None,
-    },
-    Story {
-        name: "a sender closes, and what was sent before is received",
-        cap: Some(2),
-        lines: &[
-            Line::Sender(Send(1, Ok(()))),
-            Line::Sender(Close(true)),
-            Line::Sender(Close(false)),
-            Line::Sender(IsClosed(true)),
-            Line::Receiver(IsClosed(true)),
-            Line::Sender(Send(2, Err(SendError::Closed(2)))),
-            Line::Sender(Len(1)),
-            Line::Receiver(Recv(Ok(1))),
-            Line::Receiver(Recv(Err(Disconnected))),
-            Line::Sender(Len(0)),
-            Line::Sender(End(true)),
-            Line::Receiver(End(true)),
-        ],
-        left: Some((0, true, Err(PopError::Closed), Err(PopError::Closed))),
-    },
-    Story {
-        name: "a receiver closes that is not the last, and its side has a last end still",
-        cap: None,
-        lines: &[
-            Line::Sender(Send(3, Ok(()))),
-            Line::Receiver(Close(true)),
-            Line::Receiver(EndOneOfTwo(false)),
-            Line::Sender(IsClosed(true)),
-            Line::Sender(TrySend(4, Err(PushError::Closed(4)))),
-            Line::Sender(ForceSend(5, Err(SendError::Closed(5)))),
-            Line::Receiver(Close(false)),
-            Line::Receiver(End(true)),
-            Line::Sender(End(true)),
-        ],
-        left: Some((1, true, Ok(3), Err(PopError::Closed))),
-    },
-    Story {
-        name: "the front gives way",
-        cap: Some(1),
-        lines: &[
-            Line::Sender(ForceSend(1, Ok(None))),
-            Line::Sender(ForceSend(2, Ok(Some(1)))),
-            Line::Receiver(Recv(Ok(2))),
-            Line::Receiver(End(true)),
-            Line::Sender(ForceSend(3, Err(SendError::Closed(3)))),
-        ],
-        left: None,
-    },
-    Story {
-        name: "one try is one call",
-        cap: Some(1),
-        lines: &[
-            Line::Receiver(TryRecv(Err(PopError::Empty))),
-            Line::Sender(TrySend(1, Ok(()))),
-            Line::Sender(TrySend(2, Err(PushError::Full(2)))),
-            Line::Receiver(Len(1)),
-            Line::Receiver(TryRecv(Ok(1))),
-            Line::Receiver(Len(0)),
-            Line::Sender(End(true)),
-            Line::Receiver(TryRecv(Err(PopError::Closed))),
-        ],
-        left: None,
-    },
-    Story {
-        name: "items come until the end",
-        cap: None,
-        lines: &[
-            Line::Sender(Send(1, Ok(()))),
-            Line::Sender(Send(2, Ok(()))),
-            Line::Sender(End(true)),
-            Line::Receiver(Items(Some(1), Some(2), None)),
-        ],
-        left: None,
-    },
-    Story {
-        name: "a channel of three items has that capacity",
-        cap: Some(3),
-        lines: &[Line::Receiver(Capacity(Some(3)))],
-        left: None,
-    },
-    Story {
-        name: "a channel without a capacity has none",
-        cap: None,
-        lines: &[Line::Receiver(Capacity(None))],
-        left: None,
-    },
+static STORIES: [&str; 16] = [
+    "what was sent comes before the end: 2
+A: send 1; send 2; end -> true
+X: recv -> Ok(1); recv -> Ok(2); recv -> Err(Disconnected); end -> true",
+    "nothing is sent to nobody: 1 3 -
+A: send 7
+X: end -> true
+A: is_closed -> true; send 8 -> Err(Closed(8)); end -> true",
+    "only the last of two senders closes: 1 3 -
+B: end -> false
+X: is_closed -> false
+A: send 5
+X: recv -> Ok(5)
+A: end -> true
+X: is_closed -> true; recv -> Err(Disconnected)",
+    "only the last of two receivers closes: 2 -
+Y: end -> false
+A: is_closed -> false; send 6
+X: end -> true
+A: is_closed -> true; send 7 -> Err(Closed(7))",
+    "so do senders that are dropped: 1 3 -
+B: leave
+X: is_closed -> false
+A: send 7; leave
+X: is_closed -> true; try_recv -> Ok(7); try_recv -> Err(Closed)",
+    "so do receivers that are dropped: 1 3 -
+Y: leave
+A: try_send 1
+X: leave
+A: try_send 2 -> Err(Closed(2))",
+    "a sender closes, and what was sent before is received: 2
+A: send 1; close -> true; close -> false; is_closed -> true
+X: is_closed -> true
+A: send 2 -> Err(Closed(2)); len -> 1
+X: recv -> Ok(1); recv -> Err(Disconnected)
+A: len -> 0; end -> true
+X: end -> true",
+    "a receiver closes that is not the last, and its side has a last end still: -
+A: send 3
+Y: close -> true; end -> false
+A: is_closed -> true; try_send 4 -> Err(Closed(4)); force_send 5 -> Err(Closed(5))
+X: close -> false; len -> 1; end -> true
+A: end -> true",
+    "the front gives way: 1
+A: force_send 1 -> Ok(None); force_send 2 -> Ok(Some(1))
+X: recv -> Ok(2); end -> true
+A: force_send 3 -> Err(Closed(3))",
+    "one try is one call: 1
+X: try_recv -> Err(Empty)
+A: try_send 1; try_send 2 -> Err(Full(2))
+X: len -> 1; try_recv -> Ok(1); len -> 0
+A: end -> true
+X: try_recv -> Err(Closed)",
+    "a channel tells whether it has an item, or room: 1
+A: is_empty -> true; is_full -> false; send 1; is_full -> true; len -> 1
+X: is_empty -> false; is_full -> true; recv -> Ok(1); is_empty -> true; is_full -> false",
+    "a channel's own iterator gives items until the end: 3 -
+A: send 1; send 2; end -> true
+X: next -> Some(1); next -> Some(2); next -> None",
+    "so does that of a receiver: 3 -
+A: send 1; send 2; send 3; leave
+X: iter -> [1, 2, 3]; iter -> []",
+    "an iterator that does not wait gives what is there: 2 -
+A: send 1; send 2
+X: try_iter -> [1, 2]; try_iter -> []; recv_for 0 -> Err(Empty)",
+    "a channel of three items has that capacity: 3
+A: capacity -> Some(3)
+X: capacity -> Some(3)",
+    "a channel without a capacity has none: -
+A: capacity -> None
+X: capacity -> None",
 ];
 
 #[test]
 fn each_story_is_right(rt: HostRuntime) {
-    for story in &STORIES {
-        tell(&rt, rt.alloc(), story);
-    }
-}
-
-/// A channel over one slot, the party of its two ends, which have ended, and a party that was parted off before.
-fn with_another_party(rt: &impl Abort, alloc: Global) -> (Channel<u64>, Party<u64>, Party<u64>)
-    ensures { IsPartyOf result.1 result.0.queue × IsPartyOf result.2 result.0.queue }
-{
-    let (queue, party) = open_surely(rt, alloc, Some(1));
-    let (party, other) = part(rt, &queue, party);
-    let (channel, sender, receiver) = opened_over(rt, alloc, queue, party);
-    let party = end_both(&channel, sender, receiver);
-    (channel, party, other)
-}
-
-/// Asserts that a channel is not finished with this party alone.
-fn stay_open(
-    rt: &impl Abort,
-    channel: Channel<u64>,
-    party: Party<u64>,
-) -> (Channel<u64>, Party<u64>)
-    requires { IsPartyOf party channel.queue }
-    ensures { (result.0 ≡ channel) × IsPartyOf result.1 channel.queue }
-{
-    match channel.finish(party) {
-        Err(both) => both,
-        Ok(_) => panic!(rt; "finished with a party missing"),
-    }
-}
-
-#[test]
-fn a_party_that_is_left_out_keeps_the_channel(rt: HostRuntime) {
-    let (channel, party, other) = with_another_party(&rt, rt.alloc());
-    let (channel, party) = stay_open(&rt, channel, party);
-    let party = channel.join(party, other);
-    is(&rt, left(channel, Some(party)).is_some(), true);
-}
-
-/// A sender is parted, joined again and ended. Gives its party.
-fn end_sender_rejoined(rt: &impl Abort, channel: &Channel<u64>, sender: Sender<u64>) -> Party<u64>
-    requires { IsEndOf sender channel.now }
-    ensures { IsPartyOf result channel.now.queue }
-{
-    let (one, two) = sender.two(rt, channel);
-    let (party, _) = channel.end_sender(channel.join_senders(one, two));
-    party
-}
-
-/// A receiver is parted, joined again and ended. Gives its party.
-fn end_receiver_rejoined(
-    rt: &impl Abort,
-    channel: &Channel<u64>,
-    receiver: Receiver<u64>,
-) -> Party<u64>
-    requires { IsEndOf receiver channel.now }
-    ensures { IsPartyOf result channel.now.queue }
-{
-    let (one, two) = receiver.two(rt, channel);
-    let (party, _) = channel.end_receiver(channel.join_receivers(one, two));
-    party
-}
-
-/// What is left where a sender is parted, joined again and ended, and a receiver is parted, joined and ended.
-fn end_both_rejoined(rt: &impl Abort, alloc: Global) -> Option<Left> {
-    let (queue, party) = open_surely(rt, alloc, Some(1));
-    let (channel, sender, receiver) = opened_over(rt, alloc, queue, party);
-    let first = end_sender_rejoined(rt, &channel, sender);
-    let second = end_receiver_rejoined(rt, &channel, receiver);
-    let party = channel.join(first, second);
-    left(channel, Some(party))
-}
-
-#[test]
-fn ends_that_are_joined_end_once(rt: HostRuntime) {
-    let closed = Err(PopError::Closed);
-    let left = end_both_rejoined(&rt, rt.alloc());
-    is(&rt, left, Some((0, true, closed, closed)));
+    tell_all(&rt, Told::InTurn, &STORIES);
 }
 
 /// Whether an error is printed so: as it is, in a field of eight, and for debugging.
@@ -261,4 +108,18 @@ fn errors_print_their_names(rt: HostRuntime) {
     is(&rt, printed, [true, true, true]);
     let equal = [closed == refused, closed == SendError::Closed(7)];
     is(&rt, (equal, refused.into_inner()), ([false, true], 8));
+}
+
+#[test]
+fn errors_become_those_of_io(rt: HostRuntime) {
+    let closed: io::Error = SendError::Closed(1u64).into();
+    let refused: io::Error = SendError::NoMemory(1u64).into();
+    let gone: io::Error = Disconnected.into();
+    let kinds = [closed.kind(), refused.kind(), gone.kind()];
+    let wanted = [
+        ErrorKind::BrokenPipe,
+        ErrorKind::OutOfMemory,
+        ErrorKind::BrokenPipe,
+    ];
+    is(&rt, kinds, wanted);
 }

@@ -1,14 +1,11 @@
-//! Ends in threads of their own.
+//! Ends by hand in threads of their own.
 ghost use Rattle.concurrent_queue.specs.Shared.{IsPartyOf};
 ghost use Rattle.counted_channel.specs.Channel.{IsEndOf};
 
 use crate::asserts::is;
-use crate::channel::ends::AnyEnd;
-use crate::channel::opening::{Left, left, opened_surely};
+use crate::channel::opening::{opened_by_hand, two};
 use concurrent_queue::Party;
 use counted_channel::{Channel, Receiver, SendError, Sender};
-use std::alloc::Global;
-use std::process::Abort;
 use std::sync::Wait;
 use std::thread::{Threads, join};
 
@@ -81,23 +78,12 @@ fn send_and_take<R: Threads + Wait + Sync>(
     (all, sent.wrapping_add(more), right && right_too, taken)
 }
 
-/// How many items two senders in threads of their own sent, whether each other one was answered `Closed`, how many a receiver took that ended after 50, and what is left.
-fn two_send<R: Threads + Wait + Abort + Sync>(
-    rt: &R,
-    alloc: Global,
-) -> (u64, bool, u64, Option<Left>) {
-    let (channel, sender, receiver) = opened_surely(rt, alloc, Some(400));
-    let (one, two) = sender.two(rt, &channel);
-    let (all, sent, right, taken) = send_and_take(rt, &channel, one, two, receiver, 50);
-    (sent, right, taken, left(channel, Some(all)))
-}
-
 #[test]
 fn as_many_are_sent_as_are_taken_or_left(rt: HostRuntime) {
-    let (sent, right, taken, left) = two_send(&rt, rt.alloc());
-    let fits = match left {
-        Some((left, closed, ..)) => closed && sent == 50u64.wrapping_add(left as u64),
-        None => false,
-    };
-    is(&rt, (right, taken, fits), (true, 50, true));
+    let (channel, sender, receiver) = opened_by_hand(&rt, rt.alloc(), Some(400));
+    let (one, other) = two(&rt, &channel, sender);
+    let (all, sent, right, taken) = send_and_take(&rt, &channel, one, other, receiver, 50);
+    let left = channel.finish(all).ok().expect(&rt, "all parties");
+    let found = (right, taken, left.is_closed(), left.len() as u64);
+    is(&rt, found, (true, 50, true, sent.wrapping_sub(50)));
 }

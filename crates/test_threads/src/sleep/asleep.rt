@@ -1,12 +1,12 @@
 //! Two threads that take turns, and sleep until the other gives an item: each that is seen asleep before, and as fast as they wake.
 use crate::asserts::is;
+use crate::host::Host;
 use crate::sleep::watched::Watched;
 use event_count::{EventCount, OwesAll, OwesOne};
-use std::process::Abort;
 use std::sync::Wait;
 use std::sync::atomic::AtomicU64;
 use std::sync::atomic::Ordering::SeqCst;
-use std::thread::{Threads, join};
+use std::thread::join;
 
 /// What the thread waits for.
 #[derive(Drop)]
@@ -66,50 +66,36 @@ impl Post {
     }
 }
 
-/// Takes turns with another thread, and looks before each, where it is to, until that is seen asleep. Gives whether it always was.
-fn take_turns<R: Wait + Abort>(
-    rt: &R,
-    host: &HostRuntime,
-    mine: &Post,
-    others: &Post,
-    turns: u64,
-    looks: bool,
-) -> bool {
-    mine.taker.enter(rt, host);
-    let mut asleep = true;
+/// Takes turns with another thread, and looks before each, where it is to, until that is seen asleep. Asserts that it always is.
+fn take_turns<R: Host>(rt: &R, mine: &Post, others: &Post, turns: u64, looks: bool) {
+    mine.taker.enter(rt);
     for round in 0..turns {
         mine.take(rt);
         if looks {
-            asleep = asleep && others.taker.is_seen_asleep(rt, host);
+            is(rt, others.taker.is_seen_asleep(rt), true);
         }
         others.give(round);
     }
-    asleep
 }
 
-/// Two threads take so many turns each, of which the first looks or none. Gives whether the second was always seen asleep, and what is left for each.
-fn turns_taken<R: Threads + Wait + Abort + Sync>(
-    rt: &R,
-    host: &HostRuntime,
-    turns: u64,
-    looks: bool,
-) -> (bool, u64, u64) {
+/// Two threads take so many turns each, of which the first looks or none. Gives what is left for each.
+fn turns_taken<R: Host + Sync>(rt: &R, turns: u64, looks: bool) -> (u64, u64) {
     let first = Post::new(1);
     let second = Post::new(0);
-    let (asleep, _) = join(
+    join(
         rt,
-        || take_turns(rt, host, &first, &second, turns, looks),
-        || take_turns(rt, host, &second, &first, turns, false),
+        || take_turns(rt, &first, &second, turns, looks),
+        || take_turns(rt, &second, &first, turns, false),
     );
-    (asleep, first.items.load(SeqCst), second.items.load(SeqCst))
+    (first.items.load(SeqCst), second.items.load(SeqCst))
 }
 
 #[test]
 fn each_item_wakes_a_sleeper(rt: HostRuntime) {
-    is(&rt, turns_taken(&rt, &rt, 1000, true), (true, 1, 0));
+    is(&rt, turns_taken(&rt, 1000, true), (1, 0));
 }
 
 #[test]
 fn no_turn_is_slept_through(rt: HostRuntime) {
-    is(&rt, turns_taken(&rt, &rt, 50_000, false), (true, 1, 0));
+    is(&rt, turns_taken(&rt, 50_000, false), (1, 0));
 }

@@ -1,12 +1,12 @@
 //! A notify ends each wait whose ticket is older, and of those that sleep it wakes as many as it is to.
 use crate::asserts::is;
+use crate::host::Host;
 use crate::sleep::watched::Watched;
 use event_count::{EventCount, Look, OwesAll, OwesOne, Patience};
-use std::process::Abort;
 use std::sync::Wait;
 use std::sync::atomic::AtomicU64;
 use std::sync::atomic::Ordering::SeqCst;
-use std::thread::{Threads, join, sleep};
+use std::thread::{join, sleep};
 use std::time::Duration;
 
 /// What the threads wait for.
@@ -61,73 +61,66 @@ fn a_patient_look_has_its_ticket_first(rt: HostRuntime) {
     is(&rt, (before, yields(&rt, &mut patience)), (8, 8));
 }
 
-/// Sleeps once, and counts that it has returned.
-fn sleep_once<R: Wait + Abort>(
-    rt: &R,
-    host: &HostRuntime,
-    signs: &EventCount<Sign>,
-    watched: &Watched,
-    returned: &AtomicU64,
-) {
-    watched.enter(rt, host);
-    signs.prepare().missed(Sign { made: () }).wait(rt);
-    returned.fetch_add(1, SeqCst);
+/// Two threads that sleep.
+#[derive(Drop)]
+struct Sleepers {
+    signs: EventCount<Sign>,
+    one: Watched,
+    two: Watched,
+    /// How many have returned.
+    returned: AtomicU64,
 }
 
-/// Waits until so many have returned, though not for ever, and a while longer. Gives how many have.
-fn wait_for(host: &HostRuntime, returned: &AtomicU64, wanted: u64) -> u64 {
-    for _ in 0..1_000 {
-        if wanted <= returned.load(SeqCst) {
-            break;
-        }
-        sleep(host, Duration::from_millis(5));
+impl Sleepers {
+    /// Sleeps once.
+    fn sleep<R: Host>(&self, rt: &R, watched: &Watched) {
+        watched.enter(rt);
+        self.signs.prepare().missed(Sign { made: () }).wait(rt);
+        self.returned.fetch_add(1, SeqCst);
     }
-    sleep(host, Duration::from_millis(50));
-    returned.load(SeqCst)
-}
 
-/// Notifies one, or all, once both are seen asleep, and all in the end. Gives whether both were, and how many have returned in between.
-fn notify_both<R: Wait + Abort>(
-    rt: &R,
-    host: &HostRuntime,
-    signs: &EventCount<Sign>,
-    watched: (&Watched, &Watched),
-    returned: &AtomicU64,
-    all: bool,
-) -> (bool, u64) {
-    let first = watched.0.is_seen_asleep(rt, host);
-    let asleep = watched.1.is_seen_asleep(rt, host) && first;
-    notify(signs, all);
-    let woken = wait_for(host, returned, if all { 2 } else { 1 });
-    notify(signs, true);
-    (asleep, woken)
-}
+    /// Waits until so many have returned, though not for ever, and a while longer. Gives how many have.
+    fn wait_for<R: Host>(&self, rt: &R, wanted: u64) -> u64 {
+        for _ in 0..1_000 {
+            if wanted <= self.returned.load(SeqCst) {
+                break;
+            }
+            sleep(rt, Duration::from_millis(5));
+        }
+        sleep(rt, Duration::from_millis(50));
+        self.returned.load(SeqCst)
+    }
 
-/// Of two threads that sleep, whether both are seen asleep, and how many a notify wakes.
-fn woken_of_two<R: Threads + Wait + Abort + Sync>(
-    rt: &R,
-    host: &HostRuntime,
-    all: bool,
-) -> (bool, u64) {
-    let signs = EventCount::new();
-    let (one, two) = (Watched::new(), Watched::new());
-    let returned = AtomicU64::new(0);
-    let (_, (_, seen)) = join(
-        rt,
-        || sleep_once(rt, host, &signs, &one, &returned),
-        || {
-            join(
-                rt,
-                || sleep_once(rt, host, &signs, &two, &returned),
-                || notify_both(rt, host, &signs, (&one, &two), &returned, all),
-            )
-        },
-    );
-    seen
+    /// Notifies one, or all, once both sleep, and all in the end. Asserts that both are seen asleep, and how many return in between.
+    fn wake<R: Host>(&self, rt: &R, all: bool) {
+        is(rt, self.one.is_seen_asleep(rt), true);
+        is(rt, self.two.is_seen_asleep(rt), true);
+        notify(&self.signs, all);
+        let wanted = if all { 2 } else { 1 };
+        is(rt, self.wait_for(rt, wanted), wanted);
+        notify(&self.signs, true);
+    }
 }
 
 #[test]
 fn a_notify_wakes_one_of_two_or_both(rt: HostRuntime) {
-    is(&rt, woken_of_two(&rt, &rt, false), (true, 1));
-    is(&rt, woken_of_two(&rt, &rt, true), (true, 2));
+    for all in [false, true] {
+        let sleepers = Sleepers {
+            signs: EventCount::new(),
+            one: Watched::new(),
+            two: Watched::new(),
+            returned: AtomicU64::new(0),
+        };
+        join(
+            &rt,
+            || sleepers.sleep(&rt, &sleepers.one),
+            || {
+                join(
+                    &rt,
+                    || sleepers.sleep(&rt, &sleepers.two),
+                    || sleepers.wake(&rt, all),
+                );
+            },
+        );
+    }
 }

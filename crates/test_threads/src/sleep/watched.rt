@@ -1,6 +1,5 @@
 //! What the system tells of a thread: its number, whether it sleeps, and how much processor time it had.
-use std::fs;
-use std::process::Abort;
+use crate::host::{Host, System};
 use std::sync::atomic::AtomicU64;
 use std::sync::atomic::Ordering::SeqCst;
 use std::thread::sleep;
@@ -27,38 +26,37 @@ impl Watched {
     }
 
     /// The thread that calls this is looked at from now on.
-    pub(crate) fn enter(&self, rt: &impl Abort, host: &HostRuntime) {
-        let text = read(rt, host, OWN);
-        self.number.store(field(&text, 0), SeqCst);
+    pub(crate) fn enter<R: Host>(&self, rt: &R) {
+        self.number.store(field(&read(rt, OWN), 0), SeqCst);
+    }
+
+    /// No thread is looked at from now on.
+    pub(crate) fn leave(&self) {
+        self.number.store(0, SeqCst);
     }
 
     /// Whether it sleeps.
-    fn sleeps(&self, rt: &impl Abort, host: &HostRuntime) -> bool {
+    fn sleeps<R: Host>(&self, rt: &R) -> bool {
         let number = self.number.load(SeqCst);
         if number == 0 {
             return false;
         }
-        match format!(in host.alloc(); "/proc/self/task/{number}/status") {
-            Ok(path) => read(rt, host, &path).contains("State:\tS"),
+        match format!(in rt.alloc(); "/proc/self/task/{number}/status") {
+            Ok(path) => read(rt, &path).contains("State:\tS"),
             Err(_) => false,
         }
     }
 
     /// Whether it is seen asleep.
-    pub(crate) fn is_seen_asleep(&self, rt: &impl Abort, host: &HostRuntime) -> bool {
+    pub(crate) fn is_seen_asleep<R: Host>(&self, rt: &R) -> bool {
         for _ in 0..LOOKS {
-            if self.sleeps(rt, host) {
+            if self.sleeps(rt) {
                 return true;
             }
-            pause(host);
+            sleep(rt, Duration::from_micros(PAUSE));
         }
         false
     }
-}
-
-/// Waits for the next look.
-fn pause(host: &HostRuntime) {
-    sleep(host, Duration::from_micros(PAUSE));
 }
 
 /// Where the system tells how much processor time this thread had.
@@ -68,24 +66,24 @@ pub(crate) const OWN: &str = "/proc/thread-self/stat";
 pub(crate) const PROCESS: &str = "/proc/self/stat";
 
 /// How much processor time is told there, in hundredths of a second.
-pub(crate) fn time(rt: &impl Abort, host: &HostRuntime, path: &str) -> u64 {
-    let text = read(rt, host, path);
+pub(crate) fn time<R: Host>(rt: &R, path: &str) -> u64 {
+    let text = read(rt, path);
     field(&text, 13).wrapping_add(field(&text, 14))
 }
 
 /// How many threads this process has, or more than there may be where that cannot be read.
-pub(crate) fn threads(host: &HostRuntime) -> u64 {
-    match fs::read_to_string(host, PROCESS) {
-        Ok(text) => field(&text, 19),
-        Err(_) => u64::MAX,
+pub(crate) fn threads(system: &impl System) -> u64 {
+    match system.text(PROCESS) {
+        Some(text) => field(&text, 19),
+        None => u64::MAX,
     }
 }
 
 /// A text of the system. Asserts that it can be read.
-fn read(rt: &impl Abort, host: &HostRuntime, path: &str) -> String {
-    match fs::read_to_string(host, path) {
-        Ok(text) => text,
-        Err(_) => panic!(rt; "a text of the system"),
+fn read<R: Host>(rt: &R, path: &str) -> String {
+    match rt.text(path) {
+        Some(text) => text,
+        None => panic!(rt; "a text of the system"),
     }
 }
 

@@ -6,4 +6,4 @@ pub returns-in-Ok-split : goal.returns-in-Ok-split
 returns-in-Ok-split g c =
     let parts = c.in-Ok-split.ensures in let opened = c.in-Ok.ensures in
     let of = c.requires.is_party ∙ sym c.new.ensures in
-    (c.new.ensures, parts, (parts.0 ∙ of, opened.table.1), (parts.1 ∙ of, opened.table.2), ap (λ m. stake_at 0 m.0) opened.seats.0, ap (λ m. stake_at 1 m.0) opened.seats.1)
+    rw c.of-sender.ensures (rw c.of-receiver.ensures (c.new.ensures, parts, (parts.0 ∙ of, opened.table.1), (parts.1 ∙ of, opened.table.2), ap (λ m. stake_at 0 m.0) opened.seats.0, ap (λ m. stake_at 1 m.0) opened.seats.1))

@@ -3,8 +3,8 @@ use Rattle.counted_channel.proofs.ends.Channel.poll_send.Goals as goal
 
 pub returns-clause-polls : goal.returns-clause-polls
 returns-clause-polls g c =
-    let d = c.args.sender.now in let v = c.sender.inside.end.party in let p = c.poll_push.new.party in
-    let t = c.sender.inside.end.place.table_id in let s = c.sender.inside.end.place.me.0 in
+    let d = c.args.sender.now in let v = c.sender.inside.party in let p = c.poll_push.new.party in
+    let t = c.sender.inside.place.table_id in let s = c.sender.inside.place.me.0 in
     elim c.match-poll_push.branch [
       | in-Done w ↦ rw w.result-is (end_calls 0 d v p t s _ _ c.sender.view_is w.in-Done.ensures.polls)
       | in-Closed w ↦ rw w.result-is (end_calls 0 d v p t s _ _ c.sender.view_is w.in-Closed.ensures.polls)
