@@ -15,10 +15,7 @@ pub(crate) fn threads(host: &HostRuntime) -> u64 {
     field(host, 19).unwrap_or(u64::MAX)
 }
 
-/// How much processor time all threads of this process had, in hundredths of a second. Asserts that it can be read.
-pub(crate) fn time(host: &HostRuntime) -> u64 {
-    match (field(host, 13), field(host, 14)) {
-        (Some(own), Some(system)) => own.wrapping_add(system),
-        _ => panic!(host; "a text of the system"),
-    }
+/// How much processor time all threads of this process had, in hundredths of a second, where that can be read.
+pub(crate) fn time(host: &HostRuntime) -> Option<u64> {
+    Some(field(host, 13)?.wrapping_add(field(host, 14)?))
 }

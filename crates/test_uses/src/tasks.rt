@@ -287,9 +287,10 @@ fn a_long_task_is_done_beside_short_ones(rt: HostRuntime) {
 /// Of eight workers seven have no task for a second. They take next to no time.
 #[test]
 fn workers_without_a_task_take_no_time(rt: HostRuntime) {
-    let before = time(&rt);
+    let before = time(&rt).expect(&rt, "a time");
     let found = worked(&rt, &rt, rt.alloc(), Does::Sleeps(100), 8, 8);
-    let took = time(&rt).wrapping_sub(before);
+    let after = time(&rt).expect(&rt, "a time");
+    let took = after.wrapping_sub(before);
     is_in(&rt, took, (found, took <= 10), ((Ok(true), 107, 0), true));
 }
 
