@@ -7,7 +7,7 @@ use channel_handle::{Receiver, Sender};
 use std::thread::join;
 
 /// How many numbers go there and back.
-const TURNS: u64 = 20_000;
+const TURNS: u64 = 5_000;
 
 /// What a thread has of two channels: it sends to one, and receives from the other.
 #[derive(Drop)]
