@@ -1,4 +1,4 @@
-//! Tests of what threads use: channels, ends that sleep, tasks, and webs of raw blocks.
+//! Tests of what threads use: channels, ends that sleep, and webs of raw blocks.
 #![tactic(auto)]
 
 #[cfg(test)]
@@ -13,5 +13,3 @@ mod host;
 mod opening;
 #[cfg(test)]
 mod sleep;
-#[cfg(test)]
-mod uses;

@@ -13,3 +13,7 @@ mod jobs;
 mod opening;
 #[cfg(test)]
 mod queue_handles;
+#[cfg(test)]
+mod system;
+#[cfg(test)]
+mod tasks;

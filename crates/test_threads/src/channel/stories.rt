@@ -15,7 +15,7 @@ use crate::channel::deeds::{AnyEnd, said};
 use crate::channel::leaving::{WAYS, Way, let_go};
 use crate::channel::opening::opened_surely;
 use crate::host::Host;
-use crate::sleep::watched::{OWN, Watched, time};
+use crate::sleep::watched::{Watched, time};
 use std::process::Abort;
 use std::sync::atomic::AtomicU64;
 use std::sync::atomic::Ordering::SeqCst;
@@ -144,48 +144,53 @@ fn next<R: Host>(rt: &R, end: &mut Option<AnyEnd>) -> Option<u64> {
     item
 }
 
+/// Whose line this is, and the deeds that it tells.
+fn told_in(line: &str) -> (&str, &str) {
+    line.split_once(": ").unwrap_or((line, ""))
+}
+
 /// Makes a call, or ends the end. Asserts what that is answered.
-fn call<R: Host>(rt: &R, stage: &Stage, end: &mut Option<AnyEnd>, deed: &str) {
+fn call<R: Host>(rt: &R, stage: &Stage, end: &mut Option<AnyEnd>, line: &str, deed: &str) {
     let (call, wanted) = deed.split_once(" -> ").unwrap_or((deed, "Ok(())"));
     let found = match call {
         "end" => said(rt, taken(rt, end).ends()),
         "next" => said(rt, next(rt, end)),
         _ => answer(rt, end, call),
     };
-    let at = (stage.story, stage.cap, stage.way, deed);
+    let at = (stage.story, stage.cap, stage.way, line, deed);
     is_in(rt, at, found.as_str(), wanted);
 }
 
 /// Makes a call. Asserts that it takes next to no processor time.
-fn idle<R: Host>(rt: &R, stage: &Stage, end: &mut Option<AnyEnd>, deed: &str) {
-    let before = time(rt, OWN);
-    call(rt, stage, end, deed);
-    let spent = time(rt, OWN).wrapping_sub(before);
-    is_in(rt, (stage.story, deed, spent), spent <= MOST, true);
+fn idle<R: Host>(rt: &R, stage: &Stage, end: &mut Option<AnyEnd>, line: &str, deed: &str) {
+    let before = time(rt);
+    call(rt, stage, end, line, deed);
+    let spent = time(rt).wrapping_sub(before);
+    is_in(rt, (stage.story, line, spent), spent <= MOST, true);
 }
 
-/// Does a deed. Asserts what is told of it.
-fn follow<R: Host>(rt: &R, stage: &Stage, name: &str, end: &mut Option<AnyEnd>, deed: &str) {
+/// Does a deed of a line. Asserts what is told of it.
+fn follow<R: Host>(rt: &R, stage: &Stage, end: &mut Option<AnyEnd>, line: &str, deed: &str) {
     let (word, rest) = deed.split_once(" ").unwrap_or((deed, ""));
-    let at = (stage.story, stage.cap, stage.way, deed);
+    let at = (stage.story, stage.cap, stage.way, line, deed);
     match word {
-        "idle" => idle(rt, stage, end, rest),
+        "idle" => idle(rt, stage, end, line, rest),
         "leave" => is_in(rt, at, let_go(rt, stage.way, taken(rt, end)), true),
         "meet" => stage.meet(),
         "pass" => stage.pass(),
         "pause" => sleep(rt, Duration::from_millis(number_of(rest))),
-        "sees" => is_in(rt, at, stage.sees(rt, name, rest), true),
-        _ => call(rt, stage, end, deed),
+        "sees" => is_in(rt, at, stage.sees(rt, told_in(line).0, rest), true),
+        _ => call(rt, stage, end, line, deed),
     }
 }
 
 /// Does what those of these lines say that have this name.
 fn act<R: Host>(rt: &R, stage: &Stage, name: &str, end: &mut Option<AnyEnd>, lines: &str) {
     for line in lines.lines() {
-        let (named, deeds) = line.split_once(": ").unwrap_or((line, ""));
+        let (named, deeds) = told_in(line);
         if named == name {
             for deed in deeds.split("; ") {
-                follow(rt, stage, name, end, deed);
+                follow(rt, stage, end, line, deed);
             }
         }
     }

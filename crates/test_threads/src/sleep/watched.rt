@@ -1,5 +1,5 @@
 //! What the system tells of a thread: its number, whether it sleeps, and how much processor time it had.
-use crate::host::{Host, System};
+use crate::host::Host;
 use std::sync::atomic::AtomicU64;
 use std::sync::atomic::Ordering::SeqCst;
 use std::thread::sleep;
@@ -59,24 +59,13 @@ impl Watched {
     }
 }
 
-/// Where the system tells how much processor time this thread had.
-pub(crate) const OWN: &str = "/proc/thread-self/stat";
+/// Where the system tells of the thread that asks.
+const OWN: &str = "/proc/thread-self/stat";
 
-/// Where it tells how much all threads of this process had.
-pub(crate) const PROCESS: &str = "/proc/self/stat";
-
-/// How much processor time is told there, in hundredths of a second.
-pub(crate) fn time<R: Host>(rt: &R, path: &str) -> u64 {
-    let text = read(rt, path);
+/// How much processor time this thread had, in hundredths of a second.
+pub(crate) fn time<R: Host>(rt: &R) -> u64 {
+    let text = read(rt, OWN);
     field(&text, 13).wrapping_add(field(&text, 14))
-}
-
-/// How many threads this process has, or more than there may be where that cannot be read.
-pub(crate) fn threads(system: &impl System) -> u64 {
-    match system.text(PROCESS) {
-        Some(text) => field(&text, 19),
-        None => u64::MAX,
-    }
 }
 
 /// A text of the system. Asserts that it can be read.

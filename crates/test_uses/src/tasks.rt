@@ -1,6 +1,6 @@
 //! Tasks that workers share come to what each comes to alone, in as many steps, and workers that find none end.
 use crate::asserts::{is, is_in};
-use crate::sleep::watched::{PROCESS, threads, time};
+use crate::system::{threads, time};
 use std::alloc::Global;
 use std::process::Abort;
 use std::sync::Wait;
@@ -287,9 +287,10 @@ fn a_long_task_is_done_beside_short_ones(rt: HostRuntime) {
 /// Of eight workers seven have no task for a second. They take next to no time.
 #[test]
 fn workers_without_a_task_take_no_time(rt: HostRuntime) {
-    let before = time(&rt, PROCESS);
+    let before = time(&rt).expect(&rt, "a time");
     let found = worked(&rt, &rt, rt.alloc(), Does::Sleeps(100), 8, 8);
-    let took = time(&rt, PROCESS).wrapping_sub(before);
+    let after = time(&rt).expect(&rt, "a time");
+    let took = after.wrapping_sub(before);
     is_in(&rt, took, (found, took <= 10), ((Ok(true), 107, 0), true));
 }
 

@@ -1,2 +1,0 @@
-//! Uses of shared queues.
-pub mod tasks;
