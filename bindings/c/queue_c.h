@@ -28,7 +28,7 @@
 #include <stdint.h>
 
 /* The version of the repository that these declarations are from. */
-#define QUEUE_C_VERSION "1.1.0"
+#define QUEUE_C_VERSION "2.0.0"
 
 #ifdef __cplusplus
 extern "C" {

@@ -1,4 +1,4 @@
-# The library, and wrong ones in its place. To be sourced; wants $here and $work.
+# The library, and others in its place: wrong ones, and one that watches its calls. To be sourced; wants $here and $work.
 
 # NAME COMMAND..: runs the command within ten minutes, and shows what it wrote only if it fails.
 try() {
@@ -26,7 +26,7 @@ build_library() {
 }
 
 # FILE: makes a library whose functions in that file take the place of the right ones, in a folder of its own, and prints the folder.
-wrong_library() {
+library_with() {
     local name=$(basename "$1" .c) symbol renames=()
     mkdir -p "$work/$name"
     cc -O2 -I "$here/c" -c -o "$work/$name.o" "$1"

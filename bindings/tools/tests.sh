@@ -23,7 +23,7 @@ put_their_tests() {
 try_wrong() {
     local name=$(basename "$1" .c) file test code fail=0
     [ -d "$work/theirs" ] || put_their_tests
-    QUEUE_C=$(wrong_library "$1")
+    QUEUE_C=$(library_with "$1")
     export QUEUE_C CARGO_PROFILE_RELEASE_LTO=off
     for file in tests/*.rs; do
         file=$(basename "$file" .rs)
@@ -47,7 +47,12 @@ try_wrong() {
 }
 
 check_c() {
-    local sanitize="-O1 -g -fsanitize=address,undefined -fno-sanitize-recover=all"
+    local sanitize="-O1 -g -fsanitize=address,undefined -fno-sanitize-recover=all" version
+    version=$(sed -n 's/^#define QUEUE_C_VERSION "\(.*\)"/\1/p' c/queue_c.h)
+    if ! grep -qF "This is version $version." ../README.md; then
+        echo "c/queue_c.h: QUEUE_C_VERSION is $version, and the repository's version is another: FAILED"
+        failed=$((failed + 1))
+    fi
     if try "c/test.c" make -s -C c test OUT="$work/c"; then
         echo "c/test.c: $(tail -n 1 "$work/log")"
     fi
@@ -88,6 +93,15 @@ check_refused() {
     fi
 }
 
+# FILE [TEST]: our tests of that file, or the one of that name, over that crate itself.
+run_over_reference() {
+    local name="concurrent-queue $version itself, rust/tests/$1.rs"
+    build_over "$work/$1" "$here/rust/tests/$1.rs" "$work/reference" --test
+    if try "$name" "$work/$1" "${@:2}"; then
+        echo "$name: $(sed -n 's/^test result: ok. \([0-9]*\) passed.*/\1/p' "$work/log") passed"
+    fi
+}
+
 check_tests() {
     local test file
     check_c
@@ -101,12 +115,17 @@ check_tests() {
         cargo_tests "rust/tests/$file" --test "${file%.rs}"
     done
     cargo_tests "rust/src/refused.rs" --doc
+    # No handle may be in two calls, though such a call might answer right.
+    export QUEUE_C=$(library_with "$here/tools/one_call.c") CARGO_PROFILE_RELEASE_LTO=off
+    cargo_tests "rust/tests over the library that watches its calls" --tests
+    unset CARGO_PROFILE_RELEASE_LTO
+    name_library
     find_reference || return 0
     # What we expect of it comes from the crate itself.
     build_reference "$work/reference"
-    if build_over "$work/as_the_reference" "$here/rust/tests/as_the_reference.rs" "$work/reference" --test && try "concurrent-queue $version, rust/tests/as_the_reference.rs" "$work/as_the_reference"; then
-        echo "concurrent-queue $version itself, rust/tests/as_the_reference.rs: $(sed -n 's/^test result: ok. \([0-9]*\) passed.*/\1/p' "$work/log") passed"
-    fi
+    run_over_reference as_the_reference
+    run_over_reference within_the_library
+    run_over_reference within_a_call an_allocator_writes_each_request_down
     put_their_tests
     for test in tests/*.rs; do
         file=$(basename "$test")

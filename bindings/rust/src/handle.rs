@@ -1,6 +1,6 @@
 //! One party for each user, and no pool.
 use crate::errors::{ForcePushError, PopError, PushError};
-use crate::raw::Party;
+use crate::raw::{Party, is_dropped};
 use std::fmt;
 use std::sync::{Arc, Mutex};
 
@@ -9,7 +9,7 @@ pub(crate) struct Last<T>(pub(crate) Party<T>);
 
 impl<T> Drop for Last<T> {
     fn drop(&mut self) {
-        while self.0.pop().is_ok() {}
+        while is_dropped::<T>() && self.0.pop().is_ok() {}
     }
 }
 

@@ -2,7 +2,7 @@
 use crate::raw::Party;
 use crate::threads::{AWAY, Turn};
 use std::cell::UnsafeCell;
-use std::mem::{ManuallyDrop, forget};
+use std::mem::{ManuallyDrop, forget, swap};
 use std::ops::{Deref, DerefMut};
 use std::sync::atomic::{AtomicUsize, Ordering};
 use std::sync::{Mutex, MutexGuard, OnceLock, PoisonError};
@@ -64,6 +64,26 @@ impl<T> More<T> {
     fn spare(&self) -> MutexGuard<'_, Vec<Party<T>>> {
         self.spare.lock().unwrap_or_else(PoisonError::into_inner)
     }
+
+    /// Keeps a party that is at no place. It asks for memory before it has the lock, since the allocator may call this queue.
+    fn keep(&self, party: Party<T>) {
+        let mut larger = Vec::new();
+        loop {
+            let mut spare = self.spare();
+            if spare.len() == spare.capacity() {
+                let room = 2 * spare.len() + 1;
+                if larger.capacity() < room {
+                    drop(spare);
+                    larger = Vec::with_capacity(room);
+                    continue;
+                }
+                larger.append(&mut spare);
+                swap(&mut larger, &mut spare);
+            }
+            spare.push(party);
+            return;
+        }
+    }
 }
 
 /// The places of a queue: one of the first thread that asks, and one of each other thread, by its number. A thread with a higher number has none.
@@ -84,7 +104,11 @@ impl<T> Places<T> {
     }
 
     fn more(&self) -> &More<T> {
-        self.more.get_or_init(More::new)
+        self.more.get().unwrap_or_else(|| {
+            // A call within this request may be the first to have it.
+            let more = More::new();
+            self.more.get_or_init(|| more)
+        })
     }
 
     /// The place of the thread with this number, if it has one.
@@ -94,10 +118,10 @@ impl<T> Places<T> {
     }
 
     fn another(&self, number: usize) -> Option<&Place<T>> {
-        if self.first_of.load(Ordering::Relaxed) == NOBODY
-            && number != AWAY
-            && self.first_of.compare_exchange(NOBODY, number, Ordering::Relaxed, Ordering::Relaxed).is_ok()
-        {
+        if number == AWAY {
+            return None;
+        }
+        if self.first_of.load(Ordering::Relaxed) == NOBODY && self.first_of.compare_exchange(NOBODY, number, Ordering::Relaxed, Ordering::Relaxed).is_ok() {
             return Some(&self.first);
         }
         self.more().places.get(number)
@@ -111,7 +135,7 @@ impl<T> Places<T> {
 
     #[cold]
     fn give_back(&self, party: Party<T>) {
-        self.more().spare().push(party);
+        self.more().keep(party);
     }
 
     /// Lends this thread a party that no other call has: the one at its place, or else another.

@@ -5,7 +5,7 @@ use crate::errors::{ForcePushError, PopError, PushError};
 use std::alloc::{Layout, handle_alloc_error};
 use std::ffi::c_void;
 use std::marker::PhantomData;
-use std::mem::MaybeUninit;
+use std::mem::{MaybeUninit, needs_drop};
 use std::ptr::NonNull;
 use std::thread::yield_now;
 
@@ -42,6 +42,11 @@ unsafe extern "C" {
 
 const fn fits_a_word<T>() -> bool {
     size_of::<T>() <= size_of::<Word>() && align_of::<T>() <= align_of::<Word>()
+}
+
+/// Whether an item that is left in a queue has to be taken out before the queue goes.
+pub const fn is_dropped<T>() -> bool {
+    needs_drop::<T>() || !fits_a_word::<T>()
 }
 
 fn pack<T>(item: T) -> Word {

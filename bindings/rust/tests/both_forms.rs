@@ -83,6 +83,20 @@ fn each_call_of_a_handle() {
 }
 
 #[test]
+fn what_a_handle_tells() {
+    let mut bounded = Handle::bounded(3);
+    let mut unbounded = Handle::unbounded();
+    assert_eq!((bounded.split().capacity(), unbounded.split().capacity()), (Some(3), None));
+    assert_eq!(format!("{bounded:?} {unbounded:?}"), "Handle { capacity: Some(3), .. } Handle { capacity: None, .. }");
+    for item in 0..100 {
+        assert_eq!(bounded.push(item).is_ok(), item < 3);
+        assert_eq!(unbounded.push(item), Ok(()));
+    }
+    assert!(bounded.try_iter().eq(0..3) && unbounded.split().try_iter().eq(0..100));
+    assert!(bounded.is_empty() && unbounded.is_empty());
+}
+
+#[test]
 fn the_last_handle_drops_what_is_left() {
     let drops = AtomicUsize::new(0);
     let mut a = Handle::unbounded();
