@@ -1,8 +1,10 @@
 -- The steps of a pop up to the read of its item have fewer steps before them, one after another, while nobody hinders it.
 use Rattle.std.proofs.Common.{ℕ, ◌+◌, ◌/◌, ◌%◌, ◌<◌, ◌≡◌, ◌≢◌, ◌==◌, ◌∙◌, ◌⊎◌, inl, inr, Bool, true, false, if◌then◌else◌, Option, Some, None, refl, sym, ap, subst, arith, bit_and}
 use Rattle.std.proofs.lemmas.Bool.{ne_eqb, eq-eqb, Decides.eqb_tells}
-use Rattle.queue_laws.specs.{Common.Vocabulary.Local, Common.Vocabulary.BLOCK_SLOTS, Common.Vocabulary.TAIL_STEP, Common.Vocabulary.WRITE, Chain.ChainAt.Only, Chain.ChainFacts.place, Chain.ChainFacts.head_of, Chain.ChainFacts.HeadIs, Chain.ChainFacts.IsMore, Chain.ChainAnswers.tail_word, Chain.ChainAnswers.head_word, Chain.ChainAnswers.shown_of, Chain.ChainAnswers.linked_of, Chain.ChainAnswers.is_wrote, Chain.ChainAfter.taken_if}
-use Rattle.queue_steps.specs.{Words.position_of, ChainWords.block_at, ChainWords.offset_at, ChainWords.offset_of, ChainNext.chain_head_found, ChainNext.head_block_found, ChainNext.chain_pop_tail_found, ChainNext.takes, ChainNext.followed, ChainNext.written_found, ChainNext.is_last_slot, declared.steps.chain.ChainLocal.ChainLocal as chain}
+use Rattle.queue_laws.specs.{Common.Vocabulary.Local, Common.Vocabulary.BLOCK_SLOTS, Common.Vocabulary.TAIL_STEP, Common.Vocabulary.WRITE, Chain.ChainAt.Only, Chain.ChainFacts.place, Chain.ChainFacts.head_of, Chain.ChainFacts.HeadIs, Chain.ChainFacts.IsMore, Chain.ChainAfter.taken_if}
+use Rattle.queue_laws.specs.Chain.ChainAnswers.{tail_word, head_word, shown_of, linked_of, is_wrote}
+use Rattle.queue_steps.specs.{Words.position_of, ChainWords.block_at, ChainWords.offset_at, ChainWords.offset_of, declared.steps.chain.ChainLocal.ChainLocal as chain}
+use Rattle.queue_steps.specs.ChainNext.{chain_head_found, head_block_found, chain_pop_tail_found, takes, followed, written_found, is_last_slot}
 use Rattle.queue_steps.specs.ChainNext as steps
 use Rattle.queue_laws.proofs.{Common.Tails.position_tail, Chain.ChainPlaces.place_offset, Chain.ChainAnswers.standing_word, Chain.ChainRanksPush.first_place, Chain.ChainRanksPush.nothing_yet}
 use Rattle.queue_laws.proofs.Chain.ChainRanks.{lag, lag_none, is_seen, rank, Falls, IsBare, unheld, stands_if}

@@ -4,7 +4,8 @@ use Rattle.std.proofs.lemmas.Bool.{ne_eqb, eq-eqb}
 use Rattle.queue_laws.specs.{Common.Vocabulary.Local, Common.Vocabulary.PushKind, Common.Vocabulary.BLOCK_SLOTS, Chain.ChainAt.Only, Chain.ChainAnswers.tail_place, Chain.ChainAnswers.tail_word, Chain.ChainAnswers.last_of, Chain.ChainAfter.if_installed, Chain.ChainAfter.claimed_if}
 use Rattle.queue_laws.specs.Chain.{ChainFacts.place, ChainFacts.open_tail_of, ChainFacts.TailIs, ChainFacts.HasSpare, ChainTransitions.displayed, ChainTransitions.installed, ChainTransitions.renamed}
 use Rattle.queue_laws.specs.Chain.ChainCells.{Rests, Spare, Chain, ChainOk, Part, Tail, First, HoldsOnly}
-use Rattle.queue_steps.specs.{Words.is_shut, Words.position_of, Words.tail_of, ChainWords.items_before, ChainWords.offset_at, ChainWords.offset_of, ChainNext.chain_tail_found, ChainNext.tail_block_found, ChainNext.asks, ChainNext.claims, ChainNext.lays, ChainNext.writes, ChainNext.is_last_slot, declared.steps.chain.ChainLocal.ChainLocal as chain}
+use Rattle.queue_steps.specs.{Words.is_shut, Words.position_of, Words.tail_of, ChainWords.items_before, ChainWords.offset_at, ChainWords.offset_of, declared.steps.chain.ChainLocal.ChainLocal as chain}
+use Rattle.queue_steps.specs.ChainNext.{chain_tail_found, tail_block_found, asks, claims, lays, writes, is_last_slot}
 use Rattle.queue_steps.specs.ChainNext as steps
 use Rattle.queue_laws.proofs.{Common.Tails.position_tail, Common.Tails.shut_tail, Chain.ChainPlaces.place_offset, Chain.ChainAnswers.resting_word, Chain.ChainAnswers.tail_items, Chain.ChainPush.tail_ways, Chain.ChainTransitions.no_block}
 use Rattle.queue_laws.proofs.Chain.ChainRanks.{lag, lag_none, lag_small, late, rank, Falls, IsBare, unheld, rests_if}

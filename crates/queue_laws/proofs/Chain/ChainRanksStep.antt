@@ -1,10 +1,15 @@
 -- Each step of a call on a chain leaves fewer steps before it while nobody hinders it, also while no other party holds a part of the chain, and each step of a wait-free call always.
 use Rattle.std.proofs.Common.{true, ℕ, ◌+◌, ◌/◌, ◌%◌, ◌<◌, ◌≤◌, ◌≡◌, ◌≢◌, ◌==◌, not, ◌∙◌, inl, inr, List, refl, sym, ap, subst, arith, bit_and, false}
-use Rattle.queue_laws.specs.{Common.Vocabulary.Local, Common.Vocabulary.Answer, Common.Vocabulary.BLOCK_SLOTS, Common.Vocabulary.READ, Common.Vocabulary.DESTROY, Common.Stand.Stand, Chain.ChainFacts.head_of, Chain.ChainFacts.open_tail_of, Chain.ChainAnswers.Answers, Chain.ChainAnswers.IsState, Chain.ChainAnswers.tail_word, Chain.ChainAnswers.is_wrote, Chain.ChainAfter.if_read, Chain.ChainAfter.if_walked, Chain.ChainAfter.if_begun, Chain.ChainAfter.if_destroyed, Chain.ChainAfter.chain_of, Chain.ChainAfter.after_of}
+use Rattle.queue_laws.specs.{Common.Vocabulary.Local, Common.Vocabulary.Answer, Common.Vocabulary.BLOCK_SLOTS, Common.Vocabulary.READ, Common.Vocabulary.DESTROY, Common.Stand.Stand, Chain.ChainFacts.head_of, Chain.ChainFacts.open_tail_of, Chain.ChainAnswers.Answers, Chain.ChainAnswers.IsState}
+use Rattle.queue_laws.specs.Chain.{ChainAnswers.tail_word, ChainAnswers.is_wrote, ChainAfter.if_read, ChainAfter.if_walked, ChainAfter.if_begun, ChainAfter.if_destroyed, ChainAfter.chain_of, ChainAfter.after_of}
 use Rattle.queue_steps.specs.{WaitFree.is_wait_free, State.State, Words.position_of, ChainWords.offset_of, ChainNext.is_last_slot, ChainNext.chain_next, declared.steps.chain.ChainLocal.ChainLocal as chain}
-use Rattle.queue_laws.proofs.{Common.Pushes.never_push, Chain.ChainReads.own_item, Chain.ChainAnswers.head_offset, Chain.ChainRanks.rank, Chain.ChainRanks.Falls, Chain.ChainRanks.lag_none, Chain.ChainRanks.is_seen, Chain.ChainRanks.IsBare, Chain.ChainRanks.unheld, Chain.ChainRanksPush.rests, Chain.ChainRanksPush.push_tail_falls, Chain.ChainRanksPush.push_block_falls, Chain.ChainRanksPush.granted_falls, Chain.ChainRanksPush.installing_falls, Chain.ChainRanksPush.showing_falls, Chain.ChainRanksPush.claiming_falls, Chain.ChainRanksPop.stands, Chain.ChainRanksPop.head_falls, Chain.ChainRanksPop.pop_block_falls, Chain.ChainRanksPop.unshown_place, Chain.ChainRanksPop.pop_tail_falls, Chain.ChainRanksPop.taking_falls, Chain.ChainRanksPop.following_falls, Chain.ChainRanksPop.wrote_then, Chain.ChainRanksPop.awaiting_falls, Chain.ChainRanksWalk.maybe_on_falls, Chain.ChainRanksWalk.walking_falls, Chain.ChainRanksWalk.done_then, Chain.ChainRanksWalk.last_claimed, Chain.ChainRanksWalk.count_again_falls}
+use Rattle.queue_laws.proofs.{Common.Pushes.never_push, Chain.ChainReads.own_item, Chain.ChainAnswers.head_offset, Chain.ChainRanksWalk.maybe_on_falls, Chain.ChainRanksWalk.walking_falls, Chain.ChainRanksWalk.done_then, Chain.ChainRanksWalk.last_claimed, Chain.ChainRanksWalk.count_again_falls}
+use Rattle.queue_laws.proofs.Chain.ChainRanks.{rank, Falls, lag_none, is_seen, IsBare, unheld}
+use Rattle.queue_laws.proofs.Chain.ChainRanksPush.{rests, push_tail_falls, push_block_falls, granted_falls, installing_falls, showing_falls, claiming_falls}
+use Rattle.queue_laws.proofs.Chain.ChainRanksPop.{stands, head_falls, pop_block_falls, unshown_place, pop_tail_falls, taking_falls, following_falls, wrote_then, awaiting_falls}
 use Rattle.queue_laws.specs.Chain.ChainCells.{Reading, Unread, Chain, ChainOk, item_at, LAST, Write, Read, Head, Next, First, Passed, HoldsOnly, Nothing}
-use Rattle.queue_laws.specs.Chain.ChainAt.{Only, Either, At, push_tail, push_block, asking, installing, showing, claiming, laying, opening, chaining, writing, spending, pop_head, pop_block, pop_tail, taking, following, peeking, passing, entering, awaiting, reading, beginning, walking, destroying, count_tail, count_head, count_again, empty_head, empty_tail, closing, closed_tail}
+use Rattle.queue_laws.specs.Chain.ChainAt.{Only, Either, At, push_tail, push_block, asking, installing, showing, claiming, laying, opening, chaining, writing, spending, pop_head, pop_block, pop_tail, taking, following, peeking, passing, entering, awaiting, reading, beginning, walking, destroying}
+use Rattle.queue_laws.specs.Chain.ChainAt.{count_tail, count_head, count_again, empty_head, empty_tail, closing, closed_tail}
 
 -- where a pop may find no block, nothing was accepted yet
 abbrev pub IsReady : {A : Type 0} → Chain A → Local ℕ → Type 0

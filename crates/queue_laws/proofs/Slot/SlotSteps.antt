@@ -1,10 +1,13 @@
 -- One slot: each atomic step of a call is a step of the queue.
 use Rattle.std.proofs.Common.{◌≡◌, ℕ, ◌+◌, Bool, true, false, Option, Some, None, Err, List, [], ◌∷◌, length, bit_or, if◌then◌else◌, refl, inl, inr, sym}
-use Rattle.queue_steps.specs.{State.State, Replies.IsRightAt, Replies.Tells, SlotNext.is_marked, SlotNext.is_pushed, Looks.call_of_look, Looks.reply_of_look, Next.next_of, declared.steps.slot.SlotLocal.TheVariants.Pushing, declared.steps.slot.SlotLocal.TheVariants.Forcing, declared.steps.slot.SlotLocal.TheVariants.Popping, declared.steps.slot.SlotLocal.TheVariants.Closing, declared.steps.slot.SlotLocal.TheVariants.Looking, declared.steps.types.Word.TheVariants.Lock}
+use Rattle.queue_steps.specs.{State.State, Replies.IsRightAt, Replies.Tells, SlotNext.is_marked, SlotNext.is_pushed, Looks.call_of_look, Looks.reply_of_look, Next.next_of, declared.steps.types.Word.TheVariants.Lock}
+use Rattle.queue_steps.specs.declared.steps.slot.SlotLocal.TheVariants.{Pushing, Forcing, Popping, Closing, Looking}
 use Rattle.queue_steps.proofs.LookLaws.{reply_filled, reply_tells, reply_right}
 use Rattle.queue_laws.specs.Common.Vocabulary.{Call, Reply, Effect, Kind, Answer, PopError, PushError, ForcePushError, Op, Look, Local, PushKind, LOCKED, PUSHED, CLOSED}
-use Rattle.queue_laws.specs.{Common.Stand.Stand, Common.Stand.empty_handed, Common.Stand.brings, Slot.SlotHolder.SlotHolder, Slot.SlotHolder.Nobody, Slot.SlotHolder.Filling, Slot.SlotHolder.Swapping, Slot.SlotHolder.Taking, Common.Moments.SeenIn, Common.Effects.Leads, Common.Effects.with_effect, Slot.SlotShared.one_slot, Slot.SlotShared.answered, Slot.SlotShared.operated, Slot.SlotShared.touched, Slot.SlotShared.handed}
-use Rattle.queue_laws.specs.Slot.SlotRows.{Codes, free_empty, free_full, filling, swapping, taking, code, At, push_try, push_put, force_try_empty, force_try_full, force_put_empty, force_put_full, pop_try, pop_take, close_try, look_at, Share, idle, fills, swaps, takes, stays, changes, single, IsEffect, NextOk, StepOk}
+use Rattle.queue_laws.specs.{Common.Stand.Stand, Common.Stand.empty_handed, Common.Stand.brings, Slot.SlotHolder.SlotHolder, Slot.SlotHolder.Nobody, Common.Moments.SeenIn, Common.Effects.Leads, Common.Effects.with_effect}
+use Rattle.queue_laws.specs.Slot.SlotShared.{one_slot, answered, operated, touched, handed}
+use Rattle.queue_laws.specs.Slot.SlotRows.{Codes, free_empty, free_full, filling, swapping, taking, code, At, push_try, push_put, force_try_empty, force_try_full, force_put_empty, force_put_full, pop_try, pop_take, close_try, look_at, Share, idle, fills, swaps, takes, stays, changes, single}
+use Rattle.queue_laws.specs.Slot.SlotRows.{IsEffect, NextOk, StepOk}
 
 -- a reply without effect that is right now
 pub right_now : {T : Type 0} (Q : State T) (ms : List (State T)) (k : Call T) (y : Reply T) → Tells k y [] → IsRightAt Q k y
@@ -116,7 +119,8 @@ closes {word' = word'} {slot = slot} {h = h} {items = items} n ms st leaves told
   passes = stays Nobody h;
 }
 
-push_step : {T : Type 0} {word : ℕ} {slot : Option T} {h : SlotHolder T} {items : List T} {c : Bool} (v : T) → Codes word slot h items c → Row word slot Nobody h items c (brings (Local.Slot Pushing) (Op.Exchange Lock 0 (bit_or LOCKED PUSHED)) PushKind.Push v)
+push_step : {T : Type 0} {word : ℕ} {slot : Option T} {h : SlotHolder T} {items : List T} {c : Bool} (v : T) → Codes word slot h items c
+    → Row word slot Nobody h items c (brings (Local.Slot Pushing) (Op.Exchange Lock 0 (bit_or LOCKED PUSHED)) PushKind.Push v)
 push_step v (free_empty true) n ms = silent n ms (free_empty true) refl refl (right_now (single [] true n) ms (Call.Push v) (Reply.Push (Err (PushError.Closed v))) (refl, inr refl) (refl, refl))
 push_step v (free_empty false) n ms = locks ms (n + 1) (Effect.Append v) (filling false v) refl (v, refl) ((refl, refl, refl, inl refl), refl) (push_put v)
 push_step v (free_full true x) n ms = silent n ms (free_full true x) refl refl (right_now (single (x ∷ []) true n) ms (Call.Push v) (Reply.Push (Err (PushError.Closed v))) (refl, inr refl) (refl, refl))
@@ -128,7 +132,8 @@ push_step v (swapping false old y) n ms = silent n ms (swapping false old y) ref
 push_step v (taking true x) n ms = silent n ms (taking true x) refl refl (right_now (single [] true n) ms (Call.Push v) (Reply.Push (Err (PushError.Closed v))) (refl, inr refl) (refl, refl))
 push_step v (taking false x) n ms = silent n ms (taking false x) refl refl (push_try v)
 
-force_empty_step : {T : Type 0} {word : ℕ} {slot : Option T} {h : SlotHolder T} {items : List T} {c : Bool} (v : T) → Codes word slot h items c → Row word slot Nobody h items c (brings (Local.Slot (Forcing 0)) (Op.Exchange Lock 0 (bit_or LOCKED PUSHED)) PushKind.Force v)
+force_empty_step : {T : Type 0} {word : ℕ} {slot : Option T} {h : SlotHolder T} {items : List T} {c : Bool} (v : T) → Codes word slot h items c
+    → Row word slot Nobody h items c (brings (Local.Slot (Forcing 0)) (Op.Exchange Lock 0 (bit_or LOCKED PUSHED)) PushKind.Force v)
 force_empty_step v (free_empty true) n ms = silent n ms (free_empty true) refl refl (right_now (single [] true n) ms (Call.ForcePush v) (Reply.ForcePush (Err (ForcePushError.Closed v))) (refl, inr refl) (refl, refl))
 force_empty_step v (free_empty false) n ms = locks ms (n + 1) (Effect.Append v) (filling false v) refl (v, refl) ((refl, refl, refl, inl refl), refl) (force_put_empty v)
 force_empty_step v (free_full true x) n ms = silent n ms (free_full true x) refl refl (right_now (single (x ∷ []) true n) ms (Call.ForcePush v) (Reply.ForcePush (Err (ForcePushError.Closed v))) (refl, inr refl) (refl, refl))
@@ -140,7 +145,8 @@ force_empty_step v (swapping false old y) n ms = silent n ms (swapping false old
 force_empty_step v (taking true x) n ms = silent n ms (taking true x) refl refl (right_now (single [] true n) ms (Call.ForcePush v) (Reply.ForcePush (Err (ForcePushError.Closed v))) (refl, inr refl) (refl, refl))
 force_empty_step v (taking false x) n ms = silent n ms (taking false x) refl refl (force_try_empty v)
 
-force_full_step : {T : Type 0} {word : ℕ} {slot : Option T} {h : SlotHolder T} {items : List T} {c : Bool} (v : T) → Codes word slot h items c → Row word slot Nobody h items c (brings (Local.Slot (Forcing 2)) (Op.Exchange Lock 2 (bit_or LOCKED PUSHED)) PushKind.Force v)
+force_full_step : {T : Type 0} {word : ℕ} {slot : Option T} {h : SlotHolder T} {items : List T} {c : Bool} (v : T) → Codes word slot h items c
+    → Row word slot Nobody h items c (brings (Local.Slot (Forcing 2)) (Op.Exchange Lock 2 (bit_or LOCKED PUSHED)) PushKind.Force v)
 force_full_step v (free_empty true) n ms = silent n ms (free_empty true) refl refl (right_now (single [] true n) ms (Call.ForcePush v) (Reply.ForcePush (Err (ForcePushError.Closed v))) (refl, inr refl) (refl, refl))
 force_full_step v (free_empty false) n ms = silent n ms (free_empty false) refl refl (force_try_empty v)
 force_full_step v (free_full true x) n ms = silent n ms (free_full true x) refl refl (right_now (single (x ∷ []) true n) ms (Call.ForcePush v) (Reply.ForcePush (Err (ForcePushError.Closed v))) (refl, inr refl) (refl, refl))
@@ -152,7 +158,8 @@ force_full_step v (swapping false old y) n ms = silent n ms (swapping false old 
 force_full_step v (taking true x) n ms = silent n ms (taking true x) refl refl (right_now (single [] true n) ms (Call.ForcePush v) (Reply.ForcePush (Err (ForcePushError.Closed v))) (refl, inr refl) (refl, refl))
 force_full_step v (taking false x) n ms = silent n ms (taking false x) refl refl (force_try_empty v)
 
-pop_step : {T : Type 0} {word : ℕ} {slot : Option T} {h : SlotHolder T} {items : List T} {c : Bool} (d : Bool) → Codes word slot h items c → Row word slot Nobody h items c (empty_handed (Local.Slot (Popping (code false true d))) (Op.Exchange Lock (code false true d) (code true false d)) Call.Pop)
+pop_step : {T : Type 0} {word : ℕ} {slot : Option T} {h : SlotHolder T} {items : List T} {c : Bool} (d : Bool) → Codes word slot h items c
+    → Row word slot Nobody h items c (empty_handed (Local.Slot (Popping (code false true d))) (Op.Exchange Lock (code false true d) (code true false d)) Call.Pop)
 pop_step true (free_empty true) n ms = silent n ms (free_empty true) refl refl (right_now (single [] true n) ms Call.Pop (Reply.Pop (Err PopError.Closed)) refl (refl, refl, refl))
 pop_step true (free_empty false) n ms = silent n ms (free_empty false) refl refl (right_now (single [] false n) ms Call.Pop (Reply.Pop (Err PopError.Empty)) refl (refl, refl, refl))
 pop_step true (free_full true x) n ms = locks ms n (Effect.Take x) (taking true x) refl (x, refl) (([], refl), refl) (pop_take x)
@@ -174,7 +181,8 @@ pop_step false (swapping false old y) n ms = silent n ms (swapping false old y) 
 pop_step false (taking true x) n ms = silent n ms (taking true x) refl refl (right_now (single [] true n) ms Call.Pop (Reply.Pop (Err PopError.Closed)) refl (refl, refl, refl))
 pop_step false (taking false x) n ms = silent n ms (taking false x) refl refl (right_now (single [] false n) ms Call.Pop (Reply.Pop (Err PopError.Empty)) refl (refl, refl, refl))
 
-close_step : {T : Type 0} {word : ℕ} {slot : Option T} {h : SlotHolder T} {items : List T} {c : Bool} → Codes word slot h items c → Row word slot Nobody h items c (empty_handed (Local.Slot Closing) (Op.Or Lock CLOSED) Call.Close)
+close_step : {T : Type 0} {word : ℕ} {slot : Option T} {h : SlotHolder T} {items : List T} {c : Bool} → Codes word slot h items c
+    → Row word slot Nobody h items c (empty_handed (Local.Slot Closing) (Op.Or Lock CLOSED) Call.Close)
 close_step (free_empty true) n ms = silent n ms (free_empty true) refl refl (right_now (single [] true n) ms Call.Close (Reply.Close false) refl refl)
 close_step (free_empty false) n ms = closes n ms (free_empty true) refl refl (refl, refl, (_, refl, refl, λ e. cc))
 close_step (free_full true x) n ms = silent n ms (free_full true x) refl refl (right_now (single (x ∷ []) true n) ms Call.Close (Reply.Close false) refl refl)
@@ -196,7 +204,8 @@ reads (swapping true old y) = (refl, refl)
 reads (taking true x) = (refl, refl)
 reads x = (refl, refl)
 
-look_step : {T : Type 0} {word : ℕ} {slot : Option T} {h : SlotHolder T} {items : List T} {c : Bool} (l : Look) → Codes word slot h items c → Row word slot Nobody h items c (empty_handed (Local.Slot (Looking l)) (Op.Load Lock) (call_of_look l))
+look_step : {T : Type 0} {word : ℕ} {slot : Option T} {h : SlotHolder T} {items : List T} {c : Bool} (l : Look) → Codes word slot h items c
+    → Row word slot Nobody h items c (empty_handed (Local.Slot (Looking l)) (Op.Load Lock) (call_of_look l))
 look_step {T} {word = word} {slot = slot} {h = h} {items = items} {c = c} l st n ms =
     let many : ℕ = if is_pushed word then 1 else 0 in
     let right = reply_right (single items c n) (Some 1) many (is_marked word) l refl (reads st).1 (λ e. sym (reads st).0) in
