@@ -28,10 +28,9 @@ pub mod Links
 pub mod Left
 pub mod Kind
 pub mod Gathering
-pub mod Far
+pub mod Pops
 pub mod Stretch
 pub mod Appended
 pub mod Taken
 pub mod Waits
-pub mod Near
 pub mod Early

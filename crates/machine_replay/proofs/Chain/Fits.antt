@@ -2,9 +2,9 @@
 use Rattle.std.proofs.Common.{ℕ, ◌≡◌, ◌≢◌, true, Option, None, List, [], ◌∷◌, sym, subst, arith}
 use Rattle.queue_steps.specs.{State.State, Kinds.call_kind, Kinds.call_value, ChainNext.chain_begin, ChainNext.chain_next}
 use Rattle.machine_replay.specs.{Vocabulary.Call, Vocabulary.Reply, Vocabulary.Effect, Vocabulary.Kind, Vocabulary.Answer, Vocabulary.Next, Vocabulary.Running, Book.Open, Book.after_own, Book.begun, Book.is_wait_free, Book.joined, Book.watched}
-use Rattle.queue_laws.specs.{Common.Effects.with_effect, Chain.ChainCells.Chain, Chain.ChainCells.queue_of, Chain.ChainCells.ChainOk, Chain.ChainCells.HoldsOnly, Chain.ChainCells.Nothing, Chain.ChainPasses.Passes, Chain.ChainPasses.Spares, Chain.ChainPasses.spare_in, Chain.ChainAt.At, Chain.ChainAnswers.Answers, Chain.ChainAfter.chain_of, Chain.ChainAfter.after_of, Chain.ChainAfter.carried_of, Chain.ChainAfter.left_by}
+use Rattle.queue_laws.specs.{Common.Effects.with_effect, Chain.ChainCells.Chain, Chain.ChainCells.queue_of, Chain.ChainCells.ChainOk, Chain.ChainCells.HoldsOnly, Chain.ChainCells.Nothing, Chain.ChainPasses.Passes, Chain.ChainPasses.Spares, Chain.ChainPasses.spare_in, Chain.ChainAt.At, Chain.ChainAnswers.Answers, Chain.ChainAnswers.tail_word, Chain.ChainAnswers.head_word, Chain.ChainAfter.chain_of, Chain.ChainAfter.after_of, Chain.ChainAfter.carried_of, Chain.ChainAfter.left_by}
 use Rattle.machine_replay.proofs.{Engine.StandOf.stand_of, Progress.FewSteps.FewSteps, Progress.FewSteps.few_begun, Progress.FewSteps.few_joined, Progress.FewSteps.few_watched, Progress.FewSteps.few_own, Progress.FewSteps.few_stays, Chain.Moments.chain_begun, Chain.Moments.allowed_in, Engine.Moments.same_moments}
-use Rattle.queue_laws.proofs.Chain.{ChainFacts.holds_stays, ChainAt.at_stays, ChainStart.Begins, ChainStart.at_begun, ChainGiven.spares_stay, ChainRight.NextOkSpares, ChainRight.step_right, ChainRanks.rank, ChainRanks.longest, ChainRanks.rank_small, ChainRanks.rank_some, ChainRanks.Falls, ChainRanksStep.step_falls, ChainRanksStep.wait_free_falls, ChainRanksStep.wait_free_small}
+use Rattle.queue_laws.proofs.Chain.{ChainFacts.holds_stays, ChainAt.at_stays, ChainStart.Begins, ChainStart.at_begun, ChainGiven.spares_stay, ChainRight.NextOkSpares, ChainRight.step_right, ChainRanks.rank, ChainRanks.longest, ChainRanks.rank_small, ChainRanks.rank_some, ChainRanks.Falls, ChainRanksStep.lone_falls, ChainRanksStep.wait_free_falls, ChainRanksStep.wait_free_small}
 use Rattle.machine_memory.specs.SharedMemory.{MemoryState}
 use Rattle.machine_steps.specs.Steps.{CanStep, step_of, start_of, running_after, reply_after}
 use Rattle.machine_replay.proofs.Engine.Events as engine
@@ -37,8 +37,8 @@ module _ {A : Type 0} (Stands : MemoryState A → State A → Chain A → Type 0
       → FewSteps busy o m longest → (busy ≡ 1 → Falls g n m) → (is_wait_free o.call ≡ true → Falls g n m) → NextOkSpares g p (queue_of g ∷ o.moments) n v o.call es
       → ChainGoes A Stands busy s (queue_of g) g p (after_own busy o (queue_of g) es) (running_after n v) (reply_after n v)
   goes_on s g p o (Next.Step l t x) v es m few falls hurry ends =
-      let less = few_own busy o (queue_of g) es m (rank g l) longest (rank_small g l) falls hurry few in
-      (record { here = ends.0; spares = ends.1; few = less }, few_stays busy (after_own busy o (queue_of g) es) (rank g l) longest (omega arith) (rank_some g l) (chain_begun ends.0) less)
+      let less = few_own busy o (queue_of g) es m (rank g l) longest (rank_small (tail_word g) (head_word g) l) falls hurry few in
+      (record { here = ends.0; spares = ends.1; few = less }, few_stays busy (after_own busy o (queue_of g) es) (rank g l) longest (omega arith) (rank_some (tail_word g) (head_word g) l) (chain_begun ends.0) less)
   goes_on s g p o (Next.Reply x spare) v es m few falls hurry ends =
       let y = ends.2 in
       rw y.1 ((ends.0, ends.1), (y.2, λ e. allowed_in o.call y.0 (queue_of g ∷ o.moments) (y.3 e)))
@@ -54,7 +54,7 @@ module _ {A : Type 0} (Stands : MemoryState A → State A → Chain A → Type 0
       let r = after_of f.here a in
       let n = chain_next (chain_of x.local) a in
       goes_on t (left_by r n) p o n (carried_of f.here) (with_effect o.effects right.e) (rank g x.local) f.few
-      (λ one. falls_left r n (rank g x.local) (step_falls f.here a ok found (λ j ne. (quiet one j ne).0)))
+      (λ one. falls_left r n (rank g x.local) (lone_falls f.here a ok found (λ j ne. (quiet one j ne).0)))
       (λ e. falls_left r n (rank g x.local) (wait_free_falls f.here a found e)) right.ends
 
 -- a call of another party stands where it stood
@@ -63,7 +63,7 @@ pub chain_watched : {A : Type 0} (busy busy' : ℕ) (s t : MemoryState A) (Q : S
 chain_watched busy busy' s t Q g h p j x o ok after ne pass many f = record {
   here = subst (λ ms. At h j ms (stand_of x o.call o.effects)) (same_moments (queue_of h) o.moments) (at_stays ok after ne pass f.here);
   spares = spares_stay p j (spare_in x.local) ne pass f.spares;
-  few = few_watched busy busy' (queue_of h) o (rank g x.local) (rank h x.local) longest many (rank_small h x.local) (λ e. let same = (wait_free_small h f.here e).1 in omega arith) f.few;
+  few = few_watched busy busy' (queue_of h) o (rank g x.local) (rank h x.local) longest many (rank_small (tail_word h) (head_word h) x.local) (λ e. let same = (wait_free_small h f.here e).1 in omega arith) f.few;
 }
 
 -- a party between calls stays so
@@ -79,7 +79,7 @@ fresh : {A : Type 0} (s : MemoryState A) (Q : State A) (g : Chain A) (p : ℕ) (
 fresh s Q g p k x here spares busy = record {
   here = here;
   spares = spares;
-  few = few_begun busy k (rank g x.local) longest (rank_small g x.local) (λ e. (wait_free_small g here e).0);
+  few = few_begun busy k (rank g x.local) longest (rank_small (tail_word g) (head_word g) x.local) (λ e. (wait_free_small g here e).0);
 }
 
 pub chain_begins : {A : Type 0} (Stands : MemoryState A → State A → Chain A → Type 0) (s : MemoryState A) (Q : State A) (g : Chain A) (p : ℕ) (k : Call A) → Q.cap ≡ None → ChainIdle g p

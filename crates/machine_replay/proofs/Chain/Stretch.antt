@@ -1,20 +1,14 @@
--- A chain: once the first block is shown, each step of a call that nobody hinders brings it nearer to its reply.
-use Rattle.std.proofs.Common.{ℕ, if◌then◌else◌, ◌-◌, ◌<◌, ◌≡◌, ◌∙◌, Bool, true, false, Option, Some, None, IsSome, List, [], ◌∷◌, bit_or, refl, sym, ap, subst, arith}
-use Rattle.queue_steps.specs.{State.State, Next.next_of, Words.is_shut, Words.tail_of}
-use Rattle.machine_replay.specs.Vocabulary.{Kind, Word, Link, Op, Touch, Next, MARK, EffectKind, Running}
-use Rattle.queue_laws.specs.{Common.Effects.with_effect, Common.Stand.Stand, Chain.ChainCells.Chain, Chain.ChainCells.queue_of, Chain.ChainAfter.after_of, Chain.ChainAfter.left_by, Chain.ChainAnswers.tail_place, Chain.ChainAnswers.tail_word, Common.Operations.op_word, Common.Operations.op_makes}
-use Rattle.queue_laws.proofs.{Common.Tails.mark_tail, Common.Tails.shut_tail, Chain.ChainFirst.first, Chain.ChainRanks.rank, Chain.ChainRanks.rank_some, Chain.ChainRanks.Falls, Chain.ChainRanks.IsQuiet, Chain.ChainRanksStep.step_falls, Chain.ChainRight.NextOkSpares, Chain.ChainRight.step_right, Chain.ChainStep.is_chain}
-use Rattle.machine_replay.proofs.{Engine.StandOf.running_of, Chain.Far.far_at, Chain.Far.far_of, Chain.Far.one_of_pop, Chain.Far.by_call, Chain.Far.goes_as, Chain.Far.bounded, Chain.Fits.ChainIdle, Chain.Fits.ChainFits, Chain.Holding.ChainHolds, Chain.Laws.chain_steps, Chain.Laws.chain_then, Chain.Laws.next_on, Chain.Opening.chain_opens, Chain.Opening.chain_all_idle, Chain.Stands.steps_stand, Progress.Stretch.Rules}
+-- A chain: a step without effect leaves the words, and where poppers see a block they go on seeing one. And the rules by which the machine's calls on it are counted.
+use Rattle.std.proofs.Common.{ℕ, if◌then◌else◌, ◌≡◌, ◌∙◌, Bool, true, false, Option, Some, None, IsSome, List, [], ◌∷◌, bit_or, refl, sym, ap, subst}
+use Rattle.queue_steps.specs.{State.State, Words.is_shut, Words.tail_of}
+use Rattle.machine_replay.specs.Vocabulary.{Kind, Word, Link, Op, Touch, MARK, EffectKind, Running}
+use Rattle.queue_laws.specs.{Common.Stand.Stand, Chain.ChainCells.Chain, Chain.ChainAnswers.tail_place, Chain.ChainAnswers.tail_word, Common.Operations.op_word, Common.Operations.op_makes}
+use Rattle.queue_laws.proofs.{Common.Tails.mark_tail, Common.Tails.shut_tail, Chain.ChainFirst.first}
+use Rattle.machine_replay.proofs.{Engine.StandOf.running_of, Chain.Fits.ChainIdle, Chain.Fits.ChainFits, Chain.Holding.ChainHolds, Chain.Laws.chain_steps, Chain.Opening.chain_opens, Chain.Opening.chain_all_idle, Chain.Stands.steps_stand, Progress.Stretch.Rules}
 use Rattle.queue_laws.specs.Chain.ChainAt.{At, push_tail, push_block, asking, installing, showing, claiming, spending, pop_head, pop_block, pop_tail, taking, count_tail, count_head, count_again, empty_head, empty_tail, closing, closed_tail}
 use prog.Atomic.{either}
-use Rattle.machine_replay.specs.Book.{Open}
 use Rattle.machine_memory.specs.SharedMemory.{MemoryState, word_at, put_word, put_at, touched, operated, granted_if, block_touched}
-use Rattle.machine_steps.specs.Steps.{answer_to, step_of, running_after, next_after, carried_then, after_touch}
-
--- a call that goes on has fewer steps before it
-goes_on : {A : Type 0} (c : Chain A) (n : Next ℕ) (v : Option A) (m : ℕ) (x : Running A) → running_after n v ≡ Some x → Falls c n m → rank (left_by c n) x.local < m
-goes_on c (Next.Step l t o) v m x e falls = let same : record { local = l; touch = t; op = o; carried = v } ≡ x = cc in subst (λ y. rank c y.local < m) same falls
-goes_on c (Next.Reply y spare) v m x e falls = cc
+use Rattle.machine_steps.specs.Steps.{step_of, after_touch}
 
 -- the words that a step leaves
 abbrev SameWords : {A : Type 0} → MemoryState A → MemoryState A → Type 0
@@ -93,26 +87,6 @@ operated_front ok s o h = subst (λ b. IsSome b) (sym (put_word_front s (op_word
 module _ (A : Type 0) where
   pub ready_on : (ok : Bool) (s : MemoryState A) (r : Running A) → IsSome s.head_block → IsSome (step_of Kind.Unbounded ok s r).shared.head_block
   ready_on ok s r h = operated_front ok (after_touch s r) r.op (subst (λ b. IsSome b) (sym (touched_front r.touch (block_touched r.op) s r.carried)) h)
-
-  -- the step of a call, while no other party holds a part
-  pub own_falls : (busy : ℕ) (ok : Bool) (s : MemoryState A) (Q : State A) (g : Chain A) (p : ℕ) (x x' : Running A) (o : Open A) → IsSome s.head_block → ChainHolds s Q g → ChainFits busy s Q g p x o → IsQuiet g p
-      → (step_of Kind.Unbounded ok s x).call ≡ Some x'
-      → far_at (step_of Kind.Unbounded ok s x).shared.tail (step_of Kind.Unbounded ok s x).shared.head x'.local - one_of_pop x'.local < far_at s.tail s.head x.local - one_of_pop x.local
-  own_falls busy ok s Q g p x x' o ready holds f quiet goes =
-      let a = answer_to ok s x in
-      let step = steps_stand A ok s Q g p o.moments x o.call o.effects holds f.here f.spares in
-      let right = step_right f.here a holds.ok step.found f.spares in
-      let after = chain_then ok s g p o.moments x o.call o.effects f.here in
-      let falls = step_falls f.here a holds.ok step.found quiet in
-      let went : next_after Kind.Unbounded ok s x ≡ next_on ok s x = ap (λ l. next_of Kind.Unbounded l a) (is_chain f.here) in
-      let on = subst (λ n. running_after n (carried_then s x) ≡ Some x') went goes in
-      let less = goes_on (after_of f.here a) (next_on ok s x) (carried_then s x) (rank g x.local) x' on falls in
-      let same = goes_as after p (queue_of after ∷ o.moments) (next_on ok s x) (carried_then s x) o.call (with_effect o.effects right.e) x' on (subst (λ v. NextOkSpares after p (queue_of after ∷ o.moments) (next_on ok s x) v o.call (with_effect o.effects right.e)) (sym step.carried) right.ends) ∙ sym (by_call f.here) in
-      let some = rank_some after x'.local in
-      let more = (bounded s.tail s.head f.here holds.ok).0 in
-      let there = far_of (step_of Kind.Unbounded ok s x).shared after x'.local (ready_on ok s x ready) right.ok step.codes in
-      let here = far_of s g x.local ready holds.ok holds.codes in
-      omega (arith, less, there, here, same, some, more)
 
   abbrev pub chain_rules : Rules A Kind.Unbounded
   chain_rules = record { G = Chain A; Holds = ChainHolds; Idle = ChainIdle; Fits = ChainFits; laws = chain_steps (steps_stand A); first = first; opens = chain_opens A; all_idle = chain_all_idle A }

@@ -7,11 +7,11 @@ use Rattle.queue_laws.specs.{Common.Stand.Stand, Chain.ChainAfter.chain_of, Chai
 use Rattle.queue_laws.specs.Chain.ChainCells as cells
 use Rattle.queue_laws.specs.Chain.ChainCells.{Reader, Unread, Reading, Done, Shown, Seen, Chain, ChainOk, ItemOk, ShownOk, Part, Write, Read, Tail, Head, Passed, owner, item_at, LAST, HoldsOnly}
 use Rattle.queue_laws.specs.Chain.ChainAt.{Only, Either, At, showing, laying, opening, chaining, writing, following, peeking, passing, entering, awaiting, reading, beginning, walking, destroying}
-use Rattle.queue_laws.proofs.Chain.{ChainEarly.early, ChainAnswers.head_offset, ChainRanks.rests_if, ChainRanksPop.wrote_then, ChainRanksPop.linked_then, ChainRanksWalk.last_claimed, ChainReads.own_item, ChainStep.is_chain}
+use Rattle.queue_laws.proofs.Chain.{ChainEarly.early, ChainAnswers.head_offset, ChainRanks.rests_if, ChainRanks.unheld, ChainRanksPop.wrote_then, ChainRanksPop.linked_then, ChainRanksWalk.last_claimed, ChainReads.own_item, ChainStep.is_chain}
 use Rattle.machine_replay.specs.{Book.Open, Progress.TakesReplyWithin}
 use Rattle.machine_memory.specs.SharedMemory.{MemoryState}
 use Rattle.machine_steps.specs.Steps.{answer_to, step_of, running_after, next_after, carried_then}
-use Rattle.machine_replay.proofs.{Chain.Far.inner_low, Chain.Fits.ChainFits, Chain.Holding.ChainHolds, Chain.Laws.next_on, Chain.Stands.steps_stand, Chain.Stretch.chain_rules, Progress.Appended.HasAppend, Progress.Taken.HasTake, Progress.Taken.takes_reply}
+use Rattle.machine_replay.proofs.{Chain.Fits.ChainFits, Chain.Holding.ChainHolds, Chain.Laws.next_on, Chain.Stands.steps_stand, Chain.Stretch.chain_rules, Progress.Appended.HasAppend, Progress.Taken.HasTake, Progress.Taken.takes_reply}
 
 -- a part that a pop may hold
 abbrev IsPops : Part → Type 0
@@ -42,12 +42,8 @@ clear_of (chaining d v n name f holds mine links named) seen never = absurd (nev
 clear_of (writing d v n name spare holds mine spare_is) seen never = absurd (never tt)
 clear_of here seen never = λ x e. absurd ((early refl here).1 x e)
 
--- a part is nobody's that neither the party holds nor another
-pub unheld : {A : Type 0} (c : Chain A) (who : ℕ) (P Q : Part → Type 0) (x : Part) → ((j : ℕ) → j ≢ who → HoldsOnly c j Q) → HoldsOnly c who P → (P x → ⊥) → (Q x → ⊥) → (p : ℕ) → owner c x ≢ Some p
-unheld c who P Q x others holds none never p e = elim (eqb_tells p who) [
-  | inl t ↦ none (holds x (e ∙ ap (λ q. Some q) t.1))
-  | inr t ↦ never (others p t.1 x e)
-]
+inner_low : (n i : ℕ) → i ≡ n % BLOCK_SLOTS → (n % BLOCK_SLOTS + 1 ≡ BLOCK_SLOTS → ⊥) → i < LAST
+inner_low n i e ne = elim (eqb_tells (n % BLOCK_SLOTS + 1) BLOCK_SLOTS) [ inl t ↦ absurd (ne t.1) | inr t ↦ let z = t.1 in omega arith ]
 
 -- how many steps a call has before it that has taken
 to_reply : Local ℕ → ℕ

@@ -1,11 +1,12 @@
 -- A chain: who waits for whom, step by step.
 use Rattle.std.proofs.Common.{ℕ, ◌+◌, ◌/◌, ◌%◌, ◌≤◌, ◌≡◌, ◌≢◌, ◌==◌, ◌⊎◌, inl, inr, ◌∙◌, not, false, true, Option, Some, None, List, refl, sym, ap, subst, arith}
+use Rattle.std.proofs.lemmas.Bool.{eq-eqb}
 use Rattle.machine_replay.specs.Vocabulary.{Call, Effect, Kind, Answer, Local, Next, PushKind, BLOCK_SLOTS, Running}
-use Rattle.queue_steps.specs.{State.State, Next.next_of, ChainWords.offset_of, ChainNext.chain_tail_found, ChainNext.chain_head_found, ChainNext.chain_pop_tail_found, ChainNext.followed, ChainNext.written_found, ChainNext.chain_next, declared.steps.chain.ChainLocal.ChainLocal as chain}
+use Rattle.queue_steps.specs.{State.State, Next.next_of, Words.position_of, ChainWords.offset_of, ChainNext.chain_tail_found, ChainNext.chain_head_found, ChainNext.chain_pop_tail_found, ChainNext.followed, ChainNext.written_found, ChainNext.chain_next, declared.steps.chain.ChainLocal.ChainLocal as chain}
 use Rattle.queue_laws.specs.{Common.Stand.Stand, Chain.ChainAfter.chain_of, Chain.ChainAnswers.Answers, Chain.ChainAnswers.IsState, Chain.ChainAnswers.tail_word, Chain.ChainAnswers.head_word, Chain.ChainAnswers.shown_of, Chain.ChainAnswers.linked_of, Chain.ChainAnswers.is_wrote, Chain.ChainFacts.head_of, Chain.ChainFacts.open_tail_of}
 use Rattle.machine_replay.proofs.{Engine.StandOf.stand_of, Progress.Beside.apart, Progress.Beside.beside, Progress.Beside.not_back, Chain.Laws.next_on, Chain.Stands.steps_stand, Chain.Stretch.chain_rules, Progress.Stretch.Here, Progress.Stretch.Party, Progress.Stretch.reach, Progress.Stretch.first, Progress.Stretch.party-open}
 use Rattle.queue_laws.specs.Chain.ChainAt.{At, push_tail, showing, laying, opening, chaining, writing, pop_head, pop_tail, following, peeking, passing, entering, awaiting, reading, beginning, walking, destroying}
-use Rattle.queue_laws.proofs.Chain.{ChainEarly.early, ChainAnswers.head_offset, ChainRanks.rank, ChainRanks.tail_rank, ChainRanks.is_seen, ChainRanks.Falls, ChainRanks.rests_if, ChainRanks.stands_if, ChainRanksPop.head_falls, ChainRanksPop.pop_tail_falls, ChainRanksPop.following_falls, ChainRanksPop.wrote_then, ChainRanksPop.awaiting_falls, ChainRanksPush.push_tail_falls, ChainReads.own_item, ChainStep.is_chain}
+use Rattle.queue_laws.proofs.Chain.{ChainEarly.early, ChainAnswers.head_offset, ChainRanks.rank, ChainRanks.late, ChainRanks.is_seen, ChainRanks.Falls, ChainRanks.rests_if, ChainRanks.stands_if, ChainRanksPop.head_falls, ChainRanksPop.unshown_place, ChainRanksPop.pop_tail_falls, ChainRanksPop.following_falls, ChainRanksPop.wrote_then, ChainRanksPop.awaiting_falls, ChainRanksPush.push_tail_falls, ChainReads.own_item, ChainStep.is_chain}
 use Rattle.queue_laws.specs.Chain.ChainCells as cells
 use Rattle.queue_laws.specs.Chain.ChainCells.{Passing, Shown, Seen, Chain, ChainOk, Part, Write, Read, Tail, Head, First, Passed, owner}
 use Rattle.machine_steps.specs.{Left.opening_world, Steps.answer_to, Steps.running_after, Steps.next_after, Steps.carried_then, World.World, World.call_at}
@@ -105,8 +106,10 @@ other_row l m other same = apart row_of l m other same
 push_row : {A : Type 0} {c : Chain A} {who : ℕ} {ms : List (State A)} {k : Stand A} (d : PushKind) (spare : Option ℕ) → At c who ms k → (a : Answer ℕ) → Answers c k.op a
     → k.local ≡ Local.Chain (chain.PushTail d spare) → NextAt (chain_next (chain_of k.local) a) (Local.Chain (chain.PushTail d spare)) → Held c IsToMoveTail
 push_row {c = c} d spare (push_tail e v own none spare_is) a found is goes =
+    let same : own ≡ spare = cc in
+    let as_late = ap (late (tail_word c)) same in
     held_if c Tail IsToMoveTail
-    (λ free. no_fewer c (chain_tail_found e (tail_word c) own) (Local.Chain (chain.PushTail d spare)) 10 (omega arith)
+    (λ free. no_fewer c (chain_tail_found e (tail_word c) own) (Local.Chain (chain.PushTail d spare)) (10 + late (tail_word c) own) (omega (arith, as_late))
     (subst (λ b. NextAt (chain_next (chain.PushTail e own) b) (Local.Chain (chain.PushTail d spare))) found goes) (push_tail_falls c e own (rests_if c.mover free)))
     (λ l h. h)
 push_row d spare _ a found is goes = absurd (other_row _ _ refl is)
@@ -116,7 +119,7 @@ pop_row : {A : Type 0} {c : Chain A} {who : ℕ} {ms : List (State A)} {k : Stan
     → k.local ≡ Local.Chain chain.PopHead → NextAt (chain_next (chain_of k.local) a) (Local.Chain chain.PopHead) → Held c IsToMoveHead
 pop_row {c = c} (pop_head none) a found is goes =
     held_if c Head IsToMoveHead
-    (λ free. no_fewer c (chain_head_found (head_word c)) (Local.Chain chain.PopHead) (BLOCK_SLOTS + 9) (omega arith)
+    (λ free. no_fewer c (chain_head_found (head_word c)) (Local.Chain chain.PopHead) (BLOCK_SLOTS + 8) (omega arith)
     (subst (λ b. NextAt (chain_next chain.PopHead b) (Local.Chain chain.PopHead)) found goes) (head_falls c (stands_if c.passer free)))
     (λ l h. h)
 pop_row _ a found is goes = absurd (other_row _ _ refl is)
@@ -125,16 +128,17 @@ pop_row _ a found is goes = absurd (other_row _ _ refl is)
 first_row : {A : Type 0} {c : Chain A} {who : ℕ} {ms : List (State A)} {k : Stand A} (head : ℕ) → At c who ms k → (a : Answer ℕ) → ChainOk c → Answers c k.op a
     → is_seen c.shown ≡ false → k.local ≡ Local.Chain (chain.PopTail head None) → NextAt (chain_next (chain_of k.local) a) (Local.Chain chain.PopHead) → Held c IsToShow
 first_row {c = c} head (pop_tail n None none is front) a ok found unseen at goes =
-    let one : tail_rank c (head_of n false) None ≡ 1 = rw unseen refl in
     held_if c First IsToShow
-    (λ free. no_fewer c (chain_pop_tail_found (head_of n false) None (tail_word c)) (Local.Chain chain.PopHead) (tail_rank c (head_of n false) None) (omega (arith, one))
-    (subst (λ b. NextAt (chain_next (chain.PopTail (head_of n false) None) b) (Local.Chain chain.PopHead)) found goes) (pop_tail_falls c n None ok free is))
+    (λ free.
+    let one : rank c (Local.Chain (chain.PopTail (head_of n false) None)) ≡ 1 = rw (eq-eqb (position_of (tail_word c)) 0 (unshown_place c ok free unseen)) refl in
+    no_fewer c (chain_pop_tail_found (head_of n false) None (tail_word c)) (Local.Chain chain.PopHead) (rank c (Local.Chain (chain.PopTail (head_of n false) None))) (omega (arith, one))
+    (subst (λ b. NextAt (chain_next (chain.PopTail (head_of n false) None) b) (Local.Chain chain.PopHead)) found goes) (pop_tail_falls c n None ok is))
     (λ l h. h)
 first_row head (pop_tail n (Some block) none is front) a ok found unseen at goes = cc
 first_row head _ a ok found unseen at goes = absurd (other_row _ _ refl at)
 
 -- V5: the next block is read, which a push has to link
-link_held : {A : Type 0} (c : Chain A) (who n head name : ℕ) (m : Local ℕ) → ChainOk c → (c.passer ≡ Passing who) × (c.head ≡ n + 1) → BLOCK_SLOTS + 5 ≤ rank c m
+link_held : {A : Type 0} (c : Chain A) (who n head name : ℕ) (m : Local ℕ) → ChainOk c → (c.passer ≡ Passing who) × (c.head ≡ n + 1) → BLOCK_SLOTS + 4 ≤ rank c m
     → NextAt (followed head name (linked_of (c.links (n / BLOCK_SLOTS)) (c.names (n / BLOCK_SLOTS + 1)))) m → Held c IsToLink
 link_held {A} c who n head name m ok pass low goes = go (owner c Tail) refl
   where
@@ -142,7 +146,7 @@ link_held {A} c who n head name m ok pass low goes = go (owner c Tail) refl
     go (Some p) e = (p, (Tail, e, mover_links))
     go None e =
         held_if c (cells.Next (n / BLOCK_SLOTS)) IsToLink
-        (λ free. no_fewer c (followed head name (linked_of (c.links (n / BLOCK_SLOTS)) (c.names (n / BLOCK_SLOTS + 1)))) m (BLOCK_SLOTS + 5) low goes
+        (λ free. no_fewer c (followed head name (linked_of (c.links (n / BLOCK_SLOTS)) (c.names (n / BLOCK_SLOTS + 1)))) m (BLOCK_SLOTS + 4) low goes
         (following_falls c who n head name ok (rests_if c.mover (λ p is. let no : None ≡ Some p = sym e ∙ is in cc)) free pass))
         (λ l h. h)
 
@@ -160,7 +164,7 @@ item_row {c = c} {who = who} head block (awaiting x n name more holds got) a ok 
     let h = found (n / BLOCK_SLOTS) got.named in
     let state : IsState c (n / BLOCK_SLOTS) (n % BLOCK_SLOTS) h.0 = subst (λ i. IsState c (n / BLOCK_SLOTS) i h.0) (head_offset n more) h.2 in
     held_if c (Write n) IsToWrite
-    (λ free. no_fewer c (written_found (head_of n more) name h.0) (Local.Chain (chain.Awaiting head block)) (BLOCK_SLOTS + 1) (omega arith)
+    (λ free. no_fewer c (written_found (head_of n more) name h.0) (Local.Chain (chain.Awaiting head block)) BLOCK_SLOTS (omega arith)
     (subst (λ b. NextAt (chain_next (chain.Awaiting (head_of n more) name) b) (Local.Chain (chain.Awaiting head block))) h.1 goes)
     (awaiting_falls c (head_of n more) name h.0 (state.written ∙ (ap (λ m. not (is_wrote (c.writers m))) (own_item n) ∙ ap not (wrote_then c who n ok free got.mine)))))
     (λ l h. h)

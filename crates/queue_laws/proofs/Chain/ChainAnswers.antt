@@ -1,6 +1,7 @@
 -- What reading the words of a chain tells.
 use Rattle.std.proofs.Common.{ℕ, ◌*◌, ◌%◌, ◌≤◌, ◌≡◌, ◌≢◌, ◌∙◌, inl, inr, Bool, true, false, refl, sym, ap, arith}
-use Rattle.queue_laws.specs.{Common.Vocabulary.LIMIT, Common.Vocabulary.BLOCK_SLOTS, Chain.ChainFacts.place, Chain.ChainFacts.head_of, Chain.ChainFacts.open_tail_of, Chain.ChainFacts.HeadIs, Chain.ChainFacts.TailIs, Chain.ChainAnswers.tail_place, Chain.ChainAnswers.head_place, Chain.ChainAnswers.tail_word, Chain.ChainAnswers.head_word, Chain.ChainAnswers.is_done}
+use Rattle.queue_laws.specs.{Common.Vocabulary.LIMIT, Common.Vocabulary.BLOCK_SLOTS, Chain.ChainFacts.place, Chain.ChainFacts.head_of, Chain.ChainFacts.open_tail_of, Chain.ChainFacts.HeadIs, Chain.ChainFacts.TailIs, Chain.ChainAnswers.tail_place, Chain.ChainAnswers.head_place}
+use Rattle.queue_laws.specs.Chain.ChainAnswers.{tail_word, head_word, is_done}
 use Rattle.queue_steps.specs.{Words.IsWord, Words.position_of, Words.is_shut, Words.tail_of, ChainWords.offset_at, ChainWords.offset_of, ChainWords.items_before}
 use Rattle.queue_laws.proofs.{Common.Tails.position_tail, Common.Tails.shut_tail, Chain.ChainPlaces.place_offset}
 use Rattle.queue_laws.specs.Chain.ChainCells.{Reader, Done, Mover, Rests, Passer, Stands, Passing, Entering, Chain, BlocksOk, FrontOk, ChainOk}

@@ -3,8 +3,10 @@ use Rattle.std.proofs.Common.{ℕ, ◌+◌, ◌/◌, ◌≡◌, ◌≢◌, ◌�
 use Rattle.queue_laws.specs.{Common.Vocabulary.BLOCK_SLOTS, Common.Moments.seen_by, Common.Stand.Stand, Chain.ChainPasses.Passes}
 use Rattle.queue_steps.specs.{State.State, Words.position_of, ChainWords.items_before}
 use Rattle.queue_laws.specs.Chain.ChainCells.{Chain, queue_of, ChainOk, Write, Read, Tail, Head, Next, First, Passed, Nothing}
-use Rattle.queue_laws.proofs.Chain.ChainFacts.{tail_grows, head_is_stays, named_stays, tail_block_stays, head_block_stays, head_read_stays, more_stays, spare_stays, holds_stays, head_was_stays, saw_empty_stays, saw_stays, claimed_stays, got_stays, lays_stays, opens_stays, passing_stays, entering_stays, linking_stays, showing_stays, walker_stays}
-use Rattle.queue_laws.specs.Chain.ChainAt.{Only, Either, Asks, IsBehind, IsFurther, At, push_tail, push_block, asking, installing, showing, claiming, laying, opening, chaining, writing, spending, pop_head, pop_block, pop_tail, taking, following, peeking, passing, entering, awaiting, reading, beginning, walking, destroying, count_tail, count_head, count_again, empty_head, empty_tail, closing, closed_tail}
+use Rattle.queue_laws.proofs.Chain.ChainFacts.{tail_grows, head_is_stays, named_stays, tail_block_stays, head_block_stays, head_read_stays, more_stays, spare_stays, holds_stays, head_was_stays, saw_empty_stays, saw_stays, claimed_stays, got_stays, lays_stays, opens_stays, passing_stays}
+use Rattle.queue_laws.proofs.Chain.ChainFacts.{entering_stays, linking_stays, showing_stays, walker_stays}
+use Rattle.queue_laws.specs.Chain.ChainAt.{Only, Either, Asks, IsBehind, IsFurther, At, push_tail, push_block, asking, installing, showing, claiming, laying, opening, chaining, writing, spending, pop_head, pop_block, pop_tail, taking, following, peeking, passing, entering, awaiting, reading}
+use Rattle.queue_laws.specs.Chain.ChainAt.{beginning, walking, destroying, count_tail, count_head, count_again, empty_head, empty_tail, closing, closed_tail}
 
 pub asks_stays : {A : Type 0} {r s : Chain A} (who q : ℕ) (block : Option ℕ) → Passes who r s → Asks r q block → Asks s q block
 asks_stays who q None pass h = h
@@ -34,7 +36,8 @@ at_stays {r = r} {s = s} {who = who} {other = other} {ms = ms} ok ok2 ne pass (c
 at_stays {r = r} {s = s} {who = who} {other = other} {ms = ms} ok ok2 ne pass (laying d v n name f none mine lays fresh) =
     laying d v n name f (holds_stays who other (Either (Write n) Tail) ne pass none) (claimed_stays who other n v name ne pass mine) (lays_stays who other n ne pass lays) (pass.spares f other ne fresh)
 at_stays {r = r} {s = s} {who = who} {other = other} {ms = ms} ok ok2 ne pass (opening d v n name f none mine opens links named) =
-    opening d v n name f (holds_stays who other (λ x. (x ≡ Write n) ⊎ (x ≡ Tail) ⊎ (x ≡ Next (n / BLOCK_SLOTS))) ne pass none) (claimed_stays who other n v name ne pass mine) (opens_stays who other n ne pass opens) (linking_stays who other (n / BLOCK_SLOTS) ne pass links) (named_stays who (n / BLOCK_SLOTS + 1) f pass named)
+    opening d v n name f (holds_stays who other (λ x. (x ≡ Write n) ⊎ (x ≡ Tail) ⊎ (x ≡ Next (n / BLOCK_SLOTS))) ne pass none) (claimed_stays who other n v name ne pass mine)
+    (opens_stays who other n ne pass opens) (linking_stays who other (n / BLOCK_SLOTS) ne pass links) (named_stays who (n / BLOCK_SLOTS + 1) f pass named)
 at_stays {r = r} {s = s} {who = who} {other = other} {ms = ms} ok ok2 ne pass (chaining d v n name f none mine links named) =
     chaining d v n name f (holds_stays who other (Either (Write n) (Next (n / BLOCK_SLOTS))) ne pass none) (claimed_stays who other n v name ne pass mine) (linking_stays who other (n / BLOCK_SLOTS) ne pass links) (named_stays who (n / BLOCK_SLOTS + 1) f pass named)
 at_stays {r = r} {s = s} {who = who} {other = other} {ms = ms} ok ok2 ne pass (writing d v n name spare none mine spare_is) =

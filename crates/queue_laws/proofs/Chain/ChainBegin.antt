@@ -1,7 +1,9 @@
 -- The beginning of the walk over a passed block, by the reader of its last slot.
-use Rattle.queue_laws.specs.{Common.Vocabulary.Call, Common.Vocabulary.Effect, Common.Vocabulary.Answer, Common.Vocabulary.BLOCK_SLOTS, Chain.ChainAfter.if_begun, Chain.ChainFacts.Got, Common.Puts.put, Chain.ChainTransitions.walk_after, Chain.ChainAt.Only, Chain.ChainAt.IsLast, Chain.ChainAt.destroying, Chain.ChainAnswers.IsState, Chain.ChainAnswers.is_done}
+use Rattle.queue_laws.specs.{Chain.ChainAfter.if_begun, Chain.ChainFacts.Got, Common.Puts.put, Chain.ChainTransitions.walk_after, Chain.ChainAt.Only, Chain.ChainAt.IsLast, Chain.ChainAt.destroying, Chain.ChainAnswers.IsState, Chain.ChainAnswers.is_done}
+use Rattle.queue_laws.specs.Common.Vocabulary.{Call, Effect, Answer, BLOCK_SLOTS}
 use Rattle.queue_steps.specs.{State.State, declared.steps.chain.ChainLocal.ChainLocal as chain}
-use Rattle.queue_laws.proofs.{Chain.ChainStepOk.StepOk, Chain.ChainStepOk.silent, Chain.ChainPassesReads.passes_reads, Chain.ChainHolds.after_read_on, Common.Puts.put_ok, Common.Puts.put_same, Chain.ChainReads.read_ok, Chain.ChainReads.walk_after_ok, Chain.ChainAnswers.done_is, Chain.ChainWalk.after_mine, Chain.ChainWalk.on_goes}
+use Rattle.queue_laws.proofs.{Chain.ChainStepOk.StepOk, Chain.ChainStepOk.silent, Chain.ChainPassesReads.passes_reads, Chain.ChainHolds.after_read_on, Common.Puts.put_ok, Common.Puts.put_same, Chain.ChainReads.read_ok, Chain.ChainReads.walk_after_ok, Chain.ChainAnswers.done_is}
+use Rattle.queue_laws.proofs.Chain.ChainWalk.{after_mine, on_goes}
 use Rattle.std.proofs.Common.{ℕ, ◌/◌, ◌≡◌, ◌≢◌, not, ◌∙◌, Bool, true, false, if◌then◌else◌, Some, None, List, [], ◌∷◌, refl, sym, ap, arith}
 use Rattle.queue_laws.specs.Chain.ChainCells.{Wrote, Reading, Done, Walk, Walker, Chain, queue_of, WalkOk, IsWalked, item_at, LAST, ChainOk, Read, walker_of, HoldsOnly}
 use Rattle.queue_laws.specs.Chain.ChainTransitions as moves

@@ -1,8 +1,12 @@
 -- The steps of a push that change the chain: the first block, the exchange of the tail, the next block, and the write.
 use Rattle.std.proofs.lemmas.Bool.Decides.{eqb_tells}
-use Rattle.queue_laws.specs.{Common.Vocabulary.Effect, Common.Vocabulary.Answer, Common.Vocabulary.PushKind, Common.Vocabulary.LIMIT, Common.Vocabulary.BLOCK_SLOTS, Common.Pushes.pushes, Chain.ChainPasses.Passes, Chain.ChainFacts.open_tail_of, Chain.ChainFacts.TailBlockIs, Chain.ChainFacts.IsNamed, Chain.ChainFacts.HasSpare, Chain.ChainFacts.SawTail, Chain.ChainFacts.Claimed, Chain.ChainAnswers.tail_word, Chain.ChainAnswers.tail_place, Chain.ChainAnswers.last_of, Chain.ChainAfter.if_installed, Chain.ChainAfter.if_claimed, Chain.ChainAfter.claimed_if}
+use Rattle.queue_laws.specs.{Common.Vocabulary.Effect, Common.Vocabulary.Answer, Common.Vocabulary.PushKind, Common.Vocabulary.LIMIT, Common.Vocabulary.BLOCK_SLOTS, Common.Pushes.pushes, Chain.ChainPasses.Passes, Chain.ChainFacts.open_tail_of, Chain.ChainFacts.TailBlockIs, Chain.ChainFacts.IsNamed}
+use Rattle.queue_laws.specs.Chain.{ChainFacts.HasSpare, ChainFacts.SawTail, ChainFacts.Claimed, ChainAnswers.tail_word, ChainAnswers.tail_place, ChainAnswers.last_of, ChainAfter.if_installed, ChainAfter.if_claimed, ChainAfter.claimed_if}
 use Rattle.queue_steps.specs.{State.State, ChainWords.offset_of, declared.steps.chain.ChainLocal.ChainLocal as chain, Words.IsWord, ChainNext.lays, ChainNext.writes}
-use Rattle.queue_laws.proofs.{Chain.ChainStepOk.NextOk, Chain.ChainStepOk.StepOk, Chain.ChainStepOk.still, Chain.ChainStepOk.silent, Chain.ChainStepOk.spare_gives, Common.Puts.put_ok, Common.Puts.put_same, Common.Tails.shut_tail, Common.Pushes.closed_push, Common.Pushes.appended_push, Chain.ChainPasses.passes_marked, Chain.ChainPasses.passes_appended, Chain.ChainPasses.passes_installed, Chain.ChainPasses.passes_displayed, Chain.ChainPassesLaying.passes_laid_out, Chain.ChainPassesLaying.passes_opened, Chain.ChainPassesLaying.passes_chained, Chain.ChainPassesLaying.passes_written, Chain.ChainFacts.named_stays, Chain.ChainAnswers.same_tail, Chain.ChainAnswers.tail_small, Chain.ChainHolds.after_install, Chain.ChainHolds.after_display, Chain.ChainHolds.after_append, Chain.ChainHolds.after_append_last, Chain.ChainHolds.after_lay, Chain.ChainHolds.after_open, Chain.ChainHolds.after_chain, Chain.ChainHolds.after_write, Chain.ChainPush.tail_goes, Chain.ChainPush.open_small}
+use Rattle.queue_laws.proofs.{Common.Puts.put_ok, Common.Puts.put_same, Common.Tails.shut_tail, Common.Pushes.closed_push, Common.Pushes.appended_push, Chain.ChainPasses.passes_marked, Chain.ChainPasses.passes_appended, Chain.ChainPasses.passes_installed, Chain.ChainPasses.passes_displayed}
+use Rattle.queue_laws.proofs.Chain.{ChainPassesLaying.passes_laid_out, ChainPassesLaying.passes_opened, ChainPassesLaying.passes_chained, ChainPassesLaying.passes_written, ChainFacts.named_stays, ChainAnswers.same_tail, ChainAnswers.tail_small, ChainPush.tail_goes, ChainPush.open_small}
+use Rattle.queue_laws.proofs.Chain.ChainStepOk.{NextOk, StepOk, still, silent, spare_gives}
+use Rattle.queue_laws.proofs.Chain.ChainHolds.{after_install, after_display, after_append, after_append_last, after_lay, after_open, after_chain, after_write}
 use Rattle.std.proofs.Common.{ℕ, ◌+◌, ◌-◌, ◌/◌, ◌<◌, ◌≤◌, ◌≡◌, ◌≢◌, ◌==◌, ◌⊎◌, inl, inr, zero, suc, Bool, true, false, Option, Some, None, IsSome, List, [], ◌∷◌, refl, sym, ap, subst, arith, ◌∙◌}
 use Rattle.queue_laws.specs.Chain.ChainCells.{Writing, Rests, Laying, Opening, LinkState, Unlinked, Linking, Showing, Spare, Chain, queue_of, BlocksOk, LinkOk, ChainOk, Write, Tail, Next, First, mover_of, HoldsOnly, Nothing}
 use Rattle.queue_laws.specs.Chain.ChainTransitions as moves
@@ -147,7 +151,8 @@ pub good_chaining : {A : Type 0} (c : Chain A) (who : ℕ) (ms : List (State A))
     → ChainOk c → HoldsOnly c who (Either (Write n) (Next (n / BLOCK_SLOTS))) → Claimed c who n v name
     → c.links (n / BLOCK_SLOTS) ≡ Linking who → IsNamed c (n / BLOCK_SLOTS + 1) f → StepOk c (moves.chained c (n / BLOCK_SLOTS)) who ms (chain.Chaining d (open_tail_of n) name f) (Some v) (pushes d v) (Effect.Append v ∷ []) Answer.Done
 good_chaining c who ms d v n name f ok holds mine links named =
-    silent c (moves.chained c (n / BLOCK_SLOTS)) who ms (chain.Chaining d (open_tail_of n) name f) (Some v) (pushes d v) (Effect.Append v ∷ []) Answer.Done refl (chain_ok c who (n / BLOCK_SLOTS) ok links (λ e. elim (holds Tail (ap mover_of e)) [ inl z ↦ absurd (cc) | inr z ↦ absurd (cc) ])) refl (passes_chained c who (n / BLOCK_SLOTS) links) tt
+    silent c (moves.chained c (n / BLOCK_SLOTS)) who ms (chain.Chaining d (open_tail_of n) name f) (Some v) (pushes d v) (Effect.Append v ∷ []) Answer.Done refl
+    (chain_ok c who (n / BLOCK_SLOTS) ok links (λ e. elim (holds Tail (ap mover_of e)) [ inl z ↦ absurd (cc) | inr z ↦ absurd (cc) ])) refl (passes_chained c who (n / BLOCK_SLOTS) links) tt
     (writing d v n name None (after_chain c who n (n / BLOCK_SLOTS) holds) (record { mine = mine.mine; named = mine.named }) tt)
 
 -- U9: the item is written into its slot

@@ -2,7 +2,8 @@
 use Rattle.std.proofs.Common.{ℕ, ◌+◌, ◌<◌, ◌≡◌, ◌≢◌, ◌==◌, ◌∙◌, ◌⊎◌, inl, inr, Bool, true, false, if◌then◌else◌, Option, Some, None, Err, List, [], ◌∷◌, refl, sym, ap, subst, arith}
 use Rattle.std.proofs.lemmas.Bool.Decides.{eqb_tells}
 use Rattle.queue_steps.specs.{State.State, Words.position_of, ChainWords.block_at, ChainWords.items_before, ChainNext.ends, ChainNext.chain_next, declared.steps.chain.ChainLocal.ChainLocal as chain}
-use Rattle.queue_laws.specs.{Common.Vocabulary.Call, Common.Vocabulary.Reply, Common.Vocabulary.PopError, Common.Vocabulary.Answer, Common.Vocabulary.TAIL_STEP, Chain.ChainFacts.place, Chain.ChainFacts.head_of, Chain.ChainFacts.HeadIs, Chain.ChainFacts.HeadBlockIs, Chain.ChainFacts.HeadBlockRead, Chain.ChainAt.pop_head, Chain.ChainAt.taking, Chain.ChainAnswers.tail_word, Chain.ChainAnswers.tail_place}
+use Rattle.queue_laws.specs.{Common.Vocabulary.Call, Common.Vocabulary.Reply, Common.Vocabulary.PopError, Common.Vocabulary.Answer, Common.Vocabulary.TAIL_STEP, Chain.ChainFacts.place, Chain.ChainFacts.head_of, Chain.ChainFacts.HeadIs, Chain.ChainFacts.HeadBlockIs, Chain.ChainFacts.HeadBlockRead}
+use Rattle.queue_laws.specs.Chain.{ChainAt.pop_head, ChainAt.taking, ChainAnswers.tail_word, ChainAnswers.tail_place}
 use Rattle.queue_laws.proofs.{Common.Lists.none_left, Common.Tails.position_tail, Common.Tails.shut_tail, Chain.ChainAnswers.tail_items, Chain.ChainStepOk.NextOk, Chain.ChainStepOk.StepOk, Chain.ChainStepOk.still, Chain.ChainPop.read_small, Chain.ChainPop.head_low}
 use Rattle.queue_laws.specs.Chain.ChainCells.{Mover, Rests, Laying, Opening, Stands, Seen, Chain, queue_of, BlocksOk, FrontOk, ShownOk, ChainOk, HoldsOnly, Nothing}
 
@@ -58,7 +59,9 @@ good_pop_tail {A} c who ms n block ok none is front =
         let other = b.1 in
         rw (test, b.0) (taking n name (head_of n false + TAIL_STEP + 1) false true none is named lt (omega arith) (λ z. (named.0, omega arith)))
 
-    go : (block : Option ℕ) → HeadBlockRead c n block → (((position_of (tail_word c) == position_of (head_of n false)) ≡ true) × (position_of (tail_word c) ≡ position_of (head_of n false))) ⊎ (((position_of (tail_word c) == position_of (head_of n false)) ≡ false) × (position_of (tail_word c) ≢ position_of (head_of n false)))
+    go : (block : Option ℕ) → HeadBlockRead c n block
+        → (((position_of (tail_word c) == position_of (head_of n false)) ≡ true) × (position_of (tail_word c) ≡ position_of (head_of n false)))
+        ⊎ (((position_of (tail_word c) == position_of (head_of n false)) ≡ false) × (position_of (tail_word c) ≢ position_of (head_of n false)))
         → NextOk c who (queue_of c ∷ ms) (chain_next (chain.PopTail (head_of n false) block) (Answer.Found (tail_word c))) None Call.Pop []
     go x h (inl e) = rw e.0 (subst (λ b. NextOk c who (queue_of c ∷ ms) (ends (Reply.Pop (Err (if b then PopError.Closed else PopError.Empty)))) None Call.Pop []) (sym (shut_tail (tail_place c.tail c.mover) c.closed)) (ends_with c.closed refl (empty e.1)))
     go None h (inr e) = rw e.0 (pop_head none)

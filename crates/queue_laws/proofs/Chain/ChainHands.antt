@@ -3,7 +3,8 @@ use Rattle.std.proofs.Common.{ℕ, ◌/◌, ◌≡◌, ◌≢◌, ◌∙◌, ◌
 use Rattle.queue_laws.specs.{Common.Vocabulary.BLOCK_SLOTS, Common.Stand.Stand, Chain.ChainPasses.spare_in, Chain.ChainPasses.Spares}
 use Rattle.queue_steps.specs.State.{State}
 use Rattle.queue_laws.specs.Chain.ChainCells.{Reading, Laying, Opening, Walker, Spare, Chain, Part, Write, Read, Tail, Head, Next, First, Passed, reader_of, mover_of, walker_of, HoldsOnly, Nothing}
-use Rattle.queue_laws.specs.Chain.ChainAt.{Only, Either, At, push_tail, push_block, asking, installing, showing, claiming, laying, opening, chaining, writing, spending, pop_head, pop_block, pop_tail, taking, following, peeking, passing, entering, awaiting, reading, beginning, walking, destroying, count_tail, count_head, count_again, empty_head, empty_tail, closing, closed_tail}
+use Rattle.queue_laws.specs.Chain.ChainAt.{Only, Either, At, push_tail, push_block, asking, installing, showing, claiming, laying, opening, chaining, writing, spending, pop_head, pop_block, pop_tail, taking, following, peeking, passing, entering, awaiting, reading, beginning, walking, destroying}
+use Rattle.queue_laws.specs.Chain.ChainAt.{count_tail, count_head, count_again, empty_head, empty_tail, closing, closed_tail}
 
 -- what a party has in its hands: nothing, a spare of this name, or a passed block of this number
 pub data Hand : Type 0 where

@@ -2,7 +2,8 @@
 use Rattle.std.proofs.Common.{ℕ, ◌<◌, ◌≡◌, ◌≢◌, ◌==◌, ◌∙◌, ◌⊎◌, inl, inr, true, false, None, List, [], ◌∷◌, length, refl, sym, ap, arith}
 use Rattle.std.proofs.lemmas.Bool.Decides.{eqb_tells}
 use Rattle.queue_steps.specs.{State.State, Replies.is_empty, Words.IsWord, Words.position_of, ChainWords.items_before, ChainWords.over_end, ChainWords.offset_at, ChainNext.chain_next, declared.steps.chain.ChainLocal.ChainLocal as chain}
-use Rattle.queue_laws.specs.{Common.Vocabulary.Call, Common.Vocabulary.Reply, Common.Vocabulary.Answer, Common.Vocabulary.BLOCK_SLOTS, Chain.ChainFacts.place, Chain.ChainFacts.SawEmpty, Chain.ChainCells.Chain, Chain.ChainCells.queue_of, Chain.ChainCells.ChainOk, Chain.ChainCells.HoldsOnly, Chain.ChainCells.Nothing, Chain.ChainAnswers.tail_word}
+use Rattle.queue_laws.specs.{Common.Vocabulary.Call, Common.Vocabulary.Reply, Common.Vocabulary.Answer, Common.Vocabulary.BLOCK_SLOTS, Chain.ChainFacts.place, Chain.ChainFacts.SawEmpty, Chain.ChainAnswers.tail_word}
+use Rattle.queue_laws.specs.Chain.ChainCells.{Chain, queue_of, ChainOk, HoldsOnly, Nothing}
 use Rattle.queue_laws.proofs.{Common.Moments.seen_map, Chain.ChainAnswers.tail_items, Chain.ChainAnswers.tail_small, Chain.ChainStepOk.NextOk, Chain.ChainStepOk.StepOk, Chain.ChainStepOk.still}
 
 -- a settled position is that of its items
@@ -22,7 +23,8 @@ pub good_empty_tail : {A : Type 0} (c : Chain A) (who : ℕ) (ms : List (State A
 good_empty_tail {A} c who ms h ok none small saw =
     still c who ms (chain.EmptyTail h) None Call.IsEmpty [] (Answer.Found (tail_word c)) refl ok (small, tail_small c ok) (go (eqb_tells (over_end (position_of (tail_word c))) (over_end (position_of h))))
   where
-    go : (((over_end (position_of (tail_word c)) == over_end (position_of h)) ≡ true) × (over_end (position_of (tail_word c)) ≡ over_end (position_of h))) ⊎ (((over_end (position_of (tail_word c)) == over_end (position_of h)) ≡ false) × (over_end (position_of (tail_word c)) ≢ over_end (position_of h)))
+    go : (((over_end (position_of (tail_word c)) == over_end (position_of h)) ≡ true) × (over_end (position_of (tail_word c)) ≡ over_end (position_of h)))
+        ⊎ (((over_end (position_of (tail_word c)) == over_end (position_of h)) ≡ false) × (over_end (position_of (tail_word c)) ≢ over_end (position_of h)))
         → NextOk c who (queue_of c ∷ ms) (chain_next (chain.EmptyTail h) (Answer.Found (tail_word c))) None Call.IsEmpty []
     go (inl e) =
         let same : place c.tail ≡ place (items_before (position_of h)) = ap place (sym (tail_items c ok)) ∙ (sym (settled_place (position_of (tail_word c))) ∙ (e.1 ∙ settled_place (position_of h))) in

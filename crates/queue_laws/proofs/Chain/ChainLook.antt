@@ -3,8 +3,10 @@ use Rattle.std.proofs.Common.{ℕ, ◌+◌, ◌-◌, ◌*◌, ◌%◌, ◌≤◌
 use Rattle.std.proofs.lemmas.Bool.{ne_eqb, eq-eqb, Decides.eqb_tells}
 use Rattle.queue_steps.specs.{State.State, Words.IsWord, Words.position_of, Words.is_shut, Words.tail_of, ChainWords.items_before, ChainNext.chain_next, Looks.call_of_look, Looks.reply_of_look, Looks.IsCount, declared.steps.chain.ChainLocal.ChainLocal as chain}
 use Rattle.queue_steps.proofs.LookLaws.{reply_filled, reply_tells, reply_right, count_waits}
-use Rattle.queue_laws.specs.{Common.Vocabulary.Call, Common.Vocabulary.Reply, Common.Vocabulary.Effect, Common.Vocabulary.Answer, Common.Vocabulary.Look, Common.Moments.SeenIn, Common.Moments.HeadWas, Common.Moments.HasItems, Chain.ChainCells.Chain, Chain.ChainCells.queue_of, Chain.ChainCells.ChainOk, Chain.ChainCells.HoldsOnly, Chain.ChainCells.Nothing, Chain.ChainAt.count_tail, Chain.ChainAt.count_head, Chain.ChainAt.count_again, Chain.ChainAt.empty_tail, Chain.ChainAnswers.tail_word, Chain.ChainAnswers.tail_place, Chain.ChainAnswers.head_word}
-use Rattle.queue_laws.proofs.{Common.Tails.shut_tail, Common.Moments.seen_map, Chain.ChainTransitions.mark_ok, Chain.ChainPasses.passes_marked, Chain.ChainAnswers.tail_items, Chain.ChainAnswers.tail_small, Chain.ChainAnswers.head_items, Chain.ChainAnswers.head_small, Chain.ChainStepOk.NextOk, Chain.ChainStepOk.StepOk, Chain.ChainStepOk.still}
+use Rattle.queue_laws.specs.{Common.Vocabulary.Call, Common.Vocabulary.Reply, Common.Vocabulary.Effect, Common.Vocabulary.Answer, Common.Vocabulary.Look, Common.Moments.SeenIn, Common.Moments.HeadWas, Common.Moments.HasItems, Chain.ChainCells.Chain, Chain.ChainCells.queue_of}
+use Rattle.queue_laws.specs.Chain.{ChainCells.ChainOk, ChainCells.HoldsOnly, ChainCells.Nothing, ChainAt.count_tail, ChainAt.count_head, ChainAt.count_again, ChainAt.empty_tail, ChainAnswers.tail_word, ChainAnswers.tail_place, ChainAnswers.head_word}
+use Rattle.queue_laws.proofs.{Common.Tails.shut_tail, Common.Moments.seen_map, Chain.ChainTransitions.mark_ok, Chain.ChainPasses.passes_marked, Chain.ChainStepOk.NextOk, Chain.ChainStepOk.StepOk, Chain.ChainStepOk.still}
+use Rattle.queue_laws.proofs.Chain.ChainAnswers.{tail_items, tail_small, head_items, head_small}
 use Rattle.queue_laws.specs.Chain.ChainTransitions as moves
 
 pub good_closed_tail : {A : Type 0} (c : Chain A) (who : ℕ) (ms : List (State A)) → ChainOk c → HoldsOnly c who Nothing → StepOk c c who ms chain.ClosedTail None Call.IsClosed [] (Answer.Found (tail_word c))
@@ -38,7 +40,8 @@ good_count_again {A} c who ms g t h ok count none small seen =
     go : (((tail_word c == t) ≡ true) × (tail_word c ≡ t)) ⊎ (((tail_word c == t) ≡ false) × (tail_word c ≢ t)) → NextOk c who (queue_of c ∷ ms) (chain_next (chain.CountAgain g t h) (Answer.Found (tail_word c))) None (call_of_look g) []
     go (inl e) =
         let many = items_before (position_of t) - items_before (position_of h) in
-        rw e.0 (none, tt, (reply_of_look None many (is_shut t) g, reply_filled A None many (is_shut t) g, reply_tells A None many (is_shut t) g, λ z. inr (seen_map ms (λ m p. inl (reply_right m None many (is_shut t) g p.0 (let y = at e.1 in let a = p.1 in let b = p.2 in let d = p.3 in omega arith) (λ e. absurd (count_waits A g count e)))) seen)))
+        let right = seen_map ms (λ m p. inl (reply_right m None many (is_shut t) g p.0 (let y = at e.1 in let a = p.1 in let b = p.2 in let d = p.3 in omega arith) (λ e. absurd (count_waits A g count e)))) seen in
+        rw e.0 (none, tt, (reply_of_look None many (is_shut t) g, reply_filled A None many (is_shut t) g, reply_tells A None many (is_shut t) g, λ z. inr right))
     go (inr e) = rw e.0 (count_tail g count none)
 
 pub good_empty_head : {A : Type 0} (c : Chain A) (who : ℕ) (ms : List (State A)) → ChainOk c → HoldsOnly c who Nothing → StepOk c c who ms chain.EmptyHead None Call.IsEmpty [] (Answer.Found (head_word c))

@@ -1,6 +1,7 @@
 -- What one party's step leaves of a chain for the others: counts that grow, and parts that stay.
 use Rattle.std.proofs.Common.{ℕ, ◌≡◌, ◌≢◌, ◌⊎◌, inl, inr, Some, refl, sym, ap, subst, arith}
-use Rattle.queue_laws.specs.Chain.ChainCells.{Writer, Free, Writing, Reader, Mover, Rests, Laying, Passer, Stands, LinkState, Linked, Shown, Showing, Seen, Walk, Use, Spare, Chain, ChainOk, Part, Write, Read, Tail, Head, Next, First, Passed, reader_of, mover_of, passer_of, linker_of, shower_of, walker_of, owner}
+use Rattle.queue_laws.specs.Chain.ChainCells.{Writer, Free, Writing, Reader, Mover, Rests, Laying, Passer, Stands, LinkState, Linked, Shown, Showing, Seen, Walk, Use, Spare, Chain, ChainOk, Part, Write, Read, Tail, Head, Next, First, Passed, reader_of, mover_of, passer_of, linker_of, shower_of}
+use Rattle.queue_laws.specs.Chain.ChainCells.{walker_of, owner}
 use Rattle.queue_laws.proofs.Chain.ChainTransitions.{next_free, no_front}
 use Rattle.queue_laws.specs.Chain.{ChainTransitions.appended, ChainTransitions.installed, ChainTransitions.displayed, ChainTransitions.marked, ChainPasses.Kept, ChainPasses.Passes}
 use Rattle.queue_laws.proofs.Chain.ChainLeaves.{Leaves, leaves_same, IsFree, free_none, free_own, leaves_own, row_put, EndMoves, end_same, ItemKept, item_same, Once, once_same, Blocks, blocks_same, blocks_more, PushSide, PopSide}

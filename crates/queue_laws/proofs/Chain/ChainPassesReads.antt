@@ -32,7 +32,9 @@ passes_entered c who more is = passes_pop who (record {
 }) refl
 
 -- V10, W1
-pub passes_reads : {A : Type 0} (c : Chain A) (who : ℕ) (n : ℕ) (w : Walk) → c.readers n ≡ Reading who → ((other : ℕ) → other ≢ who → walker_of (c.walks (n / BLOCK_SLOTS)) ≡ Some other → w ≡ c.walks (n / BLOCK_SLOTS)) → ((other : ℕ) → other ≢ who → walker_of w ≡ Some other → walker_of (c.walks (n / BLOCK_SLOTS)) ≡ Some other) → Passes who c (reads c n w)
+pub passes_reads : {A : Type 0} (c : Chain A) (who : ℕ) (n : ℕ) (w : Walk) → c.readers n ≡ Reading who
+    → ((other : ℕ) → other ≢ who → walker_of (c.walks (n / BLOCK_SLOTS)) ≡ Some other → w ≡ c.walks (n / BLOCK_SLOTS))
+    → ((other : ℕ) → other ≢ who → walker_of w ≡ Some other → walker_of (c.walks (n / BLOCK_SLOTS)) ≡ Some other) → Passes who c (reads c n w)
 passes_reads c who n w is free mine = passes_pop who (record {
   head = end_same;
   reads = row_put (Leaves who reader_of) c.readers n Done (λ r. leaves_same) (leaves_own (free_own (ap reader_of is)) (free_none refl));

@@ -1,9 +1,12 @@
 -- The steps of a pop up to the exchange of the head, and over a block's end.
 use Rattle.std.proofs.Common.{ℕ, ◌+◌, ◌/◌, ◌%◌, ◌<◌, ◌≤◌, ◌≡◌, ◌≢◌, ◌==◌, ◌∙◌, ◌⊎◌, inl, inr, Bool, true, false, Some, None, List, [], ◌∷◌, refl, sym, ap, subst, arith}
 use Rattle.std.proofs.lemmas.Bool.{ne_eqb, eq-eqb, Decides.eqb_tells}
-use Rattle.queue_laws.specs.{Common.Vocabulary.Call, Common.Vocabulary.Effect, Common.Vocabulary.Link, Common.Vocabulary.Op, Common.Vocabulary.Touch, Common.Vocabulary.Answer, Common.Vocabulary.BLOCK_SLOTS, Common.Vocabulary.TAIL_STEP, Chain.ChainFacts.head_of, Chain.ChainFacts.HeadIs, Chain.ChainFacts.HeadBlockIs, Chain.ChainFacts.IsMore, Chain.ChainFacts.IsNamed, Chain.ChainFacts.Got, Chain.ChainAnswers.head_word, Chain.ChainAnswers.shown_of, Chain.ChainAnswers.linked_of, Chain.ChainAfter.if_taken, Chain.ChainAfter.taken_if}
+use Rattle.queue_laws.specs.Chain.{ChainFacts.head_of, ChainFacts.HeadIs, ChainFacts.HeadBlockIs, ChainFacts.IsMore, ChainFacts.IsNamed, ChainFacts.Got, ChainAnswers.head_word, ChainAnswers.shown_of, ChainAnswers.linked_of, ChainAfter.if_taken, ChainAfter.taken_if}
+use Rattle.queue_laws.specs.Common.Vocabulary.{Call, Effect, Link, Op, Touch, Answer, BLOCK_SLOTS, TAIL_STEP}
 use Rattle.queue_steps.specs.{State.State, Words.IsWord, ChainWords.offset_of, ChainNext.at, ChainNext.chain_head_found, ChainNext.awaits, ChainNext.follows, declared.steps.chain.ChainLocal.ChainLocal as chain}
-use Rattle.queue_laws.proofs.{Common.Puts.put_same, Chain.ChainReads.front_is, Chain.ChainReads.take_ok, Chain.ChainReads.pass_ok, Chain.ChainReads.enter_ok, Chain.ChainPassesReads.passes_taken, Chain.ChainPassesReads.passes_passed, Chain.ChainPassesReads.passes_entered, Chain.ChainAnswers.head_offset, Chain.ChainAnswers.head_is_standing, Chain.ChainAnswers.standing_word, Chain.ChainAnswers.same_head, Chain.ChainStepOk.NextOk, Chain.ChainStepOk.StepOk, Chain.ChainStepOk.still, Chain.ChainStepOk.silent, Chain.ChainHolds.after_take, Chain.ChainHolds.after_take_last, Chain.ChainHolds.after_pass, Chain.ChainHolds.after_enter}
+use Rattle.queue_laws.proofs.{Common.Puts.put_same, Chain.ChainReads.front_is, Chain.ChainReads.take_ok, Chain.ChainReads.pass_ok, Chain.ChainReads.enter_ok, Chain.ChainPassesReads.passes_taken, Chain.ChainPassesReads.passes_passed, Chain.ChainPassesReads.passes_entered}
+use Rattle.queue_laws.proofs.Chain.{ChainAnswers.head_offset, ChainAnswers.head_is_standing, ChainAnswers.standing_word, ChainAnswers.same_head, ChainStepOk.NextOk, ChainStepOk.StepOk, ChainStepOk.still, ChainStepOk.silent, ChainHolds.after_take, ChainHolds.after_take_last, ChainHolds.after_pass}
+use Rattle.queue_laws.proofs.Chain.ChainHolds.{after_enter}
 use Rattle.queue_laws.specs.Chain.ChainCells.{Stands, Passing, Entering, LinkState, Linked, Shown, Seen, Reading, Chain, queue_of, FrontOk, ShownOk, LinkOk, ChainOk, Read, Head, HoldsOnly, Nothing}
 use Rattle.queue_laws.specs.Chain.ChainTransitions as moves
 use Rattle.queue_laws.specs.Chain.ChainAt.{Either, IsBehind, IsFurther, pop_head, pop_block, pop_tail, taking, following, peeking, entering, awaiting}

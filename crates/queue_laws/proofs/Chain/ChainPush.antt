@@ -2,9 +2,12 @@
 use Rattle.std.proofs.Common.{ℕ, ◌+◌, ◌-◌, ◌/◌, ◌%◌, ◌<◌, ◌≡◌, ◌≢◌, ◌==◌, ◌∙◌, ◌⊎◌, inl, inr, zero, suc, Bool, true, false, Option, Some, None, Err, List, [], ◌∷◌, refl, sym, ap, subst, arith}
 use Rattle.std.proofs.lemmas.Bool.{ne_eqb, eq-eqb, Decides.eqb_tells}
 use Rattle.queue_laws.specs.Common.Vocabulary.{Reply, PushError, ForcePushError, Word, Link, Op, Touch, Answer, Next, PushKind, LIMIT, BLOCK_SLOTS, MARK}
-use Rattle.queue_steps.specs.{State.State, Replies.Tells, Replies.MayAsk, Replies.LacksMemory, Kinds.filled, Words.IsWord, Words.position_of, Words.is_shut, Words.tail_of, ChainWords.offset_of, ChainWords.items_before, RingNext.closed_reply, ChainNext.at, ChainNext.loads, ChainNext.chain_tail_found, ChainNext.tail_block_found, ChainNext.gives_up, ChainNext.granted, declared.steps.chain.ChainLocal.ChainLocal as chain}
-use Rattle.queue_laws.proofs.{Common.Tails.shut_tail, Common.Moments.seen_map, Common.Pushes.closed_push, Chain.ChainTransitions.no_block, Chain.ChainTransitions.rename_ok, Chain.ChainPasses.passes_same, Chain.ChainPassesLaying.passes_renamed, Chain.ChainAnswers.tail_items, Chain.ChainAnswers.tail_small, Chain.ChainAnswers.tail_is_resting, Chain.ChainAnswers.resting_word, Chain.ChainStepOk.NextOk, Chain.ChainStepOk.StepOk, Chain.ChainStepOk.still, Chain.ChainStepOk.silent, Chain.ChainStepOk.spare_gives}
-use Rattle.queue_laws.specs.{Common.Pushes.pushes, Chain.ChainFacts.place, Chain.ChainFacts.open_tail_of, Chain.ChainFacts.TailIs, Chain.ChainFacts.TailBlockIs, Chain.ChainFacts.HasSpare, Chain.ChainFacts.SawTail, Chain.ChainFacts.WasOpenAt, Chain.ChainTransitions.renamed, Chain.ChainAt.IsLast, Chain.ChainAt.Asks, Chain.ChainAt.push_tail, Chain.ChainAt.push_block, Chain.ChainAt.asking, Chain.ChainAt.installing, Chain.ChainAt.claiming, Chain.ChainAt.spending, Chain.ChainAnswers.tail_word, Chain.ChainAnswers.tail_place, Chain.ChainAnswers.last_of}
+use Rattle.queue_steps.specs.{State.State, Replies.Tells, Replies.MayAsk, Replies.LacksMemory, Kinds.filled, Words.IsWord, Words.position_of, Words.is_shut, Words.tail_of, ChainWords.offset_of, ChainWords.items_before, RingNext.closed_reply, declared.steps.chain.ChainLocal.ChainLocal as chain}
+use Rattle.queue_steps.specs.ChainNext.{at, loads, chain_tail_found, tail_block_found, gives_up, granted}
+use Rattle.queue_laws.proofs.{Common.Tails.shut_tail, Common.Moments.seen_map, Common.Pushes.closed_push, Chain.ChainTransitions.no_block, Chain.ChainTransitions.rename_ok, Chain.ChainPasses.passes_same, Chain.ChainPassesLaying.passes_renamed, Chain.ChainAnswers.tail_items}
+use Rattle.queue_laws.proofs.Chain.{ChainAnswers.tail_small, ChainAnswers.tail_is_resting, ChainAnswers.resting_word, ChainStepOk.NextOk, ChainStepOk.StepOk, ChainStepOk.still, ChainStepOk.silent, ChainStepOk.spare_gives}
+use Rattle.queue_laws.specs.{Common.Pushes.pushes, Chain.ChainFacts.place, Chain.ChainFacts.open_tail_of, Chain.ChainFacts.TailIs, Chain.ChainFacts.TailBlockIs, Chain.ChainFacts.HasSpare, Chain.ChainFacts.SawTail, Chain.ChainFacts.WasOpenAt, Chain.ChainTransitions.renamed, Chain.ChainAt.IsLast}
+use Rattle.queue_laws.specs.Chain.{ChainAt.Asks, ChainAt.push_tail, ChainAt.push_block, ChainAt.asking, ChainAt.installing, ChainAt.claiming, ChainAt.spending, ChainAnswers.tail_word, ChainAnswers.tail_place, ChainAnswers.last_of}
 use Rattle.queue_laws.specs.Chain.ChainCells.{Rests, Spare, Unused, Chained, Chain, queue_of, BlocksOk, ChainOk, HoldsOnly, Nothing}
 
 refused_push : {A : Type 0} (d : PushKind) (v : A) → (y : Reply A) × (filled (gives_up d) (Some v) ≡ Some y) × Tells (pushes d v) y [] × ((m : State A) → MayAsk m → LacksMemory m (pushes d v) y)

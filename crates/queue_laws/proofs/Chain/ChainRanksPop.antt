@@ -1,15 +1,18 @@
--- The steps of a pop up to the read of its item have fewer steps before them, one after another, while no other party holds a part of the chain.
+-- The steps of a pop up to the read of its item have fewer steps before them, one after another, while nobody hinders it.
 use Rattle.std.proofs.Common.{ℕ, ◌+◌, ◌/◌, ◌%◌, ◌<◌, ◌≡◌, ◌≢◌, ◌==◌, ◌∙◌, ◌⊎◌, inl, inr, Bool, true, false, if◌then◌else◌, Option, Some, None, refl, sym, ap, subst, arith, bit_and}
 use Rattle.std.proofs.lemmas.Bool.{ne_eqb, eq-eqb, Decides.eqb_tells}
-use Rattle.queue_laws.specs.{Common.Vocabulary.BLOCK_SLOTS, Common.Vocabulary.TAIL_STEP, Common.Vocabulary.WRITE, Chain.ChainFacts.place, Chain.ChainFacts.head_of, Chain.ChainFacts.HeadIs, Chain.ChainFacts.IsMore, Chain.ChainAnswers.tail_word, Chain.ChainAnswers.head_word, Chain.ChainAnswers.shown_of, Chain.ChainAnswers.linked_of, Chain.ChainAnswers.is_wrote, Chain.ChainAfter.taken_if}
-use Rattle.queue_steps.specs.{Words.position_of, ChainWords.block_at, ChainWords.offset_at, ChainWords.offset_of, ChainNext.chain_head_found, ChainNext.head_block_found, ChainNext.chain_pop_tail_found, ChainNext.takes, ChainNext.followed, ChainNext.written_found, ChainNext.is_last_slot}
+use Rattle.queue_laws.specs.{Common.Vocabulary.Local, Common.Vocabulary.BLOCK_SLOTS, Common.Vocabulary.TAIL_STEP, Common.Vocabulary.WRITE, Chain.ChainAt.Only, Chain.ChainFacts.place, Chain.ChainFacts.head_of, Chain.ChainFacts.HeadIs, Chain.ChainFacts.IsMore, Chain.ChainAfter.taken_if}
+use Rattle.queue_laws.specs.Chain.ChainAnswers.{tail_word, head_word, shown_of, linked_of, is_wrote}
+use Rattle.queue_steps.specs.{Words.position_of, ChainWords.block_at, ChainWords.offset_at, ChainWords.offset_of, declared.steps.chain.ChainLocal.ChainLocal as chain}
+use Rattle.queue_steps.specs.ChainNext.{chain_head_found, head_block_found, chain_pop_tail_found, takes, followed, written_found, is_last_slot}
 use Rattle.queue_steps.specs.ChainNext as steps
-use Rattle.queue_laws.proofs.{Common.Tails.position_tail, Chain.ChainPlaces.place_offset, Chain.ChainTransitions.no_block, Chain.ChainAnswers.resting_word, Chain.ChainAnswers.standing_word, Chain.ChainPop.head_low, Chain.ChainRanks.lag, Chain.ChainRanks.is_seen, Chain.ChainRanks.tail_rank, Chain.ChainRanks.Falls, Chain.ChainRanks.lag_none, Chain.ChainRanks.IsQuiet, Chain.ChainRanks.unowned, Chain.ChainRanks.stands_if}
-use Rattle.queue_laws.specs.Chain.ChainCells.{Writer, Free, Writing, Wrote, Reading, Rests, Stands, Passing, LinkState, Unlinked, Linking, Linked, Shown, Hidden, Showing, Seen, Chain, ItemOk, BlocksOk, LinkOk, FrontOk, ShownOk, ChainOk, Part, Head, linker_of, shower_of, writer_of, HoldsOnly}
+use Rattle.queue_laws.proofs.{Common.Tails.position_tail, Chain.ChainPlaces.place_offset, Chain.ChainAnswers.standing_word, Chain.ChainRanksPush.first_place, Chain.ChainRanksPush.nothing_yet}
+use Rattle.queue_laws.proofs.Chain.ChainRanks.{lag, lag_none, is_seen, rank, Falls, IsBare, unheld, stands_if}
+use Rattle.queue_laws.specs.Chain.ChainCells.{Writer, Free, Writing, Wrote, Reading, Rests, Stands, Passing, LinkState, Unlinked, Linking, Linked, Shown, Hidden, Showing, Seen, Chain, ItemOk, BlocksOk, LinkOk, FrontOk, ShownOk, ChainOk, Part, Head, First, linker_of, shower_of, writer_of, HoldsOnly}
 
 -- nobody moves the head
-pub stands : {A : Type 0} (c : Chain A) (who : ℕ) (P : Part → Type 0) → IsQuiet c who → HoldsOnly c who P → (P Head → ⊥) → c.passer ≡ Stands
-stands c who P quiet holds none = stands_if c.passer (λ p e. unowned c who P Head quiet holds none p e)
+pub stands : {A : Type 0} (c : Chain A) (who : ℕ) (P : Part → Type 0) → IsBare c who → HoldsOnly c who P → (P Head → ⊥) → c.passer ≡ Stands
+stands c who P bare holds none = stands_if c.passer (unheld c who P (Only First) Head bare holds none (λ z. absurd (cc)))
 
 -- a head that stands has a slot
 standing_slot : {A : Type 0} (c : Chain A) → c.passer ≡ Stands → offset_of (head_word c) ≢ BLOCK_SLOTS
@@ -19,56 +22,65 @@ standing_slot c stood e =
     absurd (omega (arith, z))
 
 -- V1: the head is read, or found in place of the one that was read
-pub head_falls : {A : Type 0} (c : Chain A) → c.passer ≡ Stands → Falls c (chain_head_found (head_word c)) (BLOCK_SLOTS + 9)
-head_falls c stood = rw (ne_eqb (offset_of (head_word c)) BLOCK_SLOTS (standing_slot c stood)) (lag_none (head_word c) (BLOCK_SLOTS + 8) 3 (BLOCK_SLOTS + 9) (omega arith))
+pub head_falls : {A : Type 0} (c : Chain A) → c.passer ≡ Stands → Falls c (chain_head_found (head_word c)) (BLOCK_SLOTS + 8)
+head_falls c stood = rw (ne_eqb (offset_of (head_word c)) BLOCK_SLOTS (standing_slot c stood)) (lag_none (head_word c) (BLOCK_SLOTS + 7) 3 (BLOCK_SLOTS + 8) (omega arith))
 
--- V2: the poppers' block is read
-pub pop_block_falls : {A : Type 0} (c : Chain A) (n : ℕ) (more : Bool) → IsMore c n more → Falls c (head_block_found (head_of n more) (shown_of c.shown (c.names c.front))) (BLOCK_SLOTS + 8 + lag (head_word c) (head_of n more) 3)
-pop_block_falls {A} c n true room =
-    subst (λ s. Falls c (head_block_found (head_of n true) (shown_of s (c.names c.front))) (BLOCK_SLOTS + 8 + lag (head_word c) (head_of n true) 3)) (sym (room refl).0)
+-- V2: the poppers' block is read. Where none is shown, nothing was accepted yet
+pub pop_block_falls : {A : Type 0} (c : Chain A) (n : ℕ) (more : Bool) → IsMore c n more → (is_seen c.shown ≡ false → position_of (tail_word c) ≡ 0)
+    → Falls c (head_block_found (head_of n more) (shown_of c.shown (c.names c.front))) (BLOCK_SLOTS + 7 + lag (head_word c) (head_of n more) 3)
+pop_block_falls {A} c n true room first =
+    subst (λ s. Falls c (head_block_found (head_of n true) (shown_of s (c.names c.front))) (BLOCK_SLOTS + 7 + lag (head_word c) (head_of n true) 3)) (sym (room refl).0)
     (rw (eq-eqb (head_of n true % 2) 1 (omega arith)) (omega arith))
-pop_block_falls {A} c n false room = go c.shown refl
+pop_block_falls {A} c n false room first = go c.shown refl
   where
-    go : (s : Shown) → c.shown ≡ s → Falls c (head_block_found (head_of n false) (shown_of s (c.names c.front))) (BLOCK_SLOTS + 8 + lag (head_word c) (head_of n false) 3)
+    go : (s : Shown) → c.shown ≡ s → Falls c (head_block_found (head_of n false) (shown_of s (c.names c.front))) (BLOCK_SLOTS + 7 + lag (head_word c) (head_of n false) 3)
     go Seen e = rw (ne_eqb (head_of n false % 2) 1 (λ z. absurd (omega arith))) (omega arith)
-    go s e = rw (ne_eqb (head_of n false % 2) 1 (λ z. absurd (omega arith)), ap is_seen e) (omega arith)
+    go s e = rw (ne_eqb (head_of n false % 2) 1 (λ z. absurd (omega arith)), eq-eqb (position_of (tail_word c)) 0 (first (ap is_seen e))) (omega arith)
 
--- where nobody is to show the first block and the words differ, it is shown
-shown_then : {A : Type 0} (c : Chain A) (n : ℕ) → ChainOk c → ((p : ℕ) → shower_of c.shown ≢ Some p) → HeadIs c n → position_of (tail_word c) ≢ position_of (head_of n false) → is_seen c.shown ≡ true
-shown_then {A} c n ok free is ne = go c.shown refl ok.seen
+-- where nobody is to show the first block and it is not shown, nothing was accepted yet
+pub unshown_place : {A : Type 0} (c : Chain A) → ChainOk c → ((p : ℕ) → shower_of c.shown ≢ Some p) → is_seen c.shown ≡ false → position_of (tail_word c) ≡ 0
+unshown_place {A} c ok free unseen = go c.shown refl ok.seen
   where
-    go : (s : Shown) → c.shown ≡ s → ShownOk c.blocks c.head c.front c.known c.passer s → is_seen c.shown ≡ true
-    go Seen e h = ap is_seen e
+    go : (s : Shown) → c.shown ≡ s → ShownOk c.blocks c.head c.front c.known c.passer s → position_of (tail_word c) ≡ 0
+    go Seen e h = let z : true ≡ false = sym (ap is_seen e) ∙ unseen in cc
     go (Showing p) e h = absurd (free p (ap shower_of e))
-    go Hidden e h =
-        let empty = no_block c ok h.0 in
-        let low = head_low c n ok is in
-        let here : c.tail ≡ n = (let a = empty.1 in let b = h.1 in omega arith) in
-        absurd (ne (ap position_of (resting_word c empty.0) ∙ (position_tail (place c.tail) c.closed ∙ (ap place here ∙ sym (position_tail (place n) false)))))
+    go Hidden e h = first_place c ok h.0
+
+-- where nothing was accepted yet, the words' positions are one
+same_place : {A : Type 0} (c : Chain A) (n : ℕ) → ChainOk c → HeadIs c n → position_of (tail_word c) ≡ 0 → position_of (tail_word c) ≡ position_of (head_of n false)
+same_place {A} c n ok is first = first ∙ sym (position_tail (place n) false ∙ ap place at)
+  where
+    empty : c.head ≡ 0
+    empty = let none = nothing_yet c ok first in let count = ok.count in omega arith
+
+    at : n ≡ 0
+    at = elim is [ inl lt ↦ absurd (let z = empty in omega (arith, lt, z)) | inr h ↦ sym h.0 ∙ empty ]
 
 -- V3: the tail is read after that head
-pub pop_tail_falls : {A : Type 0} (c : Chain A) (n : ℕ) (block : Option ℕ) → ChainOk c → ((p : ℕ) → shower_of c.shown ≢ Some p) → HeadIs c n
-    → Falls c (chain_pop_tail_found (head_of n false) block (tail_word c)) (tail_rank c (head_of n false) block)
-pop_tail_falls {A} c n block ok free is = go block (eqb_tells (position_of (tail_word c)) (position_of (head_of n false)))
+pub pop_tail_falls : {A : Type 0} (c : Chain A) (n : ℕ) (block : Option ℕ) → ChainOk c → HeadIs c n
+    → Falls c (chain_pop_tail_found (head_of n false) block (tail_word c)) (rank c (Local.Chain (chain.PopTail (head_of n false) block)))
+pop_tail_falls {A} c n block ok is = go block (eqb_tells (position_of (tail_word c)) (position_of (head_of n false)))
   where
-    go : (block : Option ℕ) → (((position_of (tail_word c) == position_of (head_of n false)) ≡ true) × (position_of (tail_word c) ≡ position_of (head_of n false))) ⊎ (((position_of (tail_word c) == position_of (head_of n false)) ≡ false) × (position_of (tail_word c) ≢ position_of (head_of n false)))
-        → Falls c (chain_pop_tail_found (head_of n false) block (tail_word c)) (tail_rank c (head_of n false) block)
+    go : (block : Option ℕ)
+        → (((position_of (tail_word c) == position_of (head_of n false)) ≡ true) × (position_of (tail_word c) ≡ position_of (head_of n false)))
+        ⊎ (((position_of (tail_word c) == position_of (head_of n false)) ≡ false) × (position_of (tail_word c) ≢ position_of (head_of n false)))
+        → Falls c (chain_pop_tail_found (head_of n false) block (tail_word c)) (rank c (Local.Chain (chain.PopTail (head_of n false) block)))
     go b (inl e) = rw e.0 tt
-    go None (inr e) = rw (e.0, shown_then c n ok free is e.1) (omega arith)
+    go None (inr e) = rw (e.0, ne_eqb (position_of (tail_word c)) 0 (λ z. e.1 (same_place c n ok is z))) (omega arith)
     go (Some name) (inr e) =
         rw e.0 (elim (block_at (position_of (tail_word c)) == block_at (position_of (head_of n false)))
-        as (λ b. Falls c (if b then takes (head_of n false) name (head_of n false + TAIL_STEP) else takes (head_of n false) name (head_of n false + TAIL_STEP + 1)) (BLOCK_SLOTS + 7 + lag (head_word c) (head_of n false) 3))
+        as (λ b. Falls c (if b then takes (head_of n false) name (head_of n false + TAIL_STEP) else takes (head_of n false) name (head_of n false + TAIL_STEP + 1)) (BLOCK_SLOTS + 6 + lag (head_word c) (head_of n false) 3))
         [ true ↦ omega arith | false ↦ omega arith ])
 
 -- V4: the head is exchanged, and was as it was read
-got_falls : {A : Type 0} (s : Chain A) (head name : ℕ) → Falls s (steps.taken head name) (BLOCK_SLOTS + 6)
-got_falls s head name = elim (is_last_slot head) as (λ b. Falls s (if b then steps.follows head name else steps.awaits head name) (BLOCK_SLOTS + 6)) [ true ↦ omega arith | false ↦ omega arith ]
+got_falls : {A : Type 0} (s : Chain A) (head name : ℕ) → Falls s (steps.taken head name) (BLOCK_SLOTS + 5)
+got_falls s head name = elim (is_last_slot head) as (λ b. Falls s (if b then steps.follows head name else steps.awaits head name) (BLOCK_SLOTS + 5)) [ true ↦ omega arith | false ↦ omega arith ]
 
 -- V4: the head is exchanged, by which the front is taken
 pub taking_falls : {A : Type 0} (c : Chain A) (who head name : ℕ) (new : Bool) → c.passer ≡ Stands
-    → Falls (taken_if c who new (head_word c == head) (is_last_slot head)) (if head_word c == head then steps.taken head name else chain_head_found (head_word c)) (BLOCK_SLOTS + 6 + lag (head_word c) head 3)
+    → Falls (taken_if c who new (head_word c == head) (is_last_slot head)) (if head_word c == head then steps.taken head name else chain_head_found (head_word c)) (BLOCK_SLOTS + 5 + lag (head_word c) head 3)
 taking_falls c who head name new stood =
-    elim (head_word c == head) as (λ b. Falls (taken_if c who new b (is_last_slot head)) (if b then steps.taken head name else chain_head_found (head_word c)) (BLOCK_SLOTS + 6 + (if b then 0 else 3))) [
+    elim (head_word c == head) as (λ b. Falls (taken_if c who new b (is_last_slot head)) (if b then steps.taken head name else chain_head_found (head_word c)) (BLOCK_SLOTS + 5 + (if b then 0 else 3))) [
       | true ↦ got_falls (taken_if c who new true (is_last_slot head)) head name
       | false ↦ head_falls c stood
     ]
@@ -91,9 +103,9 @@ linked_then {A} c who n ok rest free pass = go (c.links (n / BLOCK_SLOTS)) refl 
 
 -- V5: the link to the next block is read, which may be unset yet
 pub following_falls : {A : Type 0} (c : Chain A) (who n head name : ℕ) → ChainOk c → c.mover ≡ Rests → ((p : ℕ) → linker_of (c.links (n / BLOCK_SLOTS)) ≢ Some p) → (c.passer ≡ Passing who) × (c.head ≡ n + 1)
-    → Falls c (followed head name (linked_of (c.links (n / BLOCK_SLOTS)) (c.names (n / BLOCK_SLOTS + 1)))) (BLOCK_SLOTS + 5)
+    → Falls c (followed head name (linked_of (c.links (n / BLOCK_SLOTS)) (c.names (n / BLOCK_SLOTS + 1)))) (BLOCK_SLOTS + 4)
 following_falls c who n head name ok rest free pass =
-    subst (λ l. Falls c (followed head name (linked_of l (c.names (n / BLOCK_SLOTS + 1)))) (BLOCK_SLOTS + 5)) (sym (linked_then c who n ok rest free pass)) (omega arith)
+    subst (λ l. Falls c (followed head name (linked_of l (c.names (n / BLOCK_SLOTS + 1)))) (BLOCK_SLOTS + 4)) (sym (linked_then c who n ok rest free pass)) (omega arith)
 
 -- where nobody is to write the item that a pop claimed, it is written
 pub wrote_then : {A : Type 0} (c : Chain A) (who n : ℕ) → ChainOk c → ((p : ℕ) → writer_of (c.writers n) ≢ Some p) → c.readers n ≡ Reading who → is_wrote (c.writers n) ≡ true
@@ -105,9 +117,9 @@ wrote_then {A} c who n ok free reading = go (c.writers n) refl (subst (λ r. Ite
     go Free e h = absurd h
 
 -- V9: the slot's state is read, until its item is written
-pub awaiting_falls : {A : Type 0} (c : Chain A) (head name st : ℕ) → (bit_and st WRITE == 0) ≡ false → Falls c (written_found head name st) (BLOCK_SLOTS + 1)
+pub awaiting_falls : {A : Type 0} (c : Chain A) (head name st : ℕ) → (bit_and st WRITE == 0) ≡ false → Falls c (written_found head name st) BLOCK_SLOTS
 awaiting_falls {A} c head name st written = (last (eqb_tells (offset_of head + 1) BLOCK_SLOTS))
   where
-    last : (((offset_of head + 1 == BLOCK_SLOTS) ≡ true) × (offset_of head + 1 ≡ BLOCK_SLOTS)) ⊎ (((offset_of head + 1 == BLOCK_SLOTS) ≡ false) × (offset_of head + 1 ≢ BLOCK_SLOTS)) → Falls c (written_found head name st) (BLOCK_SLOTS + 1)
+    last : (((offset_of head + 1 == BLOCK_SLOTS) ≡ true) × (offset_of head + 1 ≡ BLOCK_SLOTS)) ⊎ (((offset_of head + 1 == BLOCK_SLOTS) ≡ false) × (offset_of head + 1 ≢ BLOCK_SLOTS)) → Falls c (written_found head name st) BLOCK_SLOTS
     last (inl e) = rw (written, e.0) (omega arith)
     last (inr e) = rw (written, e.0) (omega arith)

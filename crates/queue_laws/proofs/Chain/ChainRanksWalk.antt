@@ -1,4 +1,4 @@
--- The steps of the walk over a passed block, and of the calls that look, have fewer steps before them while no other party holds a part of the chain.
+-- The steps of the walk over a passed block, and of the calls that look, have fewer steps before them while nobody hinders them.
 use Rattle.std.proofs.Common.{ℕ, ◌+◌, ◌-◌, ◌<◌, ◌≤◌, ◌≡◌, ◌≢◌, ◌==◌, ◌∙◌, Bool, true, false, if◌then◌else◌, nat_lt, Some, None, Ok, List, refl, sym, ap, subst, arith, bit_and}
 use Rattle.std.proofs.lemmas.Bool.{cond_both, ltb-true}
 use Rattle.queue_laws.specs.{Common.Vocabulary.Look, Common.Vocabulary.Reply, Common.Vocabulary.Word, Common.Vocabulary.Touch, Common.Vocabulary.Answer, Common.Vocabulary.Next, Common.Vocabulary.BLOCK_SLOTS, Common.Vocabulary.READ, Chain.ChainAnswers.tail_word, Chain.ChainAnswers.is_done}

@@ -1,8 +1,10 @@
 -- The steps of a pop that waits for its item and reads it.
-use Rattle.queue_laws.specs.{Common.Vocabulary.Call, Common.Vocabulary.Reply, Common.Vocabulary.Effect, Common.Vocabulary.Answer, Common.Vocabulary.BLOCK_SLOTS, Chain.ChainTransitions.walk_after, Chain.ChainAnswers.IsState, Chain.ChainAnswers.is_wrote, Chain.ChainAnswers.waits_at, Chain.ChainAfter.if_read, Common.Puts.put, Chain.ChainFacts.head_of, Chain.ChainFacts.Got, Chain.ChainAt.Only, Chain.ChainAt.IsLast, Chain.ChainAt.awaiting, Chain.ChainAt.reading, Chain.ChainAt.beginning}
+use Rattle.queue_laws.specs.{Common.Vocabulary.Call, Common.Vocabulary.Reply, Common.Vocabulary.Effect, Common.Vocabulary.Answer, Common.Vocabulary.BLOCK_SLOTS, Chain.ChainTransitions.walk_after, Chain.ChainAnswers.IsState, Chain.ChainAnswers.is_wrote, Chain.ChainAnswers.waits_at}
+use Rattle.queue_laws.specs.{Chain.ChainAfter.if_read, Common.Puts.put, Chain.ChainFacts.head_of, Chain.ChainFacts.Got, Chain.ChainAt.Only, Chain.ChainAt.IsLast, Chain.ChainAt.awaiting, Chain.ChainAt.reading, Chain.ChainAt.beginning}
 use Rattle.std.proofs.lemmas.Bool.Decides.{eqb_tells}
 use Rattle.queue_steps.specs.{State.State, declared.steps.chain.ChainLocal.ChainLocal as chain, ChainNext.written_found, ChainWords.offset_of}
-use Rattle.queue_laws.proofs.{Chain.ChainStepOk.NextOk, Chain.ChainStepOk.StepOk, Chain.ChainStepOk.still, Chain.ChainStepOk.silent, Chain.ChainReads.read_ok, Chain.ChainReads.walk_read, Chain.ChainReads.own_item, Chain.ChainReads.walk_after_ok, Chain.ChainReads.walked_same, Chain.ChainPassesReads.passes_reads, Chain.ChainHolds.after_read, Chain.ChainHolds.after_read_on, Common.Puts.put_ok, Common.Puts.put_same, Chain.ChainAnswers.head_offset, Chain.ChainWalk.after_mine, Chain.ChainWalk.on_goes}
+use Rattle.queue_laws.proofs.Chain.{ChainStepOk.NextOk, ChainStepOk.StepOk, ChainStepOk.still, ChainStepOk.silent, ChainReads.read_ok, ChainReads.walk_read, ChainReads.own_item, ChainReads.walk_after_ok, ChainReads.walked_same, ChainPassesReads.passes_reads, ChainHolds.after_read}
+use Rattle.queue_laws.proofs.{Chain.ChainHolds.after_read_on, Common.Puts.put_ok, Common.Puts.put_same, Chain.ChainAnswers.head_offset, Chain.ChainWalk.after_mine, Chain.ChainWalk.on_goes}
 use Rattle.std.proofs.Common.{ℕ, ◌+◌, ◌/◌, ◌%◌, ◌<◌, ◌≡◌, ◌≢◌, ◌==◌, not, ◌∙◌, ◌⊎◌, inl, inr, Bool, true, false, if◌then◌else◌, Some, None, Ok, List, [], ◌∷◌, refl, sym, ap, subst, arith, bit_and}
 use Rattle.queue_laws.specs.Chain.ChainCells.{Writer, Wrote, Reading, Done, Walk, Waits, Chain, queue_of, value, WalkOk, item_at, LAST, ChainOk, Read, Passed, walker_of, HoldsOnly}
 use Rattle.queue_laws.specs.Chain.ChainTransitions as moves

@@ -4,7 +4,8 @@ use Rattle.std.proofs.lemmas.Bool.Decides.{eqb_tells}
 use Rattle.queue_laws.specs.{Common.Vocabulary.Effect, Common.Vocabulary.BLOCK_SLOTS, Common.Puts.put, Chain.ChainTransitions.taken, Chain.ChainTransitions.passed, Chain.ChainTransitions.entered, Chain.ChainTransitions.reads, Chain.ChainTransitions.walk_after, Chain.ChainTransitions.walked}
 use Rattle.queue_steps.specs.Effect.{Fits, rest}
 use Rattle.queue_laws.proofs.{Common.Puts.put_ok, Common.Lists.behind, Common.Lists.first, Common.Lists.length-rest, Chain.ChainTransitions.items_ok}
-use Rattle.queue_laws.specs.Chain.ChainCells.{Writer, Free, Writing, Wrote, Reader, Unread, Reading, Done, Passer, Stands, Passing, Entering, Opening, Linking, Linked, Shown, Seen, Walk, Before, Walker, Waits, GivenUp, Chain, queue_of, value, ItemOk, LinkOk, FrontOk, ShownOk, WalkOk, IsWalked, item_at, LAST, ChainOk}
+use Rattle.queue_laws.specs.Chain.ChainCells.{Writer, Free, Writing, Wrote, Reader, Unread, Reading, Done, Passer, Stands, Passing, Entering, Opening, Linking, Linked, Shown, Seen, Walk, Before, Walker, Waits, GivenUp, Chain, queue_of, value, ItemOk, LinkOk, FrontOk, ShownOk, WalkOk, IsWalked}
+use Rattle.queue_laws.specs.Chain.ChainCells.{item_at, LAST, ChainOk}
 
 -- an item that is in the list: nobody reads it, and it is the one at its place
 pub in_list : {A : Type 0} (head tail : ℕ) (items : List A) (n : ℕ) (w : Writer A) (r : Reader) → head ≤ n → n < tail → ItemOk head tail items n w r

@@ -1,7 +1,9 @@
 -- A step of a call on a chain with all that follows it: the block that is given up with a reply, and the spare that is left.
 use Rattle.std.proofs.Common.{ℕ, ◌≡◌, Option, Some, None, List, [], ◌∷◌}
 use Rattle.queue_steps.specs.{State.State, Kinds.filled, Replies.Tells, Replies.Allows, ChainNext.FitsChain, ChainNext.chain_next}
-use Rattle.queue_laws.specs.{Common.Vocabulary.Call, Common.Vocabulary.Reply, Common.Vocabulary.Effect, Common.Vocabulary.Answer, Common.Vocabulary.Next, Common.Vocabulary.ChainLocal, Common.Moments.SeenIn, Common.Effects.Leads, Common.Effects.with_effect, Common.Stand.Stand, Common.Stand.stand, Chain.ChainCells.Chain, Chain.ChainCells.queue_of, Chain.ChainCells.ChainOk, Chain.ChainCells.HoldsOnly, Chain.ChainCells.Nothing, Chain.ChainPasses.Passes, Chain.ChainPasses.spare_in, Chain.ChainPasses.Spares, Chain.ChainAt.At, Chain.ChainAnswers.Answers, Chain.ChainAfter.chain_of, Chain.ChainAfter.carried_of, Chain.ChainAfter.after_of, Chain.ChainAfter.left_by}
+use Rattle.queue_laws.specs.{Common.Moments.SeenIn, Common.Effects.Leads, Common.Effects.with_effect, Common.Stand.Stand, Common.Stand.stand, Chain.ChainCells.Chain, Chain.ChainCells.queue_of, Chain.ChainCells.ChainOk, Chain.ChainCells.HoldsOnly, Chain.ChainCells.Nothing, Chain.ChainPasses.Passes}
+use Rattle.queue_laws.specs.Chain.{ChainPasses.spare_in, ChainPasses.Spares, ChainAt.At, ChainAnswers.Answers, ChainAfter.chain_of, ChainAfter.carried_of, ChainAfter.after_of, ChainAfter.left_by}
+use Rattle.queue_laws.specs.Common.Vocabulary.{Call, Reply, Effect, Answer, Next, ChainLocal}
 use Rattle.queue_laws.proofs.Chain.{ChainStepOk.GivesUp, ChainStepOk.NextOk, ChainStepOk.IsEffect, ChainStep.step_good, ChainGiven.given_ok, ChainGiven.passes_given, ChainGiven.makes_given, ChainGiven.holds_given, ChainSpares.SparesAfter, ChainSpares.step_spares}
 
 -- what is given up with a reply is the call's to give

@@ -2,7 +2,8 @@
 use Rattle.std.proofs.Common.{ℕ, ◌+◌, ◌-◌, ◌/◌, ◌<◌, ◌≤◌, ◌≡◌, ◌≢◌, not, ◌∙◌, inl, inr, Bool, true, false, List, length, refl, ap, arith}
 use Rattle.queue_laws.specs.{Common.Vocabulary.BLOCK_SLOTS, Common.Puts.put, Chain.ChainAnswers.tail_word, Chain.ChainAnswers.head_word}
 use Rattle.queue_steps.specs.{Sequential.blocks_of, Words.position_of, ChainWords.items_before}
-use Rattle.queue_laws.proofs.{Common.Puts.put_ok, Chain.ChainAnswers.tail_items, Chain.ChainAnswers.head_items, Chain.ChainHands.HandOf, Chain.ChainHands.hand_is, Chain.ChainCount.is_given_up, Chain.ChainCount.is_alive, Chain.ChainCount.alive, Chain.Count.count, Chain.Count.count_all, Chain.Count.count_into}
+use Rattle.queue_laws.proofs.{Common.Puts.put_ok, Chain.ChainAnswers.tail_items, Chain.ChainAnswers.head_items, Chain.ChainHands.HandOf, Chain.ChainHands.hand_is, Chain.ChainCount.is_given_up, Chain.ChainCount.is_alive, Chain.ChainCount.alive, Chain.Count.count, Chain.Count.count_all}
+use Rattle.queue_laws.proofs.Chain.Count.{count_into}
 use Rattle.queue_laws.specs.Chain.ChainCells.{Writer, Wrote, Reader, Unread, Reading, Done, Mover, Rests, Laying, Opening, Walk, GivenUp, Use, Spare, Chained, Chain, queue_of, ItemOk, BlocksOk, WalkOk, item_at, LAST, ChainOk}
 
 -- the place of a block among the chain's: a spare is the next one

@@ -1,7 +1,11 @@
 -- A party never has a spare but that in its call's hands.
 use Rattle.std.proofs.Common.{ℕ, ◌+◌, ◌/◌, ◌≡◌, ◌==◌, ◌∙◌, inl, inr, zero, suc, Bool, true, false, if◌then◌else◌, Option, Some, None, List, ◌∷◌, refl, sym, subst}
-use Rattle.queue_laws.specs.{Common.Vocabulary.Call, Common.Vocabulary.Effect, Common.Vocabulary.Answer, Common.Vocabulary.Next, Common.Vocabulary.PushKind, Common.Vocabulary.BLOCK_SLOTS, Common.Vocabulary.Look, Common.Effects.with_effect, Common.Pushes.pushes, Common.Stand.Stand, Chain.ChainCells.Spare, Chain.ChainCells.Chained, Chain.ChainCells.Chain, Chain.ChainCells.queue_of, Chain.ChainCells.item_at, Chain.ChainCells.ChainOk, Chain.ChainTransitions.laid_out, Chain.ChainTransitions.written, Chain.ChainTransitions.marked, Chain.ChainTransitions.renamed, Chain.ChainTransitions.walk_after, Chain.ChainTransitions.walked, Chain.ChainTransitions.given_up, Chain.ChainFacts.head_of, Chain.ChainFacts.open_tail_of, Chain.ChainFacts.HasSpare, Chain.ChainAnswers.Answers, Chain.ChainAnswers.tail_word, Chain.ChainAnswers.head_word, Chain.ChainAnswers.last_of, Chain.ChainAnswers.is_done, Chain.ChainAfter.if_installed, Chain.ChainAfter.claimed_if, Chain.ChainAfter.if_claimed, Chain.ChainAfter.taken_if, Chain.ChainAfter.chain_of, Chain.ChainAfter.carried_of, Chain.ChainAfter.if_granted, Chain.ChainAfter.after_of, Chain.ChainPasses.spare_in, Chain.ChainPasses.Spares}
-use Rattle.queue_steps.specs.{State.State, Looks.call_of_look, ChainWords.offset_of, ChainNext.chain_next, ChainNext.chain_tail_found, ChainNext.tail_block_found, ChainNext.asks, ChainNext.claims, ChainNext.granted, ChainNext.lays, ChainNext.writes, declared.steps.chain.ChainLocal.ChainLocal as chain}
+use Rattle.queue_laws.specs.Common.{Vocabulary.Call, Vocabulary.Effect, Vocabulary.Answer, Vocabulary.Next, Vocabulary.PushKind, Vocabulary.BLOCK_SLOTS, Vocabulary.Look, Effects.with_effect, Pushes.pushes, Stand.Stand}
+use Rattle.queue_laws.specs.Chain.{ChainCells.Spare, ChainCells.Chained, ChainCells.Chain, ChainCells.queue_of, ChainCells.item_at, ChainCells.ChainOk, ChainTransitions.laid_out, ChainTransitions.written, ChainTransitions.marked, ChainTransitions.renamed, ChainTransitions.walk_after}
+use Rattle.queue_laws.specs.Chain.{ChainTransitions.walked, ChainTransitions.given_up, ChainFacts.head_of, ChainFacts.open_tail_of, ChainFacts.HasSpare, ChainAnswers.Answers, ChainAnswers.tail_word, ChainAnswers.head_word, ChainAnswers.last_of, ChainAnswers.is_done, ChainAfter.if_installed}
+use Rattle.queue_laws.specs.Chain.{ChainAfter.claimed_if, ChainAfter.if_claimed, ChainAfter.taken_if, ChainAfter.chain_of, ChainAfter.carried_of, ChainAfter.if_granted, ChainAfter.after_of, ChainPasses.spare_in, ChainPasses.Spares}
+use Rattle.queue_steps.specs.{State.State, Looks.call_of_look, ChainWords.offset_of, declared.steps.chain.ChainLocal.ChainLocal as chain}
+use Rattle.queue_steps.specs.ChainNext.{chain_next, chain_tail_found, tail_block_found, asks, claims, granted, lays, writes}
 use Rattle.queue_laws.proofs.{Common.Puts.put_ok, Chain.ChainPush.tail_ways, Chain.ChainPush.none_spare, Chain.ChainStepOk.NextOk, Chain.ChainGiven.spares_given, Chain.ChainGiven.none_given, Chain.ChainStep.step_good}
 use Rattle.queue_laws.specs.Chain.ChainAt.{At, push_tail, push_block, asking, installing, showing, claiming, laying, opening, chaining, writing, spending, taking, walking, count_tail, count_head, count_again}
 

@@ -1,7 +1,8 @@
 -- Where a call on a chain begins.
 use Rattle.std.proofs.Common.{ℕ, ◌≡◌, true, false, None, Some, List, [], refl}
 use Rattle.queue_steps.specs.{State.State, Kinds.call_kind, Kinds.call_value, Kinds.filled, Looks.has_steps, Replies.IsRightAt, Replies.Tells, ChainNext.chain_begin}
-use Rattle.queue_laws.specs.{Common.Vocabulary.Call, Common.Vocabulary.Reply, Common.Vocabulary.Next, Common.Vocabulary.Op, Common.Vocabulary.Touch, Common.Vocabulary.Word, Common.Vocabulary.PushKind, Common.Stand.stand, Chain.ChainCells.Chain, Chain.ChainCells.HoldsOnly, Chain.ChainCells.Nothing, Chain.ChainPasses.spare_in, Chain.ChainAt.At, Chain.ChainAt.push_tail, Chain.ChainAt.pop_head, Chain.ChainAt.count_tail, Chain.ChainAt.empty_head, Chain.ChainAt.closing, Chain.ChainAt.closed_tail}
+use Rattle.queue_laws.specs.{Common.Vocabulary.Call, Common.Vocabulary.Reply, Common.Vocabulary.Next, Common.Vocabulary.Op, Common.Vocabulary.Touch, Common.Vocabulary.Word, Common.Vocabulary.PushKind, Common.Stand.stand, Chain.ChainCells.Chain, Chain.ChainCells.HoldsOnly, Chain.ChainCells.Nothing}
+use Rattle.queue_laws.specs.Chain.{ChainPasses.spare_in, ChainAt.At, ChainAt.push_tail, ChainAt.pop_head, ChainAt.count_tail, ChainAt.empty_head, ChainAt.closing, ChainAt.closed_tail}
 
 -- the operation is on one of the two positions
 abbrev pub OnPosition : Op ℕ → Type 0

@@ -1,9 +1,14 @@
 -- Each step of a call on a chain, wherever the call stands, is right.
 use Rattle.std.proofs.Common.{ℕ, ◌+◌, ◌/◌, ◌≡◌, inl, inr, List, refl, subst, arith}
-use Rattle.queue_laws.specs.{Common.Vocabulary.Answer, Common.Vocabulary.Local, Common.Vocabulary.BLOCK_SLOTS, Common.Stand.Stand, Chain.ChainCells.Chain, Chain.ChainCells.ChainOk, Chain.ChainFacts.head_of, Chain.ChainAnswers.Answers, Chain.ChainAnswers.IsState, Chain.ChainAfter.chain_of, Chain.ChainAfter.carried_of, Chain.ChainAfter.after_of}
+use Rattle.queue_laws.specs.{Common.Vocabulary.Answer, Common.Vocabulary.Local, Common.Vocabulary.BLOCK_SLOTS, Common.Stand.Stand, Chain.ChainCells.Chain, Chain.ChainCells.ChainOk, Chain.ChainFacts.head_of, Chain.ChainAnswers.Answers, Chain.ChainAnswers.IsState, Chain.ChainAfter.chain_of}
+use Rattle.queue_laws.specs.Chain.ChainAfter.{carried_of, after_of}
 use Rattle.queue_steps.specs.{State.State, ChainWords.offset_of}
-use Rattle.queue_laws.specs.Chain.ChainAt.{At, push_tail, push_block, asking, installing, showing, claiming, laying, opening, chaining, writing, spending, pop_head, pop_block, pop_tail, taking, following, peeking, passing, entering, awaiting, reading, beginning, walking, destroying, count_tail, count_head, count_again, empty_head, empty_tail, closing, closed_tail}
-use Rattle.queue_laws.proofs.Chain.{ChainAnswers.head_offset, ChainStepOk.StepOk, ChainPush.good_push_tail, ChainPush.good_push_block, ChainPush.good_refused, ChainPush.good_granted, ChainClaim.good_installing, ChainClaim.good_showing, ChainClaim.good_claiming, ChainClaim.good_laying, ChainClaim.good_opening, ChainClaim.good_chaining, ChainClaim.good_writing, ChainClaim.good_spending, ChainPop.good_pop_head, ChainPop.good_pop_block, ChainPop.good_taking, ChainPop.good_following, ChainPop.good_passing, ChainPop.good_entering, ChainPop.read_small, ChainEmpty.good_pop_tail, ChainPeek.good_peeking, ChainRead.good_awaiting, ChainRead.good_reading, ChainBegin.good_beginning, ChainWalk.good_walking, ChainWalk.good_destroying, ChainLook.good_closed_tail, ChainLook.good_count_tail, ChainLook.good_count_head, ChainLook.good_count_again, ChainLook.good_empty_head, ChainLook.good_closing, ChainIsEmpty.good_empty_tail}
+use Rattle.queue_laws.specs.Chain.ChainAt.{At, push_tail, push_block, asking, installing, showing, claiming, laying, opening, chaining, writing, spending, pop_head, pop_block, pop_tail, taking, following, peeking, passing, entering, awaiting, reading, beginning, walking, destroying, count_tail}
+use Rattle.queue_laws.specs.Chain.ChainAt.{count_head, count_again, empty_head, empty_tail, closing, closed_tail}
+use Rattle.queue_laws.proofs.Chain.{ChainAnswers.head_offset, ChainStepOk.StepOk, ChainPush.good_push_tail, ChainPush.good_push_block, ChainPush.good_refused, ChainPush.good_granted, ChainPop.good_pop_head, ChainPop.good_pop_block, ChainPop.good_taking, ChainPop.good_following}
+use Rattle.queue_laws.proofs.Chain.{ChainPop.good_passing, ChainPop.good_entering, ChainPop.read_small, ChainEmpty.good_pop_tail, ChainPeek.good_peeking, ChainRead.good_awaiting, ChainRead.good_reading, ChainBegin.good_beginning, ChainWalk.good_walking, ChainWalk.good_destroying}
+use Rattle.queue_laws.proofs.Chain.{ChainLook.good_closed_tail, ChainLook.good_count_tail, ChainLook.good_count_head, ChainLook.good_count_again, ChainLook.good_empty_head, ChainLook.good_closing, ChainIsEmpty.good_empty_tail}
+use Rattle.queue_laws.proofs.Chain.ChainClaim.{good_installing, good_showing, good_claiming, good_laying, good_opening, good_chaining, good_writing, good_spending}
 
 -- a call that stands on a chain is at a local state of a chain
 pub is_chain : {A : Type 0} {c : Chain A} {who : ℕ} {ms : List (State A)} {k : Stand A} → At c who ms k → k.local ≡ Local.Chain (chain_of k.local)

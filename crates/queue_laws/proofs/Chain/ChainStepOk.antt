@@ -1,7 +1,8 @@
 -- What is owed of each step of a call on a chain.
 use Rattle.std.proofs.Common.{ℕ, ◌≡◌, ◌==◌, ◌⊎◌, inl, Option, Some, None, List, [], ◌∷◌, refl}
 use Rattle.queue_steps.specs.{State.State, Kinds.filled, Replies.Tells, Replies.Allows, ChainNext.FitsChain, ChainNext.chain_next, Words.is_shut, declared.steps.chain.ChainLocal.ChainLocal as chain}
-use Rattle.queue_laws.specs.{Common.Vocabulary.Call, Common.Vocabulary.Reply, Common.Vocabulary.Effect, Common.Vocabulary.Answer, Common.Vocabulary.Next, Common.Vocabulary.ChainLocal, Common.Moments.SeenIn, Common.Effects.Leads, Common.Effects.with_effect, Common.Effects.Whether, Common.Stand.stand, Chain.ChainCells.Spare, Chain.ChainCells.GivenUp, Chain.ChainCells.Chain, Chain.ChainCells.queue_of, Chain.ChainCells.ChainOk, Chain.ChainCells.HoldsOnly, Chain.ChainCells.Nothing, Chain.ChainPasses.Passes, Chain.ChainFacts.IsNamed, Chain.ChainFacts.HasSpare, Chain.ChainAt.At}
+use Rattle.queue_laws.specs.Common.{Vocabulary.Call, Vocabulary.Reply, Vocabulary.Effect, Vocabulary.Answer, Vocabulary.Next, Vocabulary.ChainLocal, Moments.SeenIn, Effects.Leads, Effects.with_effect, Effects.Whether, Stand.stand}
+use Rattle.queue_laws.specs.Chain.{ChainCells.Spare, ChainCells.GivenUp, ChainCells.Chain, ChainCells.queue_of, ChainCells.ChainOk, ChainCells.HoldsOnly, ChainCells.Nothing, ChainPasses.Passes, ChainFacts.IsNamed, ChainFacts.HasSpare, ChainAt.At}
 use Rattle.queue_laws.proofs.Chain.ChainPasses.{passes_same}
 
 -- the block that a call gives up is its spare, or a passed one that nobody reads any more

@@ -4,7 +4,8 @@ use Rattle.std.proofs.lemmas.List.{length-append}
 use Rattle.queue_laws.specs.Common.{Vocabulary.Effect, Vocabulary.LIMIT, Vocabulary.BLOCK_SLOTS, Puts.put}
 use Rattle.queue_steps.specs.Effect.{Fits}
 use Rattle.queue_laws.proofs.Common.{Puts.put_ok, Puts.put_same, Puts.put_other, Lists.front_stays, Lists.last_is}
-use Rattle.queue_laws.specs.Chain.ChainCells.{Writer, Free, Writing, Wrote, Reader, Unread, Reading, Done, Mover, Rests, Laying, Opening, Passer, Stands, LinkState, Unlinked, Linking, Linked, Shown, Hidden, Showing, Seen, Walk, Use, Spare, Chained, Chain, queue_of, ItemOk, BlocksOk, LinkOk, FrontOk, ShownOk, WalkOk, ChainOk}
+use Rattle.queue_laws.specs.Chain.ChainCells.{Writer, Free, Writing, Wrote, Reader, Unread, Reading, Done, Mover, Rests, Laying, Opening, Passer, Stands, LinkState, Unlinked, Linking, Linked, Shown, Hidden, Showing, Seen, Walk, Use, Spare, Chained, Chain, queue_of, ItemOk, BlocksOk, LinkOk, FrontOk}
+use Rattle.queue_laws.specs.Chain.ChainCells.{ShownOk, WalkOk, ChainOk}
 use Rattle.queue_laws.specs.Chain.ChainTransitions.{appended, installed, displayed, laid_out, opened, chained, written, marked, renamed}
 
 -- the places of items beyond the tail are free

@@ -1,8 +1,10 @@
 -- The steps of a pop that reads its item, and of the walk over a passed block.
-use Rattle.queue_laws.specs.{Common.Vocabulary.Call, Common.Vocabulary.Reply, Common.Vocabulary.Effect, Common.Vocabulary.Answer, Common.Vocabulary.BLOCK_SLOTS, Chain.ChainTransitions.walk_after, Chain.ChainFacts.IsNamed, Chain.ChainAt.Only, Chain.ChainAt.walking, Chain.ChainAt.destroying, Chain.ChainAnswers.IsState, Chain.ChainAnswers.is_done, Chain.ChainAfter.if_walked, Chain.ChainAfter.if_destroyed}
+use Rattle.queue_laws.specs.Chain.{ChainTransitions.walk_after, ChainFacts.IsNamed, ChainAt.Only, ChainAt.walking, ChainAt.destroying, ChainAnswers.IsState, ChainAnswers.is_done, ChainAfter.if_walked, ChainAfter.if_destroyed}
+use Rattle.queue_laws.specs.Common.Vocabulary.{Call, Reply, Effect, Answer, BLOCK_SLOTS}
 use Rattle.std.proofs.lemmas.Bool.{Decides.eqb_tells, lt-ltb, le-ltb}
 use Rattle.queue_steps.specs.{State.State, declared.steps.chain.ChainLocal.ChainLocal as chain, ChainNext.walks_on}
-use Rattle.queue_laws.proofs.{Chain.ChainStepOk.NextOk, Chain.ChainStepOk.StepOk, Chain.ChainStepOk.still, Chain.ChainStepOk.silent, Chain.ChainReads.walk_after_ok, Chain.ChainReads.walk_ok, Chain.ChainPassesReads.passes_walked, Chain.ChainAnswers.done_is, Chain.ChainHolds.after_walk, Chain.ChainHolds.after_walk_on, Common.Puts.put_same}
+use Rattle.queue_laws.proofs.{Chain.ChainReads.walk_after_ok, Chain.ChainReads.walk_ok, Chain.ChainPassesReads.passes_walked, Chain.ChainAnswers.done_is, Chain.ChainHolds.after_walk, Chain.ChainHolds.after_walk_on, Common.Puts.put_same}
+use Rattle.queue_laws.proofs.Chain.ChainStepOk.{NextOk, StepOk, still, silent}
 use Rattle.std.proofs.Common.{ℕ, ◌+◌, ◌<◌, ◌≡◌, ◌≢◌, not, ◌∙◌, ◌⊎◌, inl, inr, Bool, true, false, if◌then◌else◌, Some, None, Ok, List, [], ◌∷◌, refl, sym, ap, subst, arith}
 use Rattle.queue_laws.specs.Chain.ChainCells.{Reader, Unread, Done, Walker, Waits, GivenUp, Chain, queue_of, WalkOk, IsWalked, item_at, LAST, ChainOk, Passed, walker_of, HoldsOnly, Nothing}
 use Rattle.queue_laws.specs.Chain.ChainTransitions as moves

@@ -1,7 +1,8 @@
 -- Numbers below a bound, none of them twice: there are no more than the bound says, and where each number is one of them, a sum over them is one over all numbers.
 use Rattle.std.proofs.Common.{◌≡◌, ◌≢◌, ℕ, zero, suc, ◌+◌, ◌<◌, ◌≤◌, Bool, true, false, not, cond, List, [], ◌∷◌, length, refl, ap, sym, ◌∙◌, inl, inr, arith}
 use Rattle.std.specs.List.{All, AllPairs, Contains, filter, sum_by}
-use Rattle.std.proofs.{lemmas.Bool.Decides.eqb_tells, lemmas.List.Elements.All-filter, lemmas.List.Elements.filter_passes, lemmas.List.Elements.Contains-append_right, lemmas.List.Filters.length-filter_both, lemmas.List.Filters.sum_by-filter_both, lemmas.List.Kept.AllPairs-filter, lemmas.List.Sums.sum_by-cons, lemmas.Map.Made.Contains-tail, Math.Dec.eqb}
+use Rattle.std.proofs.{lemmas.Bool.Decides.eqb_tells, lemmas.List.Filters.length-filter_both, lemmas.List.Filters.sum_by-filter_both, lemmas.List.Kept.AllPairs-filter, lemmas.List.Sums.sum_by-cons, lemmas.Map.Made.Contains-tail, Math.Dec.eqb}
+use Rattle.std.proofs.lemmas.List.Elements.{All-filter, filter_passes, Contains-append_right}
 use mathlib.Core.Logic.{dite}
 use native.Mathlib.Decide.{ℕ_discrete}
 

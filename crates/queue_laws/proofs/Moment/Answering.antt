@@ -2,7 +2,8 @@
 use Rattle.std.proofs.Common.{◌≡◌, false, List, [], ◌∷◌, ◌++◌, length, None, Err, refl, ap, sym, ◌∙◌, subst, inl, inr, arith, append-nil}
 use mathlib.Core.List.{IsPrefix}
 use Rattle.queue_steps.specs.{State.State, State.start, Effect.made, Effect.Runs, Effect.after, Replies.IsRightAt, Replies.LacksMemory, Replies.Allows}
-use Rattle.queue_laws.specs.{Common.Vocabulary.Call, Common.Vocabulary.Reply, Common.Vocabulary.Effect, Common.Vocabulary.PopError, Common.Vocabulary.PushError, Common.Vocabulary.ForcePushError, Moment.Moments.RunsAtOnce, Moment.Moments.AtOnceIsLegal, Moment.Moments.IsGlance, Moment.Moments.settled, Moment.Moments.DisplacesAtOnce}
+use Rattle.queue_laws.specs.Common.Vocabulary.{Call, Reply, Effect, PopError, PushError, ForcePushError}
+use Rattle.queue_laws.specs.Moment.Moments.{RunsAtOnce, AtOnceIsLegal, IsGlance, settled, DisplacesAtOnce}
 use Rattle.queue_steps.proofs.LookLaws.{look_there}
 use Rattle.queue_laws.proofs.Moment.{Closed.many, Closed.Agrees, Closed.arrived_none, Settling.Sound, Settling.many_none, Settling.full_none, Settling.sound_start, Settling.sound_after, Settling.open_settles, Settling.goes_on}
 

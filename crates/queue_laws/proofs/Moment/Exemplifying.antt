@@ -1,6 +1,7 @@
 -- The examples hold.
 use Rattle.std.proofs.Common.{◌≡◌, ℕ, ◌+◌, ◌<◌, nat_lt, if◌then◌else◌, true, false, List, [], ◌∷◌, length, Some, None, Ok, Err, refl, ap, sym, ◌∙◌, inl, inr, arith}
-use Rattle.queue_laws.specs.{Common.Vocabulary.Call, Common.Vocabulary.Reply, Common.Vocabulary.Effect, Common.Vocabulary.PushError, Common.Vocabulary.ForcePushError, Moment.Moments.IsAtOnce, Moment.Moments.RunsAtOnce, Moment.Entries.state_before, Moment.Shared.settled_history, Moment.Examples.filled, Moment.Examples.displacing, Moment.Examples.NoOrder, Moment.Examples.Examples}
+use Rattle.queue_laws.specs.Moment.{Moments.IsAtOnce, Moments.RunsAtOnce, Entries.state_before, Shared.settled_history, Examples.filled, Examples.displacing, Examples.NoOrder, Examples.Examples}
+use Rattle.queue_laws.specs.Common.Vocabulary.{Call, Reply, Effect, PushError, ForcePushError}
 use Rattle.queue_steps.specs.{State.State, State.start, Effect.Runs, Effect.IsHistory, Effect.after, Replies.Allows, Replies.LacksMemory, Sequential.Owned, Sequential.fresh, Sequential.Sequential, Sequential.sequential_reply, Sequential.sequential_state}
 
 -- the ring with 1 and 2 in it

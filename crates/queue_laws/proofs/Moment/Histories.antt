@@ -1,7 +1,8 @@
 -- A history settles into one whose displacements are moments, with the same calls.
 use Rattle.std.proofs.Common.{◌≡◌, ℕ, ◌<◌, List, [], Option, None, refl, ap, sym, ◌∙◌, subst, inl, arith, append-nil}
 use Rattle.std.specs.List.{AllPairs}
-use Rattle.queue_laws.specs.{Common.Vocabulary.Call, Common.Vocabulary.Reply, Common.Vocabulary.Effect, Moment.Moments.IsAtOnce, Moment.Moments.IsGlance, Moment.Moments.OneMoment, Moment.Entries.Entry, Moment.Entries.effects_in, Moment.Entries.state_before, Moment.Entries.settle, Moment.Entries.HistoriesSettle}
+use Rattle.queue_laws.specs.{Common.Vocabulary.Call, Common.Vocabulary.Reply, Common.Vocabulary.Effect, Moment.Moments.IsAtOnce, Moment.Moments.IsGlance, Moment.Moments.OneMoment}
+use Rattle.queue_laws.specs.Moment.Entries.{Entry, effects_in, state_before, settle, HistoriesSettle}
 use Rattle.queue_steps.specs.{Effect.IsHistory, Effect.after, Replies.Allows}
 use Rattle.queue_laws.proofs.Moment.{Answering.displaces_at_once, Naming.Rising, Naming.effects_settle, Naming.settle_flat, Naming.flat_pairs, Naming.pairs_rising, Choosing.before, Choosing.later, Choosing.both_parts, Choosing.settle_before, Owning.own_same, Owning.own_begun}
 

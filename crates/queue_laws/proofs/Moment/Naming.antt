@@ -2,7 +2,8 @@
 use Rattle.std.proofs.Common.{◌≡◌, ℕ, suc, ◌+◌, ◌<◌, ◌≤◌, List, [], ◌∷◌, ◌++◌, refl, ap, sym, ◌∙◌, arith, append-nil}
 use Rattle.std.specs.List.{All, AllPairs}
 use Rattle.std.proofs.lemmas.List.{Elements.All-nil, Elements.All-cons, Kept.AllPairs-cons}
-use Rattle.queue_laws.specs.{Common.Vocabulary.Effect, Moment.Moments.displacements, Moment.Moments.others, Moment.Moments.settled, Moment.Entries.Entry, Moment.Entries.effects_in, Moment.Entries.front_first, Moment.Entries.fronts_at, Moment.Entries.other_first, Moment.Entries.other_entries, Moment.Entries.settle_first, Moment.Entries.settle}
+use Rattle.queue_laws.specs.{Common.Vocabulary.Effect, Moment.Moments.displacements, Moment.Moments.others, Moment.Moments.settled}
+use Rattle.queue_laws.specs.Moment.Entries.{Entry, effects_in, front_first, fronts_at, other_first, other_entries, settle_first, settle}
 
 module _ {T : Type 0} where
   pub effects_append : (xs ys : List (Entry T)) → effects_in (xs ++ ys) ≡ effects_in xs ++ effects_in ys

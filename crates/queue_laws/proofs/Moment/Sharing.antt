@@ -6,9 +6,11 @@ use mathlib.Core.Option.{some, some-injective}
 use mathlib.Core.List.{IsPrefix}
 use lib.ListN.{get_elem?}
 use Rattle.queue_steps.specs.{State.State, State.start, Effect.IsHistory, Effect.after, Replies.Allows, Replies.Tells, Parties.View, Parties.StandAt, Parties.Displaces, Parties.SharedCall}
-use Rattle.queue_laws.specs.{Common.Vocabulary.Call, Common.Vocabulary.Reply, Common.Vocabulary.Effect, Moment.Moments.arrived, Moment.Moments.displacements, Moment.Entries.Entry, Moment.Entries.chosen, Moment.Entries.effects_in, Moment.Entries.state_before, Moment.Entries.SeesNoMove, Moment.Entries.KeepsFronts, Moment.Entries.own_of, Moment.Entries.SettlesInto, Moment.Shared.numbered, Moment.Shared.settled_history, Moment.Shared.is_one_of, Moment.Shared.is_own, Moment.Shared.CallsAtOnce, Moment.Shared.SharedCallsAtOnce}
+use Rattle.queue_laws.specs.{Common.Vocabulary.Call, Common.Vocabulary.Reply, Common.Vocabulary.Effect, Moment.Moments.arrived, Moment.Moments.displacements, Moment.Entries.Entry, Moment.Entries.chosen, Moment.Entries.effects_in, Moment.Entries.state_before, Moment.Entries.SeesNoMove}
+use Rattle.queue_laws.specs.Moment.{Entries.KeepsFronts, Entries.own_of, Entries.SettlesInto, Shared.numbered, Shared.settled_history, Shared.is_one_of, Shared.is_own, Shared.CallsAtOnce, Shared.SharedCallsAtOnce}
 use Rattle.queue_steps.proofs.Places.{below_at}
-use Rattle.queue_laws.proofs.Moment.{Naming.Rising, Choosing.bool_or, Choosing.chosen_yes, Choosing.chosen_not, Owning.IsFew, Owning.is_few, Owning.head_of, Owning.tail_of, Histories.histories_settle, Shut.closed_within, Together.within_is, Together.settle_paired, Together.stands_together, Glances.cases_before, Glances.middle_or}
+use Rattle.queue_laws.proofs.Moment.{Naming.Rising, Choosing.bool_or, Choosing.chosen_yes, Choosing.chosen_not, Histories.histories_settle, Shut.closed_within, Together.within_is, Together.settle_paired, Together.stands_together, Glances.cases_before, Glances.middle_or}
+use Rattle.queue_laws.proofs.Moment.Owning.{IsFew, is_few, head_of, tail_of}
 
 within_all : (a b k : ℕ) → a ≤ k → k < b → (nat_le a k && nat_lt k b) ≡ true
 within_all a b k le lt = grind arith

@@ -1,6 +1,7 @@
 -- The queue of one owner beside the abstract queue: a call whose effects stand together is a line of the table of one owner.
 use Rattle.std.proofs.Common.{ℕ, ◌+◌, ◌≤◌, ◌≡◌, ◌∙◌, inl, inr, Bool, true, false, if◌then◌else◌, None, Err, List, [], refl, sym, subst, arith}
-use Rattle.queue_steps.specs.{State.State, State.is_slot_cap, State.is_full, Effect.Runs, Effect.after_from, Legal.IsShown, Replies.MayAsk, Replies.LacksMemory, Replies.Allows, Replies.Tells, Sequential.Owned, Sequential.Sequential, Sequential.moved, Sequential.sequential_reply, Sequential.sequential_state, Sequential.counted, Sequential.is_spent}
+use Rattle.queue_steps.specs.{State.State, State.is_slot_cap, State.is_full, Effect.Runs, Effect.after_from, Legal.IsShown, Replies.MayAsk, Replies.LacksMemory, Replies.Allows, Replies.Tells}
+use Rattle.queue_steps.specs.Sequential.{Owned, Sequential, moved, sequential_reply, sequential_state, counted, is_spent}
 use Rattle.queue_laws.specs.Common.{Vocabulary.Call, Vocabulary.Reply, Vocabulary.Effect, Vocabulary.PushError, Vocabulary.ForcePushError, Effects.FrontOpen}
 use Rattle.queue_steps.proofs.{Keeping.coming-sequential, Rows.Same, Rows.with_count, Rows.Does, Rows.does_row}
 

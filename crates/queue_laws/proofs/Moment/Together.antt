@@ -1,6 +1,7 @@
 -- The effects of a call stand together in what a history settles into.
 use Rattle.std.proofs.Common.{◌≡◌, ℕ, ◌<◌, ◌≤◌, ◌&&◌, nat_lt, nat_le, Bool, true, false, List, [], ◌∷◌, ◌++◌, refl, ap, sym, ◌∙◌, subst, inl, inr, arith}
-use Rattle.queue_laws.specs.{Common.Vocabulary.Effect, Moment.Moments.others, Moment.Entries.Entry, Moment.Entries.front_first, Moment.Entries.fronts_at, Moment.Entries.other_first, Moment.Entries.other_entries, Moment.Entries.settle_first, Moment.Entries.settle, Moment.Entries.own_of, Moment.Shared.StandsTogether}
+use Rattle.queue_laws.specs.{Common.Vocabulary.Effect, Moment.Moments.others, Moment.Shared.StandsTogether}
+use Rattle.queue_laws.specs.Moment.Entries.{Entry, front_first, fronts_at, other_first, other_entries, settle_first, settle, own_of}
 use Rattle.queue_laws.proofs.Moment.{Naming.entry, Choosing.bool_or, Choosing.chosen_yes, Choosing.chosen_not, Owning.IsFew, Owning.head_of}
 
 pub within_is : (b : Bool) (from upto n : ℕ) → (b && (nat_le from n && nat_lt n upto)) ≡ true → (from ≤ n) × (n < upto)

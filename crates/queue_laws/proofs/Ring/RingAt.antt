@@ -4,7 +4,8 @@ use Rattle.queue_steps.specs.{State.State, Words.position_of}
 use Rattle.queue_laws.specs.{Common.Moments.seen_by, Common.Stand.Stand, Ring.RingPasses.Passes}
 use Rattle.queue_laws.specs.Ring.RingCells.{Cell, Written, Read, Coming, Swapped, Ring, queue_of, RingOk, owner, HoldsNone, HoldsOne}
 use Rattle.queue_laws.proofs.Ring.RingPasses.{none_stays, one_stays, free_stays, full_stays, tail_was_stays, head_was_stays, saw_empty_stays, saw_full_stays, tail_grows, head_grows}
-use Rattle.queue_laws.specs.Ring.RingAt.{SawTail, At, push_tail, push_stamp, claiming, filling, push_head, displacing, arriving, swapping, spending, pop_head, pop_stamp, taking, emptying, pop_tail, count_tail, count_head, count_again, empty_head, empty_tail, full_tail, full_head, closing, closed_tail}
+use Rattle.queue_laws.specs.Ring.RingAt.{SawTail, At, push_tail, push_stamp, claiming, filling, push_head, displacing, arriving, swapping, spending, pop_head, pop_stamp, taking, emptying, pop_tail, count_tail, count_head, count_again, empty_head, empty_tail, full_tail, full_head, closing}
+use Rattle.queue_laws.specs.Ring.RingAt.{closed_tail}
 
 module _ {A : Type 0} {cap : ℕ} {r s : Ring A} {who other : ℕ} (ok : RingOk cap r) (ok' : RingOk cap s) (ne : other ≢ who) (pass : Passes who r s) where
   without : HoldsNone r.cells other → HoldsNone s.cells other

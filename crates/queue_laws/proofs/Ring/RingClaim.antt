@@ -3,8 +3,11 @@ use Rattle.std.proofs.Common.{ℕ, ◌+◌, ◌%◌, ◌<◌, ◌≤◌, ◌≡�
 use Rattle.std.proofs.lemmas.Bool.{eq-eqb, Decides.eqb_tells}
 use Rattle.queue_laws.specs.Common.Vocabulary.{Call, Reply, Effect, PushError, Word, Op, Touch, Local, Next, PushKind, LIMIT, MARK, TAIL_STEP}
 use Rattle.queue_steps.specs.{State.State, Replies.IsRightAt, Words.IsWord, Words.position_of, Words.is_shut, Words.tail_of, Words.slot_at, Words.stamp_filled, RingNext.loads, RingNext.ends, RingNext.tail_found, declared.steps.ring.RingLocal.RingLocal as ring}
-use Rattle.queue_laws.proofs.{Common.Tails.shut_tail, Common.Tails.next_tail, Common.Tails.same_tail, Common.Tails.open_tail, Common.Moments.seen_map, Common.Pushes.closed_push, Common.Pushes.appended_push, Ring.RingCells.claims, Ring.RingCells.lets_go, Ring.RingTransitions.in_ring, Ring.RingTransitions.append_ok, Ring.RingTransitions.write_ok, Ring.RingTransitions.not_slot, Ring.RingPasses.passes_append, Ring.RingPasses.passes_written, Ring.RingWords.head_small, Ring.RingHands.Claims, Ring.RingHands.Returns, Ring.RingRanks.pick, Ring.RingStepOk.NextOk, Ring.RingStepOk.Stays, Ring.RingStepOk.StepOk, Ring.RingStepOk.still, Ring.RingStepOk.marks, Ring.RingStepOk.marks_closed, Ring.RingSlots.codes_claim, Ring.RingSlots.codes_store, Ring.RingPush.tail_goes, Ring.RingPush.tail_word, Ring.RingPush.saw_word}
-use Rattle.queue_laws.specs.{Common.Pushes.pushes, Ring.RingShared.Shared, Ring.RingTransitions.appended, Ring.RingTransitions.written, Ring.RingTransitions.marked, Ring.RingAt.TailWas, Ring.RingAt.FreeAt, Ring.RingAt.SawTail, Ring.RingAt.stores, Ring.RingAt.push_tail, Ring.RingAt.filling, Ring.RingWords.Codes, Ring.RingWords.item_in, Common.Stand.brings}
+use Rattle.queue_laws.proofs.{Common.Tails.shut_tail, Common.Tails.next_tail, Common.Tails.same_tail, Common.Tails.open_tail, Common.Moments.seen_map, Common.Pushes.closed_push, Common.Pushes.appended_push, Ring.RingCells.claims, Ring.RingCells.lets_go, Ring.RingTransitions.in_ring}
+use Rattle.queue_laws.proofs.Ring.{RingTransitions.append_ok, RingTransitions.write_ok, RingTransitions.not_slot, RingPasses.passes_append, RingPasses.passes_written, RingWords.head_small, RingHands.Claims, RingHands.Returns, RingRanks.pick, RingStepOk.NextOk, RingStepOk.Stays, RingStepOk.StepOk}
+use Rattle.queue_laws.proofs.Ring.{RingStepOk.still, RingStepOk.marks, RingStepOk.marks_closed, RingSlots.codes_claim, RingSlots.codes_store, RingPush.tail_goes, RingPush.tail_word, RingPush.saw_word}
+use Rattle.queue_laws.specs.{Common.Pushes.pushes, Ring.RingShared.Shared, Ring.RingTransitions.appended, Ring.RingTransitions.written, Ring.RingTransitions.marked, Ring.RingWords.Codes, Ring.RingWords.item_in, Common.Stand.brings}
+use Rattle.queue_laws.specs.Ring.RingAt.{TailWas, FreeAt, SawTail, stores, push_tail, filling}
 use Rattle.queue_laws.specs.Ring.RingCells.{Free, Written, Full, Ring, queue_of, RingOk, owner, HoldsNone, HoldsOne}
 
 module _ {A : Type 0} {cap : ℕ} {r : Ring A} {who : ℕ} {s : Shared A} {ms : List (State A)} {was : Bool} (ok : RingOk cap r) (codes : Codes cap r s) where

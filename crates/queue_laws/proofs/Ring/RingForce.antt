@@ -3,8 +3,11 @@ use Rattle.std.proofs.Common.{ℕ, ◌+◌, ◌-◌, ◌%◌, ◌^◌, ◌<◌, 
 use Rattle.std.proofs.lemmas.Bool.{eq-eqb, ne_eqb, Decides.eqb_tells}
 use Rattle.queue_laws.specs.Common.Vocabulary.{Call, Reply, Effect, Word, Op, Touch, Local, Next, PushKind, LIMIT, TAIL_STEP}
 use Rattle.queue_steps.specs.{State.State, Words.IsWord, Words.position_of, Words.slot_at, Words.stamp_filled, declared.steps.ring.RingLocal.RingLocal as ring}
-use Rattle.queue_laws.specs.{Common.Puts.put, Ring.RingShared.Shared, Ring.RingTransitions.fronted, Ring.RingTransitions.arrived, Ring.RingTransitions.written, Ring.RingAt.FullAt, Ring.RingAt.SawTail, Ring.RingAt.stores, Ring.RingAt.push_tail, Ring.RingAt.arriving, Ring.RingAt.swapping, Ring.RingWords.Codes, Ring.RingWords.item_in, Common.Stand.Stand, Common.Stand.stand, Common.Stand.brings}
-use Rattle.queue_laws.proofs.{Common.Tails.next_tail, Ring.RingCells.wraps, Ring.RingCells.claims, Ring.RingCells.keeps_on, Ring.RingCells.lets_go, Ring.RingTransitions.in_ring, Ring.RingTransitions.front_ok, Ring.RingTransitions.arrive_ok, Ring.RingTransitions.swap_ok, Ring.RingPasses.passes_front, Ring.RingPasses.passes_arrive, Ring.RingPasses.passes_written, Ring.RingWords.word_small, Ring.RingWords.head_small, Ring.RingHands.Claims, Ring.RingHands.GoesOn, Ring.RingHands.Returns, Ring.RingStepOk.NextOk, Ring.RingStepOk.StepOk, Ring.RingStepOk.still, Ring.RingSlots.codes_claim, Ring.RingSlots.codes_store, Ring.RingPush.tail_word, Ring.RingPush.saw_word}
+use Rattle.queue_laws.specs.{Common.Puts.put, Ring.RingShared.Shared, Ring.RingTransitions.fronted, Ring.RingTransitions.arrived, Ring.RingTransitions.written, Ring.RingWords.Codes, Ring.RingWords.item_in, Common.Stand.Stand, Common.Stand.stand, Common.Stand.brings}
+use Rattle.queue_laws.specs.Ring.RingAt.{FullAt, SawTail, stores, push_tail, arriving, swapping}
+use Rattle.queue_laws.proofs.{Common.Tails.next_tail, Ring.RingCells.wraps, Ring.RingCells.claims, Ring.RingCells.keeps_on, Ring.RingCells.lets_go, Ring.RingTransitions.in_ring, Ring.RingTransitions.front_ok, Ring.RingTransitions.arrive_ok, Ring.RingTransitions.swap_ok, Ring.RingPasses.passes_front}
+use Rattle.queue_laws.proofs.Ring.{RingPasses.passes_arrive, RingPasses.passes_written, RingWords.word_small, RingWords.head_small, RingHands.Claims, RingHands.GoesOn, RingHands.Returns, RingStepOk.NextOk, RingStepOk.StepOk, RingStepOk.still, RingSlots.codes_claim, RingSlots.codes_store}
+use Rattle.queue_laws.proofs.Ring.RingPush.{tail_word, saw_word}
 use Rattle.queue_laws.specs.Ring.RingCells.{owner, Full, Coming, Swapped, Ring, queue_of, CellOk, RingOk, HoldsNone, HoldsOne}
 
 abbrev displaces : {A : Type 0} → ℕ → A → ℕ → Stand A

@@ -1,9 +1,11 @@
 -- The steps of the calls that look at a ring, and of its close.
 use Rattle.std.proofs.Common.{ℕ, ◌+◌, ◌-◌, ◌*◌, ◌%◌, ◌<◌, ◌≤◌, ◌≡◌, ◌≢◌, ◌==◌, not, ◌∙◌, ◌⊎◌, inl, inr, Bool, true, false, if◌then◌else◌, Some, None, List, [], ◌∷◌, length, refl, sym, ap, arith}
 use Rattle.std.proofs.lemmas.Bool.{eq-eqb, ne_eqb, Decides.eqb_tells}
-use Rattle.queue_steps.specs.{State.State, State.is_full, Replies.is_empty, Words.position_of, Words.is_shut, Words.tail_of, RingNext.loads, RingNext.ends, RingNext.ring_begin, Kinds.call_kind, Looks.IsLook, Looks.call_of_look, Looks.reply_of_look, Looks.IsCount, declared.steps.ring.RingLocal.RingLocal as ring}
+use Rattle.queue_steps.specs.{State.State, State.is_full, Replies.is_empty, Words.position_of, Words.is_shut, Words.tail_of, RingNext.loads, RingNext.ends, RingNext.ring_begin, Kinds.call_kind, declared.steps.ring.RingLocal.RingLocal as ring}
+use Rattle.queue_steps.specs.Looks.{IsLook, call_of_look, reply_of_look, IsCount}
 use Rattle.queue_steps.proofs.LookLaws.{reply_filled, reply_tells, reply_right, count_waits}
-use Rattle.queue_laws.specs.{Common.Vocabulary.Call, Common.Vocabulary.Reply, Common.Vocabulary.Effect, Common.Vocabulary.Word, Common.Vocabulary.Op, Common.Vocabulary.Look, Common.Vocabulary.Local, Common.Vocabulary.MARK, Common.Moments.HasItems, Common.Moments.HeadWas, Common.Moments.SeenIn, Ring.RingShared.Shared, Ring.RingCells.Ring, Ring.RingCells.queue_of, Ring.RingCells.RingOk, Ring.RingCells.HoldsNone, Ring.RingWords.Codes, Common.Stand.empty_handed}
+use Rattle.queue_laws.specs.{Common.Moments.HasItems, Common.Moments.HeadWas, Common.Moments.SeenIn, Ring.RingShared.Shared, Ring.RingCells.Ring, Ring.RingCells.queue_of, Ring.RingCells.RingOk, Ring.RingCells.HoldsNone, Ring.RingWords.Codes, Common.Stand.empty_handed}
+use Rattle.queue_laws.specs.Common.Vocabulary.{Call, Reply, Effect, Word, Op, Look, Local, MARK}
 use Rattle.queue_laws.proofs.{Common.Tails.position_tail, Common.Tails.shut_tail, Common.Moments.seen_map, Ring.RingWords.head_small, Ring.RingRanks.pick, Ring.RingStepOk.Stays, Ring.RingStepOk.StepOk, Ring.RingStepOk.still, Ring.RingStepOk.marks, Ring.RingStepOk.marks_closed}
 use Rattle.queue_laws.specs.Ring.RingAt.{HasRoom, SawEmpty, SawFull, Begun, count_tail, count_head, count_again, empty_head, empty_tail, full_tail, full_head, closed_tail}
 
@@ -66,7 +68,8 @@ module _ {A : Type 0} {cap : ℕ} {r : Ring A} {who : ℕ} {s : Shared A} {ms : 
       go (inl e) =
           let at = at_tail e.1 in
           let many = position_of t - h in
-          rw e.0 (none, refl, (reply_of_look (Some cap) many (is_shut t) g, reply_filled A (Some cap) many (is_shut t) g, reply_tells A (Some cap) many (is_shut t) g, λ _. inr (seen_map ms (λ m was. reply_right m (Some cap) many (is_shut t) g was.0 (let a = was.1 in let b = was.2 in let c = was.3 in omega arith) (λ e. absurd (count_waits A g count e))) seen)))
+          let right = seen_map ms (λ m was. reply_right m (Some cap) many (is_shut t) g was.0 (let a = was.1 in let b = was.2 in let c = was.3 in omega arith) (λ e. absurd (count_waits A g count e))) seen in
+          rw e.0 (none, refl, (reply_of_look (Some cap) many (is_shut t) g, reply_filled A (Some cap) many (is_shut t) g, reply_tells A (Some cap) many (is_shut t) g, λ _. inr right))
       go (inr e) =
           let other : (t == tail_of r.tail r.closed) ≡ false = ne_eqb t (tail_of r.tail r.closed) (λ same. e.1 (codes.tail ∙ sym same)) in
           rw (e.0, other) (count_tail g count none, λ calm. omega arith)

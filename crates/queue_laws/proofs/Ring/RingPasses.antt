@@ -1,7 +1,8 @@
 -- Each step leaves of a ring for the others what `Passes` says, and so what a call knows of it.
 use Rattle.std.proofs.Common.{ℕ, ◌+◌, ◌%◌, ◌<◌, ◌≤◌, ◌≡◌, ◌≢◌, ◌∙◌, ◌⊎◌, inl, inr, Some, None, List, length, refl, sym, ap, arith, Option}
 use Rattle.queue_steps.specs.State.{State}
-use Rattle.queue_laws.specs.{Common.Puts.put, Common.Moments.HasItems, Common.Moments.HeadWas, Common.Moments.SeenIn, Common.Moments.seen_by, Ring.RingTransitions.appended, Ring.RingTransitions.taken, Ring.RingTransitions.written, Ring.RingTransitions.fronted, Ring.RingTransitions.arrived, Ring.RingTransitions.marked, Ring.RingPasses.Passes, Ring.RingAt.FreeAt, Ring.RingAt.FullAt, Ring.RingAt.TailWas, Ring.RingAt.HasRoom, Ring.RingAt.SawEmpty, Ring.RingAt.SawFull}
+use Rattle.queue_laws.specs.{Common.Puts.put, Common.Moments.HasItems, Common.Moments.HeadWas, Common.Moments.SeenIn, Common.Moments.seen_by, Ring.RingTransitions.appended, Ring.RingTransitions.taken, Ring.RingTransitions.written, Ring.RingTransitions.fronted, Ring.RingTransitions.arrived}
+use Rattle.queue_laws.specs.Ring.{RingTransitions.marked, RingPasses.Passes, RingAt.FreeAt, RingAt.FullAt, RingAt.TailWas, RingAt.HasRoom, RingAt.SawEmpty, RingAt.SawFull}
 use Rattle.queue_laws.proofs.{Common.Puts.put_ok, Common.Moments.seen_later, Common.Moments.seen_map, Common.Moments.seen_now, Common.Moments.started_later, Ring.RingCells.put_owned, Ring.RingCells.held_stays}
 use Rattle.queue_laws.specs.Ring.RingCells.{Cell, Free, Written, Full, Read, Coming, Swapped, Ring, queue_of, RingOk, owner, HoldsNone, HoldsOne}
 

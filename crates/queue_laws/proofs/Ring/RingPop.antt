@@ -2,8 +2,12 @@
 use Rattle.std.proofs.Common.{ℕ, ◌+◌, ◌%◌, ◌<◌, ◌≤◌, ◌≡◌, ◌≢◌, ◌==◌, ◌∙◌, ◌⊎◌, inl, inr, Bool, true, false, if◌then◌else◌, Some, None, Ok, Err, List, [], ◌∷◌, refl, sym, ap, subst, arith, get_or}
 use Rattle.std.proofs.lemmas.Bool.{ne_eqb, Decides.eqb_tells}
 use Rattle.queue_steps.specs.{State.State, Words.IsWord, Words.tail_of, Words.slot_at, Words.stamp_free, Words.stamp_filled, Words.stamp_emptied, RingNext.ends, RingNext.head_found, RingNext.pop_stamp_found, RingNext.pop_tail_found, declared.steps.ring.RingLocal.RingLocal as ring}
-use Rattle.queue_laws.specs.{Common.Vocabulary.Call, Common.Vocabulary.Reply, Common.Vocabulary.Effect, Common.Vocabulary.PopError, Common.Vocabulary.Word, Common.Vocabulary.Op, Common.Vocabulary.Touch, Common.Vocabulary.Local, Common.Puts.put, Ring.RingShared.Shared, Ring.RingCells.Free, Ring.RingCells.Full, Ring.RingCells.Read, Ring.RingCells.Ring, Ring.RingCells.RingOk, Ring.RingCells.owner, Ring.RingCells.HoldsNone, Ring.RingCells.HoldsOne, Ring.RingTransitions.taken, Ring.RingTransitions.written, Ring.RingAt.FreeAt, Ring.RingAt.FullAt, Ring.RingAt.stores, Ring.RingAt.pop_head, Ring.RingAt.pop_stamp, Ring.RingAt.taking, Ring.RingAt.emptying, Ring.RingAt.pop_tail, Ring.RingWords.Codes, Ring.RingWords.stamp_in, Ring.RingWords.item_in, Common.Stand.Stand, Common.Stand.empty_handed}
-use Rattle.queue_laws.proofs.{Common.Lists.none_left, Common.Tails.position_tail, Common.Tails.shut_tail, Ring.RingCells.claims, Ring.RingCells.lets_go, Ring.RingTransitions.in_ring, Ring.RingTransitions.none_coming, Ring.RingTransitions.take_ok, Ring.RingTransitions.read_ok, Ring.RingPasses.passes_take, Ring.RingPasses.passes_written, Ring.RingWords.head_small, Ring.RingHands.Claims, Ring.RingHands.Returns, Ring.RingRanks.pick, Ring.RingStepOk.IsCalm, Ring.RingStepOk.Stays, Ring.RingStepOk.StepOk, Ring.RingStepOk.still, Ring.RingSlots.stamp_free_at, Ring.RingSlots.stamp_full_at, Ring.RingSlots.nobody, Ring.RingSlots.head_slot, Ring.RingSlots.codes_claim, Ring.RingSlots.codes_store}
+use Rattle.queue_laws.specs.{Common.Vocabulary.Call, Common.Vocabulary.Reply, Common.Vocabulary.Effect, Common.Vocabulary.PopError, Common.Vocabulary.Word, Common.Vocabulary.Op, Common.Vocabulary.Touch, Common.Vocabulary.Local, Common.Puts.put, Ring.RingShared.Shared, Ring.RingCells.Free}
+use Rattle.queue_laws.specs.Ring.{RingCells.Full, RingCells.Read, RingCells.Ring, RingCells.RingOk, RingCells.owner, RingCells.HoldsNone, RingCells.HoldsOne, RingTransitions.taken, RingTransitions.written, RingAt.FreeAt, RingAt.FullAt, RingAt.stores, RingAt.pop_head, RingAt.pop_stamp, RingAt.taking}
+use Rattle.queue_laws.specs.{Ring.RingAt.emptying, Ring.RingAt.pop_tail, Ring.RingWords.Codes, Ring.RingWords.stamp_in, Ring.RingWords.item_in, Common.Stand.Stand, Common.Stand.empty_handed}
+use Rattle.queue_laws.proofs.{Common.Lists.none_left, Common.Tails.position_tail, Common.Tails.shut_tail, Ring.RingCells.claims, Ring.RingCells.lets_go, Ring.RingTransitions.in_ring, Ring.RingTransitions.none_coming, Ring.RingTransitions.take_ok, Ring.RingTransitions.read_ok}
+use Rattle.queue_laws.proofs.Ring.{RingPasses.passes_take, RingPasses.passes_written, RingWords.head_small, RingHands.Claims, RingHands.Returns, RingRanks.pick, RingStepOk.IsCalm, RingStepOk.Stays, RingStepOk.StepOk, RingStepOk.still}
+use Rattle.queue_laws.proofs.Ring.RingSlots.{stamp_free_at, stamp_full_at, nobody, head_slot, codes_claim, codes_store}
 
 module _ {A : Type 0} {cap : ℕ} {r : Ring A} (who : ℕ) (ms : List (State A)) (was : Bool) (ok : RingOk cap r) where
   -- after a head that a pop found

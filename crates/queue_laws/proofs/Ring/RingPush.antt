@@ -1,9 +1,12 @@
 -- The steps of a push into a ring, as far as it displaces nothing.
 use Rattle.std.proofs.Common.{ℕ, ◌+◌, ◌-◌, ◌%◌, ◌<◌, ◌≡◌, ◌≢◌, ◌==◌, ◌||◌, not, ◌∙◌, ◌⊎◌, inl, inr, Bool, true, false, if◌then◌else◌, Some, List, [], ◌∷◌, refl, sym, ap, arith, get_or}
 use Rattle.std.proofs.lemmas.Bool.Decides.{eqb_tells}
-use Rattle.queue_laws.specs.{Common.Vocabulary.Word, Common.Vocabulary.Op, Common.Vocabulary.Local, Common.Vocabulary.PushKind, Common.Vocabulary.LIMIT, Common.Pushes.pushes, Ring.RingShared.Shared, Ring.RingCells.Free, Ring.RingCells.Full, Ring.RingCells.Ring, Ring.RingCells.queue_of, Ring.RingCells.RingOk, Ring.RingCells.HoldsNone, Ring.RingAt.FullAt, Ring.RingAt.SawTail, Ring.RingAt.push_tail, Ring.RingAt.push_stamp, Ring.RingAt.claiming, Ring.RingAt.push_head, Ring.RingAt.displacing, Ring.RingAt.spending, Ring.RingWords.Codes, Ring.RingWords.stamp_in, Common.Stand.brings}
+use Rattle.queue_laws.specs.{Common.Vocabulary.Word, Common.Vocabulary.Op, Common.Vocabulary.Local, Common.Vocabulary.PushKind, Common.Vocabulary.LIMIT, Common.Pushes.pushes, Ring.RingShared.Shared, Ring.RingWords.Codes, Ring.RingWords.stamp_in, Common.Stand.brings}
+use Rattle.queue_laws.specs.Ring.RingCells.{Free, Full, Ring, queue_of, RingOk, HoldsNone}
+use Rattle.queue_laws.specs.Ring.RingAt.{FullAt, SawTail, push_tail, push_stamp, claiming, push_head, displacing, spending}
 use Rattle.queue_steps.specs.{State.State, Words.IsWord, Words.position_of, Words.is_shut, Words.tail_of, Words.slot_at, Words.stamp_free, Words.stamp_filled, RingNext.tail_found, RingNext.push_stamp_found, RingNext.lap_found, declared.steps.ring.RingLocal.RingLocal as ring}
-use Rattle.queue_laws.proofs.{Common.Tails.position_tail, Common.Tails.shut_tail, Common.Pushes.closed_push, Common.Pushes.not_wait_free, Ring.RingCells.wraps, Ring.RingTransitions.in_ring, Ring.RingWords.word_small, Ring.RingRanks.pick, Ring.RingStepOk.IsCalm, Ring.RingStepOk.Stays, Ring.RingStepOk.StepOk, Ring.RingStepOk.still, Ring.RingStepOk.opened_now, Ring.RingStepOk.saw_own, Ring.RingSlots.stamp_free_at, Ring.RingSlots.stamp_full_at, Ring.RingSlots.stamp_small, Ring.RingSlots.stamp_lapped, Ring.RingSlots.nobody, Ring.RingSlots.tail_slot}
+use Rattle.queue_laws.proofs.{Common.Tails.position_tail, Common.Tails.shut_tail, Common.Pushes.closed_push, Common.Pushes.not_wait_free, Ring.RingCells.wraps, Ring.RingTransitions.in_ring, Ring.RingWords.word_small, Ring.RingRanks.pick, Ring.RingStepOk.IsCalm, Ring.RingStepOk.Stays}
+use Rattle.queue_laws.proofs.Ring.{RingStepOk.StepOk, RingStepOk.still, RingStepOk.opened_now, RingStepOk.saw_own, RingSlots.stamp_free_at, RingSlots.stamp_full_at, RingSlots.stamp_small, RingSlots.stamp_lapped, RingSlots.nobody, RingSlots.tail_slot}
 
 pub tail_word : {A : Type 0} (cap : ℕ) (r : Ring A) (s : Shared A) → RingOk cap r → Codes cap r s → IsWord s.tail
 tail_word cap r s ok codes = let a : position_of s.tail ≡ r.tail = ap position_of codes.tail ∙ position_tail r.tail r.closed in let b = ok.most in word_small s.tail (omega arith)

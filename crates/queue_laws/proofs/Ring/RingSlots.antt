@@ -3,7 +3,8 @@ use Rattle.std.proofs.Common.{ℕ, ◌+◌, ◌%◌, ◌<◌, ◌≤◌, ◌≡�
 use Rattle.std.proofs.lemmas.{List.length-set, Bool.Decides.eqb_tells}
 use Rattle.queue_steps.specs.Words.{IsWord, tail_of}
 use Rattle.queue_laws.specs.{Common.Puts.put, Ring.RingShared.Shared, Ring.RingTransitions.written, Ring.RingAt.FreeAt, Ring.RingAt.FullAt, Ring.RingWords.Codes, Ring.RingWords.stamp_in, Ring.RingWords.item_in}
-use Rattle.queue_laws.proofs.{Common.Puts.put_ok, Ring.RingCells.wraps, Ring.RingCells.together, Ring.RingTransitions.in_ring, Ring.RingWords.IsFreeCell, Ring.RingWords.is_free, Ring.RingWords.is_written, Ring.RingWords.IsFullCell, Ring.RingWords.is_full, Ring.RingWords.is_swapped, Ring.RingWords.stamp_is_free, Ring.RingWords.stamp_is_full, Ring.RingIdle.NobodyHolds, Ring.RingIdle.is_filled, Ring.RingIdle.is_vacant, Ring.RingStepOk.IsQuiet}
+use Rattle.queue_laws.proofs.{Common.Puts.put_ok, Ring.RingCells.wraps, Ring.RingCells.together, Ring.RingTransitions.in_ring, Ring.RingIdle.NobodyHolds, Ring.RingIdle.is_filled, Ring.RingIdle.is_vacant, Ring.RingStepOk.IsQuiet}
+use Rattle.queue_laws.proofs.Ring.RingWords.{IsFreeCell, is_free, is_written, IsFullCell, is_full, is_swapped, stamp_is_free, stamp_is_full}
 use Rattle.queue_laws.specs.Ring.RingCells.{Cell, Free, Written, Full, Read, Coming, Ring, CellOk, RingOk, HoldsNone}
 
 -- a slot with the stamp q, of a position that the tail has reached, is free for it, or the tail has moved on

@@ -1,7 +1,8 @@
 -- Where a call on a ring begins, which slot it touches, and what is coming behind a front.
 use Rattle.std.proofs.Common.{ℕ, ◌+◌, ◌%◌, ◌≡◌, ◌∙◌, Bool, Some, List, [], sym, ap}
 use Rattle.queue_steps.specs.{State.State, Kinds.call_kind, RingNext.ring_begin, Words.position_of}
-use Rattle.queue_laws.specs.{Common.Vocabulary.Call, Common.Vocabulary.PushKind, Common.Stand.Stand, Common.Operations.OnWord, Ring.RingShared.HasPlace, Ring.RingCells.Coming, Ring.RingCells.Ring, Ring.RingCells.CellOk, Ring.RingCells.RingOk, Ring.RingCells.owner, Ring.RingCells.HoldsNone, Common.Effects.IsBetween, Common.Effects.Touches}
+use Rattle.queue_laws.specs.{Common.Vocabulary.Call, Common.Vocabulary.PushKind, Common.Stand.Stand, Common.Operations.OnWord, Ring.RingShared.HasPlace, Common.Effects.IsBetween, Common.Effects.Touches}
+use Rattle.queue_laws.specs.Ring.RingCells.{Coming, Ring, CellOk, RingOk, owner, HoldsNone}
 use Rattle.queue_laws.proofs.Ring.{RingCells.wraps, RingLook.look_first, RingTransitions.in_ring}
 use Rattle.queue_laws.specs.Ring.RingAt.{At, push_tail, push_stamp, claiming, filling, push_head, displacing, arriving, swapping, spending, pop_head, pop_stamp, taking, emptying, pop_tail, count_tail, count_head, count_again, empty_head, empty_tail, full_tail, full_head, closing, closed_tail, Begun}
 

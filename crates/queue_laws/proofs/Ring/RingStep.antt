@@ -3,7 +3,8 @@ use Rattle.std.proofs.Common.{ℕ, Bool, List}
 use Rattle.queue_steps.specs.State.{State}
 use Rattle.queue_laws.specs.{Common.Stand.Stand, Ring.RingShared.Shared, Ring.RingCells.Ring, Ring.RingCells.RingOk, Ring.RingWords.Codes}
 use Rattle.queue_laws.specs.Ring.RingAt.{At, push_tail, push_stamp, claiming, filling, push_head, displacing, arriving, swapping, spending, pop_head, pop_stamp, taking, emptying, pop_tail, count_tail, count_head, count_again, empty_head, empty_tail, full_tail, full_head, closing, closed_tail}
-use Rattle.queue_laws.proofs.Ring.{RingStepOk.StepOk, RingPush.good_push_tail, RingPush.good_push_stamp, RingClaim.good_claiming, RingClaim.good_filling, RingClaim.good_push_head, RingClaim.good_spending, RingForce.good_displacing, RingForce.good_arriving, RingForce.good_swapping, RingPop.good_pop_head, RingPop.good_pop_stamp, RingPop.good_taking, RingPop.good_emptying, RingPop.good_pop_tail}
+use Rattle.queue_laws.proofs.Ring.{RingStepOk.StepOk, RingPush.good_push_tail, RingPush.good_push_stamp, RingClaim.good_claiming, RingClaim.good_filling, RingClaim.good_push_head, RingClaim.good_spending, RingForce.good_displacing, RingForce.good_arriving, RingForce.good_swapping}
+use Rattle.queue_laws.proofs.Ring.RingPop.{good_pop_head, good_pop_stamp, good_taking, good_emptying, good_pop_tail}
 use Rattle.queue_laws.proofs.Ring.RingLook.{good_count_tail, good_count_head, good_count_again, good_empty_head, good_empty_tail, good_full_tail, good_full_head, good_closing, good_closed_tail}
 
 -- each step of a call, wherever it stands, is a step of the queue

@@ -2,7 +2,9 @@
 use Rattle.std.proofs.Common.{ℕ, ◌+◌, ◌<◌, ◌≡◌, ◌≢◌, ◌==◌, ◌||◌, not, ◌∙◌, inr, Bool, true, false, Option, Some, None, List, [], ◌∷◌, refl, sym, ap, subst, bit_or}
 use Rattle.queue_steps.specs.{State.State, Kinds.filled, Next.CanNext, Next.next_of, WaitFree.is_wait_free, Replies.Tells, Replies.IsRightAt, Words.position_of, Words.is_shut, declared.steps.ring.RingLocal.RingLocal as ring}
 use Rattle.queue_laws.specs.Common.Vocabulary.{Call, Reply, Effect, Kind, Word, Op, Touch, Answer, Local, Next, MARK}
-use Rattle.queue_laws.specs.{Common.Moments.SeenIn, Common.Effects.Leads, Common.Effects.with_effect, Common.Effects.Whether, Common.Operations.op_word, Ring.RingShared.Shared, Ring.RingShared.HasWord, Ring.RingShared.CanTouch, Ring.RingShared.CanOperate, Ring.RingShared.answered, Ring.RingShared.operated, Ring.RingShared.touched, Ring.RingShared.handed, Ring.RingCells.Ring, Ring.RingCells.queue_of, Ring.RingCells.RingOk, Ring.RingCells.HoldsNone, Ring.RingPasses.Passes, Ring.RingWords.Codes, Ring.RingTransitions.marked, Ring.RingAt.SawTail, Ring.RingAt.At, Common.Stand.Stand, Common.Stand.stand}
+use Rattle.queue_laws.specs.{Common.Moments.SeenIn, Common.Effects.Leads, Common.Effects.with_effect, Common.Effects.Whether, Common.Operations.op_word, Ring.RingCells.Ring, Ring.RingCells.queue_of, Ring.RingCells.RingOk, Ring.RingCells.HoldsNone, Ring.RingPasses.Passes, Ring.RingWords.Codes}
+use Rattle.queue_laws.specs.{Ring.RingTransitions.marked, Ring.RingAt.SawTail, Ring.RingAt.At, Common.Stand.Stand, Common.Stand.stand}
+use Rattle.queue_laws.specs.Ring.RingShared.{Shared, HasWord, CanTouch, CanOperate, answered, operated, touched, handed}
 use Rattle.queue_laws.proofs.{Common.Operations.has_word, Ring.RingPasses.passes_same, Ring.RingPasses.passes_marked, Common.Tails.mark_tail, Ring.RingTransitions.mark_ok, Ring.RingHands.Shift, Ring.RingHands.Rests, Ring.RingRanks.rank}
 
 -- no other party holds a slot

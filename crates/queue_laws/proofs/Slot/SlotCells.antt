@@ -1,7 +1,8 @@
 -- Where a call on one slot stands, what a step of another party leaves of it, and that who has the lock has the slot.
 use Rattle.std.proofs.Common.{ℕ, ◌≡◌, ◌≢◌, ◌∙◌, Bool, Option, Some, None, List, [], ◌∷◌, refl, sym, ap, subst}
 use Rattle.std.proofs.lemmas.Bool.{eq-eqb}
-use Rattle.queue_laws.specs.{Common.Effects.IsBetween, Common.Effects.Touches, Common.Stand.Stand, Common.Operations.OnWord, Common.Vocabulary.Op, Slot.SlotShared.IsLock, Slot.SlotShared.CanOperate, Slot.SlotHolder.SlotHolder, Slot.SlotHolder.Nobody, Slot.SlotCells.Slot, Slot.SlotCells.own_in, Slot.SlotCells.Passes, Slot.SlotCells.lent_by, Slot.SlotCells.Lent, Slot.SlotCells.IsHeld}
+use Rattle.queue_laws.specs.{Common.Effects.IsBetween, Common.Effects.Touches, Common.Stand.Stand, Common.Operations.OnWord, Common.Vocabulary.Op, Slot.SlotShared.IsLock, Slot.SlotShared.CanOperate, Slot.SlotHolder.SlotHolder, Slot.SlotHolder.Nobody}
+use Rattle.queue_laws.specs.Slot.SlotCells.{Slot, own_in, Passes, lent_by, Lent, IsHeld}
 use Rattle.queue_laws.specs.Slot.SlotRows.{Codes, free_empty, free_full, At, push_try, push_put, force_put_empty, force_put_full, pop_take}
 
 pub nobody_if : {T : Type 0} (h : SlotHolder T) → [] ≡ lent_by h → h ≡ Nobody

@@ -1,7 +1,8 @@
 -- A step of one party leaves what the others have of the lock.
 use Rattle.std.proofs.Common.{ℕ, ◌≡◌, ◌≢◌, ◌==◌, ◌∙◌, inl, inr, Bool, true, false, if◌then◌else◌, refl, sym}
 use Rattle.std.proofs.lemmas.Bool.{eq-eqb, Decides.eqb_tells}
-use Rattle.queue_laws.specs.Slot.{SlotHolder.SlotHolder, SlotHolder.Nobody, SlotHolder.Filling, SlotHolder.Swapping, SlotHolder.Taking, SlotHolder.LockHolder, SlotHolder.own_of, SlotHolder.Idle, SlotRows.Share, SlotRows.idle, SlotRows.fills, SlotRows.swaps, SlotRows.takes, SlotRows.Passes, SlotRows.stays, SlotRows.changes}
+use Rattle.queue_laws.specs.Slot.SlotHolder.{SlotHolder, Nobody, Filling, Swapping, Taking, LockHolder, own_of, Idle}
+use Rattle.queue_laws.specs.Slot.SlotRows.{Share, idle, fills, swaps, takes, Passes, stays, changes}
 
 share_whole : {T : Type 0} (h : SlotHolder T) → Share h h
 share_whole Nobody = idle Nobody

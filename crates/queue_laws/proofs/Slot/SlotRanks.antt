@@ -1,7 +1,8 @@
 -- One slot: a solo call comes nearer to its reply, a wait-free call replies at once, and a step touches what is there.
 use Rattle.std.proofs.Common.{◌≡◌, ℕ, ◌<◌, ◌≤◌, ◌==◌, Bool, true, false, Option, List, if◌then◌else◌, refl, arith}
 use Rattle.queue_steps.specs.{Next.CanNext, Next.next_of, WaitFree.is_wait_free, SlotNext.is_marked, SlotNext.is_pushed, declared.steps.slot.SlotLocal.TheVariants.Pushing, declared.steps.slot.SlotLocal.TheVariants.Forcing, declared.steps.slot.SlotLocal.TheVariants.Popping}
-use Rattle.queue_laws.specs.{Common.Vocabulary.Kind, Common.Vocabulary.Look, Common.Vocabulary.Local, Common.Vocabulary.Next, Common.Stand.Stand, Slot.SlotShared.CanTouch, Slot.SlotShared.CanOperate, Slot.SlotShared.one_slot, Slot.SlotShared.answered, Slot.SlotShared.operated, Slot.SlotShared.touched, Slot.SlotHolder.SlotHolder}
+use Rattle.queue_laws.specs.{Common.Vocabulary.Kind, Common.Vocabulary.Look, Common.Vocabulary.Local, Common.Vocabulary.Next, Common.Stand.Stand, Slot.SlotHolder.SlotHolder}
+use Rattle.queue_laws.specs.Slot.SlotShared.{CanTouch, CanOperate, one_slot, answered, operated, touched}
 use Rattle.queue_laws.proofs.Common.Ranks.{either_small, either_some}
 use Rattle.queue_laws.specs.Slot.SlotRows.{Codes, free_empty, free_full, At, push_try, push_put, force_try_empty, force_try_full, force_put_empty, force_put_full, pop_try, pop_take, close_try, look_at}
 

@@ -1,6 +1,7 @@
 -- The chain after each step of a call, by what the step found, and what the call carries then.
 use Rattle.std.proofs.Common.{ℕ, ◌+◌, ◌/◌, ◌==◌, zero, suc, Bool, true, false, if◌then◌else◌, Option, Some, None, List}
-use Rattle.queue_laws.specs.{Common.Vocabulary.Answer, Common.Vocabulary.Local, Common.Vocabulary.Next, Common.Vocabulary.ChainLocal, Common.Vocabulary.BLOCK_SLOTS, Common.Stand.Stand, Chain.ChainFacts.head_of, Chain.ChainFacts.open_tail_of, Chain.ChainAnswers.tail_word, Chain.ChainAnswers.head_word, Chain.ChainAnswers.waits_at, Chain.ChainAnswers.is_done}
+use Rattle.queue_laws.specs.{Common.Stand.Stand, Chain.ChainFacts.head_of, Chain.ChainFacts.open_tail_of, Chain.ChainAnswers.tail_word, Chain.ChainAnswers.head_word, Chain.ChainAnswers.waits_at, Chain.ChainAnswers.is_done}
+use Rattle.queue_laws.specs.Common.Vocabulary.{Answer, Local, Next, ChainLocal, BLOCK_SLOTS}
 use Rattle.queue_steps.specs.{ChainWords.offset_of, State.State, declared.steps.chain.ChainLocal.ChainLocal as chain}
 use Rattle.queue_laws.specs.Chain.ChainCells.{Rests, Laying, Stands, Passing, Walker, Waits, Chain, item_at, Spare}
 use Rattle.queue_laws.specs.Chain.ChainTransitions.{appended, installed, taken, reads, walk_after, walked, displayed, laid_out, opened, chained, written, marked, renamed, passed, entered, given_up}

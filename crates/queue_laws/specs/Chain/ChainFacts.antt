@@ -1,6 +1,7 @@
 -- What a call on a chain carries between its steps: positions and words, names of blocks, and what was seen or claimed.
 use Rattle.std.proofs.Common.{ℕ, ◌+◌, ◌/◌, ◌*◌, ◌<◌, ◌≤◌, ◌≡◌, ◌⊎◌, Bool, true, false, Option, Some, None, List}
-use Rattle.queue_laws.specs.{Common.Vocabulary.LIMIT, Common.Vocabulary.BLOCK_SLOTS, Common.Moments.SeenIn, Common.Moments.IsStarted, Common.Moments.HasItems, Chain.ChainCells.Writing, Chain.ChainCells.Reading, Chain.ChainCells.Rests, Chain.ChainCells.Stands, Chain.ChainCells.Seen, Chain.ChainCells.Spare, Chain.ChainCells.Chain, Chain.ChainCells.value}
+use Rattle.queue_laws.specs.Common.{Vocabulary.LIMIT, Vocabulary.BLOCK_SLOTS, Moments.SeenIn, Moments.IsStarted, Moments.HasItems}
+use Rattle.queue_laws.specs.Chain.ChainCells.{Writing, Reading, Rests, Stands, Seen, Spare, Chain, value}
 use Rattle.queue_steps.specs.{State.State, Words.tail_of}
 
 -- the position of the item of this number, where no call moves over a block's end

@@ -1,6 +1,7 @@
 -- Short histories of a ring of two, what they settle into, and what does not hold.
 use Rattle.std.specs.Prelude.{◌≡◌, ℕ, ◌+◌, true, List, [], ◌∷◌, ◌++◌, Option, Some, Ok}
-use Rattle.queue_laws.specs.{Common.Vocabulary.Call, Common.Vocabulary.Reply, Common.Vocabulary.Effect, Moment.Moments.IsAtOnce, Moment.Moments.settled, Moment.Entries.KeepsFronts, Moment.Entries.own_of, Moment.Entries.state_before, Moment.Shared.numbered, Moment.Shared.settled_history, Moment.Shared.is_own, Moment.Orders.calls_of, Moment.Orders.replies_of, Moment.Orders.one_by_one}
+use Rattle.queue_laws.specs.{Common.Vocabulary.Call, Common.Vocabulary.Reply, Common.Vocabulary.Effect, Moment.Moments.IsAtOnce, Moment.Moments.settled, Moment.Entries.KeepsFronts, Moment.Entries.own_of, Moment.Entries.state_before, Moment.Shared.numbered, Moment.Shared.settled_history}
+use Rattle.queue_laws.specs.Moment.{Shared.is_own, Orders.calls_of, Orders.replies_of, Orders.one_by_one}
 use Rattle.queue_steps.specs.{Effect.IsHistory, Effect.after, Replies.Allows, Sequential.Owned, Sequential.fresh, Sequential.SequentialRun}
 
 -- the history of the ring that is filled by 1 and 2, and then goes through these effects

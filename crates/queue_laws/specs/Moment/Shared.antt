@@ -2,7 +2,8 @@
 use Rattle.std.specs.Prelude.{◌≡◌, ◌⊎◌, ℕ, ◌+◌, ◌<◌, ◌≤◌, ◌==◌, ◌&&◌, ◌||◌, nat_lt, nat_le, Bool, true, false, List, [], ◌∷◌, ◌++◌, length, Option, Some}
 use Rattle.std.specs.List.{AllByRecursion}
 use mathlib.Core.List.{IsPrefix}
-use Rattle.queue_laws.specs.{Common.Vocabulary.Call, Common.Vocabulary.Reply, Common.Vocabulary.Effect, Moment.Moments.IsAtOnce, Moment.Moments.IsGlance, Moment.Moments.arrived, Moment.Entries.Entry, Moment.Entries.effects_in, Moment.Entries.state_before, Moment.Entries.settle, Moment.Entries.own_of}
+use Rattle.queue_laws.specs.{Common.Vocabulary.Call, Common.Vocabulary.Reply, Common.Vocabulary.Effect, Moment.Moments.IsAtOnce, Moment.Moments.IsGlance, Moment.Moments.arrived}
+use Rattle.queue_laws.specs.Moment.Entries.{Entry, effects_in, state_before, settle, own_of}
 use Rattle.queue_steps.specs.{Effect.IsHistory, Effect.after, Replies.Allows, Replies.Tells, Parties.View, Parties.Between, Parties.SharedCall}
 
 -- the effects with their places: each is at the event of its place, and its own

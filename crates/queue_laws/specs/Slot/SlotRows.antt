@@ -1,8 +1,10 @@
 -- One slot: how the word and the slot stand for the queue, where each call stands, and what is owed of each step.
 use Rattle.std.specs.Prelude.{◌≡◌, ℕ, ◌==◌, Bool, true, false, Option, Some, None, List, [], ◌∷◌, bit_or}
-use Rattle.queue_steps.specs.{State.State, Kinds.filled, Next.next_of, Replies.IsRightAt, Replies.Tells, SlotNext.is_marked, Looks.call_of_look, declared.steps.slot.SlotLocal.TheVariants.Pushing, declared.steps.slot.SlotLocal.TheVariants.Pushed, declared.steps.slot.SlotLocal.TheVariants.Forcing, declared.steps.slot.SlotLocal.TheVariants.Forced, declared.steps.slot.SlotLocal.TheVariants.Popping, declared.steps.slot.SlotLocal.TheVariants.Popped, declared.steps.slot.SlotLocal.TheVariants.Closing, declared.steps.slot.SlotLocal.TheVariants.Looking, declared.steps.types.Word.TheVariants.Lock}
+use Rattle.queue_steps.specs.{State.State, Kinds.filled, Next.next_of, Replies.IsRightAt, Replies.Tells, SlotNext.is_marked, Looks.call_of_look, declared.steps.types.Word.TheVariants.Lock}
+use Rattle.queue_steps.specs.declared.steps.slot.SlotLocal.TheVariants.{Pushing, Pushed, Forcing, Forced, Popping, Popped, Closing, Looking}
 use Rattle.queue_laws.specs.Common.Vocabulary.{Call, Reply, Effect, Kind, Op, Touch, Answer, Look, Local, SlotLocal, PushKind, Next, LOCKED, PUSHED, CLOSED, UNLOCKED}
-use Rattle.queue_laws.specs.{Common.Moments.SeenIn, Common.Effects.Leads, Common.Effects.with_effect, Common.Effects.Whether, Common.Stand.Stand, Common.Stand.stand, Common.Stand.empty_handed, Common.Stand.brings, Slot.SlotShared.one_slot, Slot.SlotShared.answered, Slot.SlotShared.operated, Slot.SlotShared.touched, Slot.SlotShared.handed, Slot.SlotHolder.SlotHolder, Slot.SlotHolder.Nobody, Slot.SlotHolder.Filling, Slot.SlotHolder.Swapping, Slot.SlotHolder.Taking}
+use Rattle.queue_laws.specs.{Common.Moments.SeenIn, Common.Effects.Leads, Common.Effects.with_effect, Common.Effects.Whether, Common.Stand.Stand, Common.Stand.stand, Common.Stand.empty_handed, Common.Stand.brings, Slot.SlotShared.one_slot, Slot.SlotShared.answered, Slot.SlotShared.operated}
+use Rattle.queue_laws.specs.Slot.{SlotShared.touched, SlotShared.handed, SlotHolder.SlotHolder, SlotHolder.Nobody, SlotHolder.Filling, SlotHolder.Swapping, SlotHolder.Taking}
 
 -- the word, by its bits `LOCKED`, `PUSHED` and `CLOSED`
 abbrev pub code : Bool → Bool → Bool → ℕ
