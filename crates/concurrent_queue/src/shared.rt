@@ -35,6 +35,7 @@ use std::marker::{Model, PhantomData};
 use std::ops::ControlFlow;
 use std::sync::Wait;
 
+mod block_end;
 mod calling;
 mod count;
 mod giving_up;

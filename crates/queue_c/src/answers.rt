@@ -1,6 +1,6 @@
 //! What C gets for an answer.
 ghost use Rattle.std.specs.Prelude.{◌≡◌};
-ghost use Rattle.queue_c.specs.Answers.{yes_or_no, reply_number, reply_value, number_of, written};
+ghost use Rattle.queue_c.specs.Answers.{yes_or_no, push_number, pop_number, reply_number, reply_value, number_of, written};
 
 use queue_steps::errors::{ForcePushError, PopError, PushError};
 use queue_steps::model::Reply;
@@ -57,21 +57,37 @@ fn yes_or_no(yes: bool) -> u32
     if yes { YES } else { DONE }
 }
 
+fn push_number(pushed: Result<(), PushError<u64>>) -> u32
+    ensures { result ≡ push_number pushed }
+{
+    match pushed {
+        Ok(()) => DONE,
+        Err(PushError::Full(_)) => FULL,
+        Err(PushError::Closed(_)) => CLOSED,
+        Err(PushError::NoMemory(_)) => NO_MEMORY,
+    }
+}
+
+fn pop_number(popped: Result<u64, PopError>) -> u32
+    ensures { result ≡ pop_number popped }
+{
+    match popped {
+        Ok(_) => DONE,
+        Err(PopError::Empty) => EMPTY,
+        Err(PopError::Closed) => CLOSED,
+    }
+}
+
 fn reply_number(reply: Reply<u64>) -> u32
     ensures { result ≡ reply_number reply }
 {
     match reply {
-        Reply::Push(Ok(())) => DONE,
-        Reply::Push(Err(PushError::Full(_))) => FULL,
-        Reply::Push(Err(PushError::Closed(_))) => CLOSED,
-        Reply::Push(Err(PushError::NoMemory(_))) => NO_MEMORY,
+        Reply::Push(pushed) => push_number(pushed),
         Reply::ForcePush(Ok(None)) => DONE,
         Reply::ForcePush(Ok(Some(_))) => YES,
         Reply::ForcePush(Err(ForcePushError::Closed(_))) => CLOSED,
         Reply::ForcePush(Err(ForcePushError::NoMemory(_))) => NO_MEMORY,
-        Reply::Pop(Ok(_)) => DONE,
-        Reply::Pop(Err(PopError::Empty)) => EMPTY,
-        Reply::Pop(Err(PopError::Closed)) => CLOSED,
+        Reply::Pop(popped) => pop_number(popped),
         Reply::Close(yes) => yes_or_no(yes),
         Reply::IsClosed(yes) => yes_or_no(yes),
         Reply::IsEmpty(yes) => yes_or_no(yes),
@@ -111,6 +127,36 @@ impl Answer {
             Answer::Busy => BUSY,
             Answer::Idle => IDLE,
             Answer::NoParty => NO_PARTY,
+        }
+    }
+
+    /// The same of a call that is a push: its replies are told apart before all others, so the compiler knows where it stands.
+    #[inline(always)]
+    pub(crate) fn number_of_push(self) -> u32
+        ensures { result ≡ number_of self }
+    {
+        match self {
+            Answer::Reply(Reply::Push(pushed)) => push_number(pushed),
+            other => other.number(),
+        }
+    }
+
+    /// The same of a call that is a pop, whose item is written.
+    #[inline(always)]
+    pub(crate) fn number_of_pop(self, out: &mut u64) -> u32
+        ensures number { result ≡ number_of self }
+        ensures value { out.new ≡ written self out.old }
+    {
+        match self {
+            Answer::Reply(Reply::Pop(Ok(front))) => {
+                *out = front;
+                DONE
+            }
+            Answer::Reply(Reply::Pop(popped)) => pop_number(popped),
+            other => {
+                other.write(out);
+                other.number()
+            }
         }
     }
 

@@ -140,7 +140,9 @@ fn get<W>(alloc: Global, party: &mut Handle, call: Call<u64>, value: &mut u64) -
 pub extern "C" fn queue_c_push(alloc: Global, party: &mut Handle, value: u64) -> u32
     ensures { Asks (call.Push value) party.old.end result party.new.end }
 {
-    ask::<Pushes>(alloc, party, Call::Push(value))
+    party
+        .call::<Pushes>(alloc, Call::Push(value))
+        .number_of_push()
 }
 
 /// A push that displaces the front of a full queue, which it writes to `old`: then the answer is `YES`.
@@ -160,7 +162,7 @@ pub extern "C" fn queue_c_force_push(
 pub extern "C" fn queue_c_pop(alloc: Global, party: &mut Handle, value: &mut u64) -> u32
     ensures { Gets call.Pop party.old.end result value.old value.new party.new.end }
 {
-    get::<Pops>(alloc, party, Call::Pop, value)
+    party.call::<Pops>(alloc, Call::Pop).number_of_pop(value)
 }
 
 #[unsafe(no_mangle)]
