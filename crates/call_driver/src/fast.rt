@@ -152,30 +152,27 @@ pub type OfRing<W> = Fast<Fast<Fast<Fast<Fast<Rest<W>>>>>>;
 /// As many common steps as a call on one slot takes that meets no other call.
 pub type Short<W> = Fast<Fast<Fast<Rest<W>>>>;
 
-/// What tells the steps of a push apart from those of a pop.
-struct Push;
-
 /// The steps of a push that lays a block. The last is a common one.
-type Lays = AtStage<
+type Lays<W> = AtStage<
     PUSH_BLOCK,
     AtStage<
         ASKING,
-        AtStage<CLAIMING, AtStage<LAYING, AtStage<OPENING, AtStage<CHAINING, Fast<Rest<Push>>>>>>,
+        AtStage<CLAIMING, AtStage<LAYING, AtStage<OPENING, AtStage<CHAINING, Fast<Rest<W>>>>>>,
     >,
 >;
 
 /// The steps of a pop that comes to the next block.
-type Passes = AtStage<
+type Passes<W> = AtStage<
     TAKING,
     AtStage<
         FOLLOWING,
-        AtStage<PEEKING, AtStage<PASSING, AtStage<ENTERING, AtStage<AWAITING, Rest<()>>>>>,
+        AtStage<PEEKING, AtStage<PASSING, AtStage<ENTERING, AtStage<AWAITING, Rest<W>>>>>,
     >,
 >;
 
-/// The steps of a call that comes to a block's end. The compiler knows in those of each arm where the call stands, and drops them all where there are no blocks.
+/// The steps of a call that comes to a block's end. The compiler knows in those of each arm where the call stands, and drops them all where there are no blocks. `W` is the caller's.
 #[inline(always)]
-pub(crate) fn pass_block_end<M: Site, G: Gate>(
+pub fn pass_block_end<M: Site, G: Gate, W>(
     site: &M::Shared,
     gate: &G,
     kind: Kind,
@@ -191,9 +188,9 @@ pub(crate) fn pass_block_end<M: Site, G: Gate>(
     if !M::Steps::has_blocks() {
         ControlFlow::Continue(())
     } else if is_at(PUSH_BLOCK, &progress.local) {
-        <Lays as Row<M, G>>::run(site, gate, kind, call, seat, progress, carried)
+        <Lays<W> as Row<M, G>>::run(site, gate, kind, call, seat, progress, carried)
     } else if is_at(TAKING, &progress.local) {
-        <Passes as Row<M, G>>::run(site, gate, kind, call, seat, progress, carried)
+        <Passes<W> as Row<M, G>>::run(site, gate, kind, call, seat, progress, carried)
     } else {
         ControlFlow::Continue(())
     }

@@ -111,7 +111,7 @@ impl<M: Site, E: End<M> + Drop> End<M> for OverBlocks<E> {
     {
         let OverBlocks { then } = self;
         let mut progress = progress;
-        match pass_block_end::<M, G>(site, gate, kind, call, seat, &mut progress, carried) {
+        match pass_block_end::<M, G, E>(site, gate, kind, call, seat, &mut progress, carried) {
             ControlFlow::Break(reply) => reply,
             ControlFlow::Continue(()) => {
                 then.finish(site, gate, kind, call, seat, progress, carried)

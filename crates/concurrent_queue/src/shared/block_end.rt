@@ -1,70 +1,21 @@
 //! A call that does not wait, where a block ends: it takes those steps one after another, before it takes any in a loop.
-ghost use Rattle.std.specs.Prelude.{ℕ};
 ghost use Rattle.std.specs.ControlFlow.{MatchControlFlow};
 ghost use Rattle.queue_steps.specs.declared.model.Call.{Call as SpecCall};
-ghost use Rattle.call_driver.specs.OnWay.{IsUnderWay, StaysOnWay};
 ghost use Rattle.shared_calls.specs.Leaving.{IsLeft};
 ghost use Rattle.shared_calls.specs.Pausing.{IsPaused};
 
-use call_driver::fast::{AtStage, Fast, Rest, Row};
+use call_driver::fast::pass_block_end;
 use call_driver::gate::Open;
-use call_driver::progress::Progress;
 use call_driver::site::Site;
-use queue_steps::model::{CallKind, Reply, ReplyKind};
-use queue_steps::steps::Kind;
-use queue_steps::steps::stages::{
-    ASKING, AWAITING, CHAINING, CLAIMING, ENTERING, FOLLOWING, LAYING, OPENING, PASSING, PEEKING,
-    PUSH_BLOCK, TAKING, is_at,
-};
+use queue_steps::model::Reply;
 use shared_calls::left::Left;
 use shared_calls::pausing::carry_on;
 use std::ops::ControlFlow;
 
-/// What tells these steps from those of the calls that wait.
+/// What tells the steps of these calls from those of the calls that wait.
 struct Pauses;
 
-/// Those of a push that lays a block. The last is a common one.
-type Lays = AtStage<
-    PUSH_BLOCK,
-    AtStage<
-        ASKING,
-        AtStage<CLAIMING, AtStage<LAYING, AtStage<OPENING, AtStage<CHAINING, Fast<Rest<Pauses>>>>>>,
-    >,
->;
-
-/// Those of a pop that comes to the next block.
-type Passes = AtStage<
-    TAKING,
-    AtStage<
-        FOLLOWING,
-        AtStage<PEEKING, AtStage<PASSING, AtStage<ENTERING, AtStage<AWAITING, Rest<Pauses>>>>>,
-    >,
->;
-
-/// Takes the steps of the call that comes to a block's end, if it does.
-#[inline(always)]
-fn pass_block_end<M: Site>(
-    site: &M::Shared,
-    kind: Kind,
-    call: CallKind,
-    seat: &mut M::Seat,
-    progress: &mut Progress<M::Block>,
-    carried: &mut Option<M::Item>,
-) -> ControlFlow<ReplyKind>
-    requires kind { M.Steps.has_kind kind }
-    requires on_way { (n : ℕ) × IsUnderWay M.Site n kind call site.now progress.old carried.old seat.old }
-    ensures { StaysOnWay M.Site kind call site.now progress.old carried.old seat.old progress.new carried.new seat.new result }
-{
-    if is_at(PUSH_BLOCK, &progress.local) {
-        <Lays as Row<M, Open>>::run(site, &Open, kind, call, seat, progress, carried)
-    } else if is_at(TAKING, &progress.local) {
-        <Passes as Row<M, Open>>::run(site, &Open, kind, call, seat, progress, carried)
-    } else {
-        ControlFlow::Continue(())
-    }
-}
-
-/// The same of a call that has left its fast steps.
+/// Takes the steps of a call that comes to a block's end, if it does.
 #[inline(always)]
 fn leave_block_end<M: Site>(
     site: &M::Shared,
@@ -81,7 +32,9 @@ fn leave_block_end<M: Site>(
         mut progress,
         mut carried,
     } = left;
-    match pass_block_end::<M>(site, kind, call, seat, &mut progress, &mut carried) {
+    match pass_block_end::<M, Open, Pauses>(
+        site, &Open, kind, call, seat, &mut progress, &mut carried,
+    ) {
         ControlFlow::Break(reply) => ControlFlow::Break(Reply::fill(reply, carried)),
         ControlFlow::Continue(()) => ControlFlow::Continue(Left {
             kind,
