@@ -33,7 +33,13 @@ fn leave_block_end<M: Site>(
         mut carried,
     } = left;
     match pass_block_end::<M, Open, Pauses>(
-        site, &Open, kind, call, seat, &mut progress, &mut carried,
+        site,
+        &Open,
+        kind,
+        call,
+        seat,
+        &mut progress,
+        &mut carried,
     ) {
         ControlFlow::Break(reply) => ControlFlow::Break(Reply::fill(reply, carried)),
         ControlFlow::Continue(()) => ControlFlow::Continue(Left {
