@@ -100,3 +100,15 @@ module _ {T : Type 0} where
 
   pub empty_is_refused : IsRefused call.Pop (reply.Pop (Err pop.Empty))
   empty_is_refused es tells = tells
+
+  -- what comes after a refusal is the call
+  pub after_full : (u v w : PartyView T) (x y : T) (r : Reply T) → Calls u (call.Push x) (reply.Push (Err (push.Full y))) v → Calls v (call.Push y) r w → Calls u (call.Push x) r w
+  after_full u v w x y r refused called =
+      let tried = tried_more u u v _ _ (full_is_refused x y) refl (untried u.view) refused in
+      let same : y ≡ x = refused.1.tells.0 in
+      conforms_then u v w _ _ tried.0 tried.1 (rw same at called)
+
+  pub after_empty : (u v w : PartyView T) (r : Reply T) → Calls u call.Pop (reply.Pop (Err pop.Empty)) v → Calls v call.Pop r w → Calls u call.Pop r w
+  after_empty u v w r refused called =
+      let tried = tried_more u u v _ _ empty_is_refused refl (untried u.view) refused in
+      conforms_then u v w _ _ tried.0 tried.1 called

@@ -8,4 +8,4 @@ mod waiters;
 pub use errors::{Disconnected, SendError};
 pub use polled::{At, PolledPop, PolledPush};
 pub use waited::{ForcePushed, Items, OwesEnd, Popped, Pushed, Room, WaitedQueue};
-pub use waiters::{OwesAll, OwesOne, Waiters};
+pub use waiters::{OwesAll, OwesFuture, OwesOne, Waiters};

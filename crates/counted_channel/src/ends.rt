@@ -6,15 +6,15 @@ ghost use Rattle.queue_steps.specs.Shares.{IsEntire};
 ghost use Rattle.concurrent_queue.specs.Shared.{Calls, IsPartyOf, Joins, Finishes};
 ghost use Rattle.counted_channel.specs.Channel.{IsEndOf, ChannelCall, EndParts, EndJoins, Ends, GivenBack, sent, force_sent, received};
 
-use crate::calls::{Disconnected, SendError, WaitedQueue};
+use crate::calls::{Disconnected, Popped, Pushed, SendError, WaitedQueue};
 use crate::counting::Counts;
 use crate::either::ChannelEnd;
 use crate::sides::{Receiver, Sender};
-use crate::tries::{pop_until, push_until};
+use crate::tries::{wait_to_recv, wait_to_send};
 use crate::waiting::Awaited;
 use crate::waking::{force_push, pop, push};
 use concurrent_queue::{Exclusive, NullTestable, Party, PopError, PushError};
-use event_count::Never;
+use event_count::Look;
 use std::alloc::{Allocator, Global};
 use std::marker::Model;
 use std::sync::Wait;
@@ -101,12 +101,22 @@ impl<T, A: Allocator> Channel<T, A> {
         ensures { ChannelCall sender.old (call.Push value) (sent result) sender.new }
     {
         let party = &mut sender.party;
-        match push_until(&self.queue, &self.awaited, rt, party, value, &Never) {
-            Ok(()) => Ok(()),
-            Err(PushError::Closed(back)) => Err(SendError::Closed(back)),
-            Err(PushError::NoMemory(back)) => Err(SendError::NoMemory(back)),
-            Err(PushError::Full(_)) => unreachable!(),
+        let owed = match self.queue.push(rt, party, value, Look::Awake) {
+            Pushed::Done(owed) => owed,
+            Pushed::Full(back, vain) => {
+                vain.end();
+                return wait_to_send(&self.queue, &self.awaited, rt, party, back);
+            }
+            Pushed::Closed(back, owed) => {
+                self.awaited.notify_all(owed);
+                return Err(SendError::Closed(back));
+            }
+            Pushed::NoMemory(back) => return Err(SendError::NoMemory(back)),
+        };
+        if let Some(owed) = self.awaited.items.notify_thread(owed) {
+            owed.notify();
         }
+        Ok(())
     }
 
     /// Appends `value` where there is room. It is one push.
@@ -157,11 +167,18 @@ impl<T, A: Allocator> Channel<T, A> {
         ensures { ChannelCall receiver.old call.Pop (received result) receiver.new }
     {
         let party = &mut receiver.party;
-        match pop_until(&self.queue, &self.awaited, rt, party, &Never) {
-            Ok(item) => Ok(item),
-            Err(PopError::Closed) => Err(Disconnected),
-            Err(PopError::Empty) => unreachable!(),
+        let (item, owed) = match self.queue.pop(rt, party, Look::Awake) {
+            Popped::Item(item, owed) => (item, owed),
+            Popped::Empty(vain) => {
+                vain.end();
+                return wait_to_recv(&self.queue, &self.awaited, rt, party);
+            }
+            Popped::Closed => return Err(Disconnected),
+        };
+        if let Some(owed) = self.awaited.room.notify_thread(owed) {
+            owed.notify();
         }
+        Ok(item)
     }
 
     /// Takes the front off where there is one. It is one pop.

@@ -5,7 +5,7 @@ ghost use Rattle.counted_channel.specs.Channel.{IsEndOf, ChannelCall};
 
 use crate::ends::Channel;
 use crate::sides::{Receiver, Sender};
-use crate::tries::{pop_until, push_until};
+use crate::tries::{wait_to_pop, wait_to_push};
 use concurrent_queue::{NullTestable, PopError, PushError};
 use event_count::Until;
 use std::alloc::Allocator;
@@ -32,7 +32,7 @@ impl<T, A: Allocator> Channel<T, A> {
     {
         let until = Until::after(rt, timeout);
         let party = &mut sender.party;
-        push_until(&self.queue, &self.awaited, rt, party, value, &until)
+        wait_to_push(&self.queue, &self.awaited, rt, party, value, &until)
     }
 
     /// Takes the front off. It waits while the queue is open and empty, but for so long at most, by the clock of `rt`. A clock that cannot be read ends the wait.
@@ -51,6 +51,6 @@ impl<T, A: Allocator> Channel<T, A> {
     {
         let until = Until::after(rt, timeout);
         let party = &mut receiver.party;
-        pop_until(&self.queue, &self.awaited, rt, party, &until)
+        wait_to_pop(&self.queue, &self.awaited, rt, party, &until)
     }
 }

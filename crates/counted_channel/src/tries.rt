@@ -5,46 +5,21 @@ ghost use Rattle.queue_steps.specs.declared.errors.PushError.TheVariants as push
 ghost use Rattle.queue_steps.specs.declared.model.Call.TheVariants as call;
 ghost use Rattle.queue_steps.specs.declared.model.Reply.TheVariants as reply;
 ghost use Rattle.concurrent_queue.specs.Shared.{IsPartyOf, Calls};
+ghost use Rattle.counted_channel.specs.Channel.{sent, received};
 
-use crate::calls::{Popped, Pushed, WaitedQueue};
+use crate::calls::{Disconnected, Popped, Pushed, SendError, WaitedQueue};
 use crate::waiting::Awaited;
-use crate::waking::{pop, push};
 use concurrent_queue::{NullTestable, Party, PopError, PushError};
-use event_count::Deadline;
+use event_count::{Deadline, Never};
 use std::alloc::Allocator;
 use std::sync::Wait;
-
-/// Pushes `value`: at once where there is room, and else until the deadline at most.
-///
-/// # Errors
-///
-/// Those of a push, each with the value: `Full` only after the deadline.
-pub(crate) fn push_until<T, A: NullTestable, R: Wait, D: Deadline>(
-    queue: &WaitedQueue<T, A>,
-    awaited: &Awaited,
-    rt: &R,
-    party: &mut Party<T>,
-    value: T,
-    until: &D,
-) -> Result<(), PushError<T>>
-    requires { IsPartyOf party.old queue.now }
-    ensures called { Calls party.old (call.Push value) (reply.Push result) party.new }
-    ensures late { (back : T) → result ≡ Err (push.Full back) → D.can_pass until.now }
-{
-    match push(queue, awaited, rt, party, value) {
-        Err(PushError::Full(back)) => wait_to_push(queue, awaited, rt, party, back, until),
-        pushed => pushed,
-    }
-}
 
 /// Pushes `value`, again and again while the queue is full, until the deadline at most. After a few tries it sleeps between them, until there may be room.
 ///
 /// # Errors
 ///
 /// Those of a push, each with the value: `Full` only after the deadline.
-#[cold]
-#[inline(never)]
-fn wait_to_push<T, A: NullTestable, R: Wait, D: Deadline>(
+pub(crate) fn wait_to_push<T, A: NullTestable, R: Wait, D: Deadline>(
     queue: &WaitedQueue<T, A>,
     awaited: &Awaited,
     rt: &R,
@@ -80,25 +55,28 @@ fn wait_to_push<T, A: NullTestable, R: Wait, D: Deadline>(
     unreachable!()
 }
 
-/// Pops: at once where there is an item, and else until the deadline at most.
+/// Goes on with a send that has found no room.
 ///
 /// # Errors
 ///
-/// Those of a pop: `Empty` only after the deadline.
-pub(crate) fn pop_until<T, A: Allocator, R: Wait, D: Deadline>(
+/// Those of a send, each with the value.
+#[cold]
+#[inline(never)]
+pub(crate) fn wait_to_send<T, A: NullTestable, R: Wait>(
     queue: &WaitedQueue<T, A>,
     awaited: &Awaited,
     rt: &R,
     party: &mut Party<T>,
-    until: &D,
-) -> Result<T, PopError>
+    value: T,
+) -> Result<(), SendError<T>>
     requires { IsPartyOf party.old queue.now }
-    ensures called { Calls party.old call.Pop (reply.Pop result) party.new }
-    ensures late { result ≡ Err pop.Empty → D.can_pass until.now }
+    ensures { Calls party.old (call.Push value) (sent result) party.new }
 {
-    match pop(queue, awaited, rt, party) {
-        Err(PopError::Empty) => wait_to_pop(queue, awaited, rt, party, until),
-        popped => popped,
+    match wait_to_push(queue, awaited, rt, party, value, &Never) {
+        Ok(()) => Ok(()),
+        Err(PushError::Closed(back)) => Err(SendError::Closed(back)),
+        Err(PushError::NoMemory(back)) => Err(SendError::NoMemory(back)),
+        Err(PushError::Full(_)) => unreachable!(),
     }
 }
 
@@ -107,9 +85,7 @@ pub(crate) fn pop_until<T, A: Allocator, R: Wait, D: Deadline>(
 /// # Errors
 ///
 /// Those of a pop: `Empty` only after the deadline.
-#[cold]
-#[inline(never)]
-fn wait_to_pop<T, A: Allocator, R: Wait, D: Deadline>(
+pub(crate) fn wait_to_pop<T, A: Allocator, R: Wait, D: Deadline>(
     queue: &WaitedQueue<T, A>,
     awaited: &Awaited,
     rt: &R,
@@ -136,4 +112,27 @@ fn wait_to_pop<T, A: Allocator, R: Wait, D: Deadline>(
         }
     }
     unreachable!()
+}
+
+/// Goes on with a receive that has found no item.
+///
+/// # Errors
+///
+/// On a closed and empty queue.
+#[cold]
+#[inline(never)]
+pub(crate) fn wait_to_recv<T, A: Allocator, R: Wait>(
+    queue: &WaitedQueue<T, A>,
+    awaited: &Awaited,
+    rt: &R,
+    party: &mut Party<T>,
+) -> Result<T, Disconnected>
+    requires { IsPartyOf party.old queue.now }
+    ensures { Calls party.old call.Pop (received result) party.new }
+{
+    match wait_to_pop(queue, awaited, rt, party, &Never) {
+        Ok(item) => Ok(item),
+        Err(PopError::Closed) => Err(Disconnected),
+        Err(PopError::Empty) => unreachable!(),
+    }
 }

@@ -12,9 +12,15 @@ pub struct Waiters<C: Drop> {
     futures: Option<Arc<WakerList<C>>>,
 }
 
-/// The condition was made true for one that waits, and nobody was notified yet. Only [`Waiters::notify_one`] takes it.
+/// The condition was made true for one that waits, and nobody was notified yet. Only [`Waiters::notify_one`] and [`Waiters::notify_thread`] take it.
 pub struct OwesOne<C> {
     threads: event_count::OwesOne<C>,
+    futures: C,
+}
+
+/// Threads were notified, and futures not yet. Only [`OwesFuture::notify`] takes it.
+pub struct OwesFuture<'a, C: Drop> {
+    list: &'a Arc<WakerList<C>>,
     futures: C,
 }
 
@@ -43,6 +49,16 @@ impl<C: Drop> OwesAll<C> {
             threads: event_count::OwesAll::by(threads),
             futures,
         }
+    }
+}
+
+impl<C: Drop> OwesFuture<'_, C> {
+    /// Wakes one future of those that wait.
+    #[cold]
+    #[inline(never)]
+    pub fn notify(self) {
+        let OwesFuture { list, futures } = self;
+        list.notify_one(waker_list::OwesOne::by(futures));
     }
 }
 
@@ -79,13 +95,20 @@ impl<C: Drop> Waiters<C> {
         Arc::try_clone(list).ok()
     }
 
+    /// Wakes one thread of those that wait, and gives what is still owed to those that wait in futures, where they may.
+    #[inline(always)]
+    pub fn notify_thread(&self, owed: OwesOne<C>) -> Option<OwesFuture<'_, C>> {
+        let OwesOne { threads, futures } = owed;
+        self.threads.notify_one(threads);
+        let list = self.futures.as_ref()?;
+        Some(OwesFuture { list, futures })
+    }
+
     /// Wakes one thread and one future of those that wait.
     #[inline(always)]
     pub fn notify_one(&self, owed: OwesOne<C>) {
-        let OwesOne { threads, futures } = owed;
-        self.threads.notify_one(threads);
-        if let Some(list) = &self.futures {
-            list.notify_one(waker_list::OwesOne::by(futures));
+        if let Some(owed) = self.notify_thread(owed) {
+            owed.notify();
         }
     }
 
