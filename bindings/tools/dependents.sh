@@ -1,5 +1,8 @@
 # The tests of the crates that stand on concurrent-queue, over ours and over it. To be sourced; wants tools/library.sh and tools/build.sh.
 
+# How many seconds a crate's tests may take.
+limit=1800
+
 # SIDE: a folder whose crates come from Debian's packages, with the library's crate for concurrent-queue where the side is `ours`.
 make_side() {
     mkdir -p "$work/$1/.cargo"
@@ -46,7 +49,7 @@ run_tests() {
             exit 3
         fi
         cargo tree --offline --invert concurrent-queue --depth 0 --prefix none "$@" >"$work/$side.tree" 2>&1 || true
-        timeout 1800 cargo test --offline --release --no-fail-fast "$@" >"$work/$side.log" 2>&1
+        timeout "$limit" cargo test --offline --release --no-fail-fast "$@" >"$work/$side.log" 2>&1
     ) || status=$?
     [ "$status" = 3 ] && return 1
     # Where only the examples of its comments call the queue, no executable that is left has the library.

@@ -109,6 +109,7 @@ check_tests() {
     cd "$work/ours"
     check_refused "QUEUE_C is not set" env -u QUEUE_C cargo build --offline --release
     check_refused "which has no liblibc_c.a" env RATTLE_C="$work" cargo build --offline --release
+    check_refused "from x86-64-v2 on" cargo build --offline --release --target aarch64-unknown-linux-gnu
     check_refused "the feature \`loom\`" cargo build --offline --release --features loom
     for test in tests/*.rs; do
         file=$(basename "$test")
