@@ -3,7 +3,8 @@ use Rattle.std.proofs.Common.{◌≡◌, ℕ, ◌+◌, ◌≤◌, zero, suc, Boo
 use Rattle.std.proofs.lemmas.List.{length-set}
 use Rattle.queue_steps.specs.declared.steps.types.{Link.Link, Link.Link as link, Op.Op, Op.Op as op, Touch.Touch, Touch.Touch as touch, Word.Word, Word.Word as word}
 use Rattle.queue_laws.specs.Common.Operations.{op_word, op_makes}
-use Rattle.machine_memory.specs.{declared.blocks.BlockPlace.BlockPlace, Blocks.BlockState, Blocks.fresh_block, Blocks.block_of, Blocks.with_place, Blocks.with_next, Blocks.without, SharedMemory.MemoryState, SharedMemory.word_at, SharedMemory.put_word, SharedMemory.put_link, SharedMemory.put_at, SharedMemory.touched, SharedMemory.operated, Present.present}
+use Rattle.machine_memory.specs.{declared.blocks.BlockPlace.BlockPlace, Blocks.BlockState, Blocks.fresh_block, Blocks.block_of, Blocks.with_place, Blocks.with_next, Blocks.without, SharedMemory.MemoryState, SharedMemory.word_at, SharedMemory.put_word, SharedMemory.put_link, SharedMemory.put_at}
+use Rattle.machine_memory.specs.{SharedMemory.touched, SharedMemory.operated, Present.present}
 use Rattle.machine_memory.proofs.Busy.{one_if}
 
 -- where one of these gives way to one that is not more, there are not more

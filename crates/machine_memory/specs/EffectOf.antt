@@ -1,6 +1,7 @@
 -- What a step did to the queue, told from where its call stood and what its operation found.
 use Rattle.std.specs.Prelude.{ℕ, ◌+◌, ◌==◌, if◌then◌else◌, Option, Some, None}
-use Rattle.queue_steps.specs.{SlotNext.is_marked, Words.position_of, Words.is_shut, declared.steps.types.Answer.Answer, declared.steps.types.Answer.Answer as answer, declared.steps.types.Kind.Kind, declared.steps.types.Kind.Kind as kind, declared.steps.types.Local.Local, declared.steps.types.Local.Local as local, declared.steps.slot.SlotLocal.SlotLocal, declared.steps.slot.SlotLocal.SlotLocal as slot, declared.steps.ring.RingLocal.RingLocal, declared.steps.ring.RingLocal.RingLocal as ring, declared.steps.chain.ChainLocal.ChainLocal, declared.steps.chain.ChainLocal.ChainLocal as chain}
+use Rattle.queue_steps.specs.{SlotNext.is_marked, Words.position_of, Words.is_shut, declared.steps.types.Answer.Answer, declared.steps.types.Answer.Answer as answer, declared.steps.types.Kind.Kind, declared.steps.types.Kind.Kind as kind, declared.steps.types.Local.Local}
+use Rattle.queue_steps.specs.declared.steps.{types.Local.Local as local, slot.SlotLocal.SlotLocal, slot.SlotLocal.SlotLocal as slot, ring.RingLocal.RingLocal, ring.RingLocal.RingLocal as ring, chain.ChainLocal.ChainLocal, chain.ChainLocal.ChainLocal as chain}
 use Rattle.machine_memory.specs.declared.types.EffectKind.{EffectKind, EffectKind as effect}
 
 -- the effect of a step on one slot: the exchange that wins, and the close of an open queue

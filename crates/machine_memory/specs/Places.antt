@@ -1,6 +1,7 @@
 -- Where a call is: the label of its step, as docs/STEPS.md has it, and what it remembers.
 use Rattle.std.specs.Prelude.{ℕ, cond, List, [], ◌∷◌, codes, bytes_eq, ◌==◌, Option, Some, None}
-use Rattle.queue_steps.specs.declared.steps.{ring.PushKind.PushKind, ring.PushKind.PushKind as push, looks.CallView.CallView, looks.CallView.CallView as view, looks.Look.Look, looks.Look.Look as look, types.Local.Local, types.Local.Local as local, slot.SlotLocal.SlotLocal, slot.SlotLocal.SlotLocal as slot, ring.RingLocal.RingLocal, ring.RingLocal.RingLocal as ring, chain.ChainLocal.ChainLocal, chain.ChainLocal.ChainLocal as chain}
+use Rattle.queue_steps.specs.declared.steps.{ring.PushKind.PushKind, ring.PushKind.PushKind as push, looks.CallView.CallView, looks.CallView.CallView as view, looks.Look.Look, looks.Look.Look as look, types.Local.Local, types.Local.Local as local, slot.SlotLocal.SlotLocal}
+use Rattle.queue_steps.specs.declared.steps.{slot.SlotLocal.SlotLocal as slot, ring.RingLocal.RingLocal, ring.RingLocal.RingLocal as ring, chain.ChainLocal.ChainLocal, chain.ChainLocal.ChainLocal as chain}
 
 -- one slot
 abbrev pub slot_label : SlotLocal → List ℕ

@@ -1,7 +1,8 @@
 -- The list that a chain of blocks holds: what its calls in progress have claimed is done first.
 use Rattle.std.specs.Prelude.{ℕ, zero, suc, ◌==◌, if◌then◌else◌, Option, Some, None, List, [], ◌∷◌, ◌++◌, length, bit_and}
 use Rattle.std.specs.Option.{option_to_list}
-use Rattle.queue_steps.specs.{ChainWords.offset_of, declared.steps.types.Local.Local, declared.steps.types.Local.Local as local, declared.steps.types.Op.Op, declared.steps.types.Touch.Touch, declared.steps.types.Touch.Touch as touch, declared.steps.chain.TheConstants.READ, declared.steps.chain.ChainLocal.ChainLocal, declared.steps.chain.ChainLocal.ChainLocal as chain}
+use Rattle.queue_steps.specs.{ChainWords.offset_of, declared.steps.types.Local.Local, declared.steps.types.Local.Local as local, declared.steps.types.Op.Op, declared.steps.types.Touch.Touch, declared.steps.types.Touch.Touch as touch, declared.steps.chain.TheConstants.READ}
+use Rattle.queue_steps.specs.declared.steps.chain.ChainLocal.{ChainLocal, ChainLocal as chain}
 use Rattle.machine_memory.specs.{declared.blocks.BlockPlace.BlockPlace, declared.calls.Running.Running, Blocks.BlockState, Blocks.block_of, Blocks.places_in, Blocks.behind, Blocks.put_state, Blocks.put_item, Blocks.put_next, Blocks.without, SharedMemory.block_touched}
 
 -- a push that claimed the last slot of a block writes it, and links the block that it lays

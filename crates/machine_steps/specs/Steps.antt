@@ -1,6 +1,7 @@
 -- What one step of a call makes of the machine, and how a call begins.
 use Rattle.std.specs.Prelude.{ℕ, Bool, Option, Some, None, IsSome}
-use Rattle.queue_steps.specs.{declared.model.Call.Call, declared.model.Reply.Reply, Kinds.call_kind, Kinds.call_value, Kinds.filled, Next.CanNext, Next.next_of, Next.first_local, declared.steps.types.Answer.Answer, declared.steps.types.Answer.Answer as answer, declared.steps.types.Kind.Kind, declared.steps.types.Next.Next, declared.steps.types.Next.Next as next}
+use Rattle.queue_steps.specs.{declared.model.Call.Call, declared.model.Reply.Reply, Kinds.call_kind, Kinds.call_value, Kinds.filled, Next.CanNext, Next.next_of, Next.first_local, declared.steps.types.Answer.Answer, declared.steps.types.Answer.Answer as answer, declared.steps.types.Kind.Kind}
+use Rattle.queue_steps.specs.declared.steps.types.Next.{Next, Next as next}
 use Rattle.machine_memory.specs.{declared.calls.Running.Running, Blocks.without, EffectOf.effect_of}
 use Rattle.machine_memory.specs.SharedMemory.{MemoryState, CanOperate, answered, operated, block_touched, slots_there, CanTouch, touched, handed}
 use Rattle.machine_steps.specs.World.{StepOutcome, Begun}
