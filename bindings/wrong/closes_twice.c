@@ -1,4 +1,4 @@
-/* A wrong library: a second close answers YES, one time of 50. */
+/* A wrong library: a second close answers YES, one time of 50. Only histories show it. */
 #include "queue_c.h"
 #include <stdatomic.h>
 
