@@ -2,7 +2,8 @@
 use Rattle.std.specs.Prelude.{◌≡◌, ◌⊎◌, ℕ, ◌+◌, ◌<◌, ◌≤◌, ◌==◌, ◌&&◌, nat_lt, Bool, Option, Some, None, List, [], length, AllPairs}
 use Rattle.std.specs.List.{AllByRecursion}
 use Rattle.queue_steps.specs.{State.State, Effect.after}
-use Rattle.machine_replay.specs.{Vocabulary.Reply, Vocabulary.Event, Vocabulary.Replay, Book.Allows, Book.IsBegun, Conforms.Conforms, InCall.IsStepOf, InCall.IsInCall, Meaning.Entry, Meaning.effects_in, Meaning.state_after, Meaning.own_effects, Meaning.IsMoment, Meaning.EndsCall, Meaning.IsAnswer, Meaning.HasHistory}
+use Rattle.machine_replay.specs.{Vocabulary.Reply, Vocabulary.Event, Vocabulary.Replay, Book.Allows, Book.IsBegun, Conforms.Conforms, InCall.IsStepOf, InCall.IsInCall}
+use Rattle.machine_replay.specs.Meaning.{Entry, effects_in, state_after, own_effects, IsMoment, EndsCall, IsAnswer, HasHistory}
 use Rattle.queue_laws.specs.Moment.{Moments.IsAtOnce, Moments.IsGlance, Moments.arrived, Moments.settled, Entries.settle, Shared.StandsTogether}
 
 -- an effect stands between two steps of the call that its party is in
@@ -38,7 +39,8 @@ IsWhole cap events skipped replies H S y =
     × StandsTogether S (is_of_call y.1 ends.in_call.first y.0) (ends.in_call.first + 1) (y.0 + 1) (own_effects y.1 ends.in_call.first y.0 H)
 
 -- The history S, in which each displacement is one moment, is one of the same run as H: its effects are what those of H settle into, and it leaves what H leaves, once all has arrived; each effect stands
--- between two steps of the call that its party is in; each call that has ended has the same effects as in H, with nothing between them; each reply ends its call in S as it does in H, or is that of a glance at the middle of a displacement; each call that has not ended has a beginning of its effects in S.
+-- between two steps of the call that its party is in; each call that has ended has the same effects as in H, with nothing between them; each reply
+-- ends its call in S as it does in H, or is that of a glance at the middle of a displacement; each call that has not ended has a beginning of its effects in S.
 pub record HasMoments {T A : Type 0} (cap : Option ℕ) (events : List (Event T)) (r : Replay T A) (H S : List (Entry T)) : Type 0 where
   pub legal : IsAtOnce cap (effects_in S)
   pub effects : effects_in S ≡ settled (effects_in H) []

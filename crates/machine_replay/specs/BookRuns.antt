@@ -1,6 +1,7 @@
 -- What brought a machine where it is, as a reader's book has it: at each point of a run, and of the events that an explorer makes.
 use Rattle.std.specs.Prelude.{◌≡◌, ℕ, false, List}
-use Rattle.machine_replay.specs.{Vocabulary.Kind, Vocabulary.Event, Vocabulary.Told, Vocabulary.Running, declared.machine_run.MachineRun.MachineRun, Book.Book, Book.Run, Book.opening, Conforms.capacity_of, MachineRuns.IsMachineRun, Played.told_of, Played.world_after, Replays.CanReplay, Replays.is_too_large}
+use Rattle.machine_replay.specs.{declared.machine_run.MachineRun.MachineRun, Book.Book, Book.Run, Book.opening, Conforms.capacity_of, MachineRuns.IsMachineRun, Played.told_of, Played.world_after, Replays.CanReplay, Replays.is_too_large}
+use Rattle.machine_replay.specs.Vocabulary.{Kind, Event, Told, Running}
 use Rattle.machine_steps.specs.{Left.left_of, Left.opening_world, Machine.world_of, World.World}
 use Rattle.machine_memory.specs.SharedMemory.{MemoryState}
 

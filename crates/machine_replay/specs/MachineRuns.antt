@@ -1,6 +1,7 @@
 -- A run of the machine, one event after another: what brought it where it is, and what it leaves.
 use Rattle.std.specs.Prelude.{◌≡◌, ◌↔◌, ℕ, ◌+◌, ◌<◌, ◌≤◌, ◌^◌, Bool, false, IsTrue, List, [], ◌∷◌, ◌++◌, length}
-use Rattle.machine_replay.specs.{Vocabulary.Kind, Vocabulary.Event, Vocabulary.Told, Vocabulary.Peak, Vocabulary.Running, declared.machine_run.MachineRun.MachineRun, declared.machine_run.RunEnd.RunEnd, Book.Book, Book.Run, Book.opening, Conforms.HasNoBlocks, Conforms.IsPeak, Conforms.capacity_of, Conforms.entries_from, Conforms.reply_entry, Conforms.skipped_entry, InCall.IsInCall, Peaks.opening_peak, Peaks.peak_of, Peaks.peaked, Played.IsMade, Played.as_told, Replays.CanReplay, Replays.is_too_large}
+use Rattle.machine_replay.specs.{Vocabulary.Kind, Vocabulary.Event, Vocabulary.Told, Vocabulary.Peak, Vocabulary.Running, declared.machine_run.MachineRun.MachineRun, declared.machine_run.RunEnd.RunEnd, Book.Book, Book.Run, Book.opening, Conforms.HasNoBlocks, Conforms.IsPeak, Conforms.capacity_of}
+use Rattle.machine_replay.specs.{Conforms.entries_from, Conforms.reply_entry, Conforms.skipped_entry, InCall.IsInCall, Peaks.opening_peak, Peaks.peak_of, Peaks.peaked, Played.IsMade, Played.as_told, Replays.CanReplay, Replays.is_too_large}
 use Rattle.machine_memory.specs.{SharedMemory.MemoryState, Room.HasCount, Room.HasRoom}
 use Rattle.machine_steps.specs.{Left.left_of, Left.opening_world, Machine.event_of, Machine.world_of, World.World}
 

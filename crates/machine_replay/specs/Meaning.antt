@@ -2,7 +2,8 @@
 use Rattle.std.specs.Prelude.{◌≡◌, ◌⊎◌, ℕ, ◌+◌, ◌<◌, ◌≤◌, ◌==◌, ◌&&◌, nat_lt, false, Option, Some, None, List, [], ◌∷◌, length, AllPairs}
 use Rattle.std.specs.List.{AllByRecursion}
 use Rattle.queue_steps.specs.{State.State, Effect.IsHistory, Effect.after, Replies.IsRightAt, Replies.Tells}
-use Rattle.machine_replay.specs.{Vocabulary.Call, Vocabulary.Reply, Vocabulary.Effect, Vocabulary.Event, Vocabulary.EffectKind, Vocabulary.Replay, Vocabulary.Begin, Book.Allows, Book.IsBegun, Book.has_steps, Book.kind_of, Conforms.Conforms, InCall.HasRun, InCall.IsStepOf, InCall.IsUnanswered, InCall.IsInCall}
+use Rattle.machine_replay.specs.{Book.Allows, Book.IsBegun, Book.has_steps, Book.kind_of, Conforms.Conforms, InCall.HasRun, InCall.IsStepOf, InCall.IsUnanswered, InCall.IsInCall}
+use Rattle.machine_replay.specs.Vocabulary.{Call, Reply, Effect, Event, EffectKind, Replay, Begin}
 pub use Rattle.queue_laws.specs.Moment.Entries.{Entry, chosen, effects_in}
 
 -- the entries without the values of their effects

@@ -1,7 +1,8 @@
 -- What a replay says where the allocator refused nothing.
 use Rattle.std.specs.Prelude.{◌≡◌, ℕ, true, false, Some, List, slice_get}
 use Rattle.std.specs.List.{AllByRecursion}
-use Rattle.machine_replay.specs.{Vocabulary.Reply, Vocabulary.Kind, Vocabulary.Event, Vocabulary.Replay, Vocabulary.Step, Conforms.entries_from, Conforms.reply_entry, Conforms.effect_entry, Conforms.skipped_entry, Peaks.peak_of, Played.IsPlayed, Played.is_no_memory, Played.told_of, Played.world_after}
+use Rattle.machine_replay.specs.{Conforms.entries_from, Conforms.reply_entry, Conforms.effect_entry, Conforms.skipped_entry, Peaks.peak_of, Played.IsPlayed, Played.is_no_memory, Played.told_of, Played.world_after}
+use Rattle.machine_replay.specs.Vocabulary.{Reply, Kind, Event, Replay, Step}
 use Rattle.machine_steps.specs.Left.{left_of, opening_world}
 
 -- if the reply is of want of memory, it is to a step that its event refuses

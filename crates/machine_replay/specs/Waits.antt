@@ -1,6 +1,7 @@
 -- Who waits for whom, step by step: a call that goes back at its next step, or by two in a row with no other's between, with the word as it read it, does so beside a call that is half done, or that is to show a chain's first block.
 use Rattle.std.specs.Prelude.{◌≡◌, ◌≢◌, ℕ, true, Option, Some, None, List, false, [], ◌∷◌, ◌<◌, count_by}
-use Rattle.queue_steps.specs.{SlotNext.unlocked, Words.IsRing, declared.steps.ring.RingLocal.RingLocal as ring, declared.steps.slot.SlotLocal.TheVariants.Pushing, declared.steps.slot.SlotLocal.TheVariants.Pushed, declared.steps.slot.SlotLocal.TheVariants.Forcing, declared.steps.slot.SlotLocal.TheVariants.Forced, declared.steps.slot.SlotLocal.TheVariants.Popping, declared.steps.slot.SlotLocal.TheVariants.Popped, declared.steps.slot.SlotLocal.TheVariants.Looking, declared.steps.chain.ChainLocal.ChainLocal as chain}
+use Rattle.queue_steps.specs.{SlotNext.unlocked, Words.IsRing, declared.steps.ring.RingLocal.RingLocal as ring, declared.steps.chain.ChainLocal.ChainLocal as chain}
+use Rattle.queue_steps.specs.declared.steps.slot.SlotLocal.TheVariants.{Pushing, Pushed, Forcing, Forced, Popping, Popped, Looking}
 use Rattle.machine_replay.specs.{Vocabulary.Kind, Vocabulary.Local, Vocabulary.PushKind, Vocabulary.Event, Vocabulary.Running, Played.told_of, Played.world_after, Progress.IsNotAnswered, Progress.IsToShow, Replays.CanReplay, Replays.is_too_large, Within.is_step_of}
 use Rattle.machine_steps.specs.{Left.opening_world, Steps.step_of, World.World, World.call_at, Machine.event_of}
 use Rattle.machine_memory.specs.SharedMemory.{MemoryState}

@@ -200,7 +200,8 @@ module _ {A : Type 0} (c : Chain A) (who : ℕ) (ms : List (State A)) (ok : Bool
     codes = λ fine gives. codes_left who (chain_next (chain.CountHead l t) (Answer.Found s.head)) fine gives codes;
   }
 
-  pub coded_count_again : (l : Look) (t h : ℕ) (count : IsCount A l) (none : HoldsOnly c who Nothing) (small : IsWord t × IsWord h) (seen : SeenIn ms (HeadWas None (items_before (position_of h)) (items_before (position_of t)) c.tail)) → ChainOk c → CodesShared s c → Coded c who ms ok s (count_again l t h count none small seen)
+  pub coded_count_again : (l : Look) (t h : ℕ) (count : IsCount A l) (none : HoldsOnly c who Nothing) (small : IsWord t × IsWord h)
+      (seen : SeenIn ms (HeadWas None (items_before (position_of h)) (items_before (position_of t)) c.tail)) → ChainOk c → CodesShared s c → Coded c who ms ok s (count_again l t h count none small seen)
   coded_count_again l t h count none small seen right codes = record {
     touches = tt;
     operates = tt;

@@ -4,12 +4,14 @@ use Rattle.std.proofs.lemmas.{List.length-set, Bool.Decides.eqb_tells}
 use Rattle.machine_replay.specs.Vocabulary.{Answer, Next, PushKind, LIMIT, BLOCK_SLOTS, TAIL_STEP, WRITE}
 use Rattle.queue_steps.specs.{State.State, ChainWords.offset_of, ChainNext.chain_next, ChainNext.chain_tail_found, declared.steps.chain.ChainLocal.ChainLocal as chain}
 use Rattle.queue_laws.specs.Chain.ChainCells.{Done, Rests, Laying, Opening, Linking, Showing, Spare, Chain, ChainOk, Write, Tail, Next as Behind, First, HoldsOnly, Nothing, item_at}
-use Rattle.queue_laws.specs.Chain.{ChainFacts.open_tail_of, ChainFacts.IsNamed, ChainFacts.TailBlockIs, ChainFacts.HasSpare, ChainFacts.SawTail, ChainFacts.Claimed, ChainAnswers.tail_word, ChainAnswers.last_of, ChainAnswers.is_done, ChainAfter.left_by, ChainAfter.if_installed, ChainAfter.claimed_if, ChainAfter.if_claimed, ChainTransitions.appended}
+use Rattle.queue_laws.specs.Chain.{ChainAnswers.tail_word, ChainAnswers.last_of, ChainAnswers.is_done, ChainAfter.left_by, ChainAfter.if_installed, ChainAfter.claimed_if, ChainAfter.if_claimed, ChainTransitions.appended}
+use Rattle.queue_laws.specs.Chain.ChainFacts.{open_tail_of, IsNamed, TailBlockIs, HasSpare, SawTail, Claimed}
 use Rattle.queue_laws.proofs.Chain.{ChainAnswers.tail_small, ChainAnswers.same_tail, ChainRight.Gives, ChainReads.not_given_up}
 use prog.Atomic.{either}
 use Rattle.machine_memory.specs.{Blocks.without, Blocks.blank, Blocks.places_in, Blocks.state_of, Blocks.put_state, Blocks.put_item, SharedMemory.MemoryState, SharedMemory.installed}
 use Rattle.machine_steps.specs.Steps.{spare_in}
-use Rattle.machine_replay.proofs.Chain.{Codes.lies, Names.Codes, Names.Changed, Blocks.placed, Blocks.place_in, Blocks.item_put, Blocks.next_put, Blocks.state_left, Blocks.both_put, Gives.codes_left, Gives.block_at, Gives.has_place, Gives.state_answers, Coded.CodesShared, Coded.Coded, CodesPush.codes_marked, CodesPush.codes_granted, CodesPush.codes_installed, CodesPush.codes_displayed, CodesPush.codes_appended, CodesPush.codes_laid_out, CodesPush.codes_opened, CodesAt.unread_item, CodesAt.codes_chained, CodesAt.codes_written}
+use Rattle.machine_replay.proofs.Chain.{Codes.lies, Names.Codes, Names.Changed, Blocks.placed, Blocks.place_in, Blocks.item_put, Blocks.next_put, Blocks.state_left, Blocks.both_put, Gives.codes_left, Gives.block_at, Gives.has_place, Gives.state_answers, Coded.CodesShared, Coded.Coded}
+use Rattle.machine_replay.proofs.Chain.{CodesPush.codes_marked, CodesPush.codes_granted, CodesPush.codes_installed, CodesPush.codes_displayed, CodesPush.codes_appended, CodesPush.codes_laid_out, CodesPush.codes_opened, CodesAt.unread_item, CodesAt.codes_chained, CodesAt.codes_written}
 use Rattle.queue_laws.specs.Chain.ChainTransitions as moves
 use Rattle.queue_laws.specs.Chain.ChainAt.{Only, Either, IsLast, Asks, push_tail, push_block, asking, installing, showing, claiming, laying, opening, chaining, writing, spending}
 
@@ -135,7 +137,8 @@ module _ {A : Type 0} (c : Chain A) (who : ℕ) (ms : List (State A)) (ok : Bool
   }
 
   -- U7: the tail moves on to the next block
-  pub coded_opening : (d : PushKind) (v : A) (n name f : ℕ) (holds : HoldsOnly c who (λ x. (x ≡ Write n) ⊎ (x ≡ Tail) ⊎ (x ≡ Behind (n / BLOCK_SLOTS)))) (mine : Claimed c who n v name) (opens : (c.mover ≡ Opening who) × (c.tail ≡ n + 1)) (links : c.links (n / BLOCK_SLOTS) ≡ Linking who) (named : IsNamed c (n / BLOCK_SLOTS + 1) f)
+  pub coded_opening : (d : PushKind) (v : A) (n name f : ℕ) (holds : HoldsOnly c who (λ x. (x ≡ Write n) ⊎ (x ≡ Tail) ⊎ (x ≡ Behind (n / BLOCK_SLOTS))))
+      (mine : Claimed c who n v name) (opens : (c.mover ≡ Opening who) × (c.tail ≡ n + 1)) (links : c.links (n / BLOCK_SLOTS) ≡ Linking who) (named : IsNamed c (n / BLOCK_SLOTS + 1) f)
       → ChainOk c → CodesShared s c → Coded c who ms ok s (opening d v n name f holds mine opens links named)
   coded_opening d v n name f holds mine opens links named right codes = record {
     touches = tt;

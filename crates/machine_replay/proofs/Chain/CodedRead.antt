@@ -4,10 +4,12 @@ use Rattle.std.proofs.{lemmas.List.length-set, lemmas.Bool.le-ltb, lemmas.Bool.l
 use Rattle.machine_replay.specs.Vocabulary.{Reply, Word, Op, Touch, Answer, Next, BLOCK_SLOTS, READ, DESTROY}
 use Rattle.queue_steps.specs.{State.State, ChainWords.offset_of, ChainNext.at, ChainNext.walks, ChainNext.walks_on, declared.steps.chain.ChainLocal.ChainLocal as chain}
 use Rattle.queue_laws.specs.Chain.ChainCells.{Wrote, Reading, Done, Walker, Waits, GivenUp, Chain, ChainOk, Read, Passed, HoldsOnly, item_at, LAST, Walk, Before, Chained, WalkOk}
-use Rattle.queue_laws.specs.Chain.{ChainFacts.head_of, ChainFacts.IsNamed, ChainFacts.Got, ChainAfter.left_by, ChainTransitions.walk_after, ChainTransitions.reads, ChainTransitions.walked, ChainAnswers.is_done, ChainAnswers.waits_at, ChainAnswers.IsState, ChainAnswers.StateAnswers, ChainAt.Only, ChainAt.IsLast, ChainAt.reading, ChainAt.beginning, ChainAt.walking, ChainAt.destroying}
+use Rattle.queue_laws.specs.Chain.{ChainFacts.head_of, ChainFacts.IsNamed, ChainFacts.Got, ChainAfter.left_by, ChainTransitions.walk_after, ChainTransitions.reads, ChainTransitions.walked, ChainAnswers.is_done, ChainAnswers.waits_at, ChainAnswers.IsState, ChainAnswers.StateAnswers}
+use Rattle.queue_laws.specs.Chain.ChainAt.{Only, IsLast, reading, beginning, walking, destroying}
 use Rattle.machine_memory.specs.{Blocks.place_count, Blocks.BlockState, Blocks.without, Blocks.blank, Blocks.places_in, Blocks.state_of, Blocks.put_item, Blocks.put_state, SharedMemory.MemoryState, declared.blocks.BlockPlace.BlockPlace}
 use Rattle.machine_steps.specs.Steps.{spare_in}
-use Rattle.machine_replay.proofs.Chain.{Names.Codes, Names.Changed, Gives.block_at, Gives.has_place, Gives.state_answers, Coded.CodesShared, Coded.Coded, Codes.BlockIs, Codes.lies, Fresh.unwalked, Bits.state_waits, Bits.state_passed, CodesWalk.Left, CodesWalk.codes_read, CodesWalk.codes_walked, CodesWalk.after_waits, CodesWalk.codes_given_block}
+use Rattle.machine_replay.proofs.Chain.{Names.Codes, Names.Changed, Gives.block_at, Gives.has_place, Gives.state_answers, Coded.CodesShared, Coded.Coded, Codes.BlockIs, Codes.lies, Fresh.unwalked, Bits.state_waits, Bits.state_passed}
+use Rattle.machine_replay.proofs.Chain.CodesWalk.{Left, codes_read, codes_walked, after_waits, codes_given_block}
 use Rattle.machine_replay.proofs.Chain.Blocks.{there, place_in, item_put, state_put, state_is, state_left, both_put, placed_same, placed, changed_twice, changed_set, changed_none}
 use Rattle.queue_laws.proofs.{Common.Puts.put_same, Chain.ChainAnswers.done_is, Chain.ChainAnswers.head_offset, Chain.ChainRead.waits_is, Chain.ChainWalk.after_walker, Chain.ChainReads.not_given_up}
 

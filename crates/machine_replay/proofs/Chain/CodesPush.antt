@@ -3,7 +3,8 @@ use Rattle.std.proofs.Common.{ℕ, ◌+◌, ◌-◌, ◌%◌, ◌<◌, ◌≤◌
 use Rattle.std.proofs.{lemmas.List.get_or_append_left, lemmas.List.get_or_past, lemmas.List.length-append, Math.Seq.get_or-append_seam, lemmas.Bool.cases_lt}
 use Rattle.machine_replay.specs.Vocabulary.{BLOCK_SLOTS, MARK, TAIL_STEP}
 use Rattle.queue_steps.specs.Words.{tail_of}
-use Rattle.queue_laws.specs.{Common.Puts.put, Chain.ChainFacts.place, Chain.ChainFacts.open_tail_of, Chain.ChainFacts.IsNamed, Chain.ChainTransitions.appended, Chain.ChainTransitions.installed, Chain.ChainTransitions.displayed, Chain.ChainTransitions.laid_out, Chain.ChainTransitions.opened, Chain.ChainTransitions.marked, Chain.ChainTransitions.renamed, Chain.ChainAnswers.tail_place, Chain.ChainAnswers.shown_of, Chain.ChainAnswers.linked_of}
+use Rattle.queue_laws.specs.{Common.Puts.put, Chain.ChainFacts.place, Chain.ChainFacts.open_tail_of, Chain.ChainFacts.IsNamed, Chain.ChainAnswers.tail_place, Chain.ChainAnswers.shown_of, Chain.ChainAnswers.linked_of}
+use Rattle.queue_laws.specs.Chain.ChainTransitions.{appended, installed, displayed, laid_out, opened, marked, renamed}
 use Rattle.queue_laws.proofs.{Common.Puts.put_ok, Common.Puts.put_other, Common.Puts.put_same, Common.Tails.mark_tail, Common.Tails.next_tail, Chain.ChainTransitions.next_free, Chain.ChainTransitions.no_front}
 use Rattle.queue_laws.specs.Chain.ChainCells.{Writing, Mover, Rests, Laying, Opening, LinkState, Linking, Linked, Shown, Showing, Seen, Unused, Spare, Chained, Chain, BlocksOk, LinkOk, ShownOk, ChainOk, item_at}
 use Rattle.machine_memory.specs.Blocks.{BlockState, fresh_block}

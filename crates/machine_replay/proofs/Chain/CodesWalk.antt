@@ -2,7 +2,8 @@
 use Rattle.std.proofs.Common.{ℕ, ◌+◌, ◌/◌, ◌<◌, ◌≡◌, ◌≢◌, ◌∙◌, ◌⊎◌, inl, inr, false, Option, Some, None, List, refl, sym, ap, subst, arith, get_or, set, bit_or}
 use Rattle.std.proofs.lemmas.Bool.Decides.{eqb_tells}
 use Rattle.machine_replay.specs.Vocabulary.{BLOCK_SLOTS, READ}
-use Rattle.queue_laws.specs.{Common.Puts.put, Chain.ChainTransitions.reads, Chain.ChainTransitions.walked, Chain.ChainTransitions.walk_after, Chain.ChainTransitions.given_up, Chain.ChainTransitions.lost_of, Chain.ChainFacts.IsNamed, Chain.ChainAnswers.is_done, Chain.ChainAnswers.waits_at, Chain.ChainAnswers.IsState}
+use Rattle.queue_laws.specs.{Common.Puts.put, Chain.ChainFacts.IsNamed, Chain.ChainAnswers.is_done, Chain.ChainAnswers.waits_at, Chain.ChainAnswers.IsState}
+use Rattle.queue_laws.specs.Chain.ChainTransitions.{reads, walked, walk_after, given_up, lost_of}
 use Rattle.queue_laws.proofs.Common.Puts.{put_ok, put_other, put_same}
 use Rattle.queue_laws.specs.Chain.ChainCells.{Done, Walk, GivenUp, Unused, Spare, Chained, Chain, ChainOk, item_at, LAST}
 use Rattle.machine_memory.specs.{declared.blocks.BlockPlace.BlockPlace, Blocks.BlockState, Blocks.blank}

@@ -1,11 +1,14 @@
 -- A chain from its opening on: a call that nobody hinders replies by its seventy-third step, also where the first block is not shown yet.
-use Rattle.std.proofs.Common.{ℕ, ◌+◌, ◌<◌, ◌≡◌, ◌≢◌, ◌⊎◌, inl, inr, ◌∙◌, Bool, true, false, Option, Some, None, IsSome, List, [], ◌∷◌, refl, sym, ap, subst, arith}
+use Rattle.std.proofs.Common.{ℕ, ◌+◌, ◌<◌, ◌≡◌, ◌⊎◌, inl, inr, ◌∙◌, Bool, true, false, Option, Some, None, IsSome, List, [], ◌∷◌, refl, sym, ap, subst, arith}
 use Rattle.std.proofs.lemmas.Bool.Decides.{eqb_tells}
 use Rattle.machine_replay.specs.{Vocabulary.Kind, Vocabulary.Answer, Vocabulary.Local, Vocabulary.Next, Vocabulary.BLOCK_SLOTS, Vocabulary.Running, Book.Open, Progress.Standing, Progress.IsToShow, Progress.NobodyShows, Progress.UnhinderedWithin}
 use Rattle.queue_steps.specs.{State.State, Next.next_of, Words.position_of, declared.steps.chain.ChainLocal.ChainLocal as chain}
 use Rattle.queue_laws.specs.{Common.Effects.with_effect, Common.Stand.Stand, Chain.ChainAfter.after_of, Chain.ChainAfter.left_by, Chain.ChainAnswers.tail_word, Chain.ChainAnswers.shown_of}
-use Rattle.machine_replay.proofs.{Engine.StandOf.running_of, Chain.Pops.is_pop, Chain.Pops.by_call, Chain.Pops.goes_as, Chain.Fits.ChainFits, Chain.Holding.ChainHolds, Chain.Laws.StepStands, Chain.Laws.chain_then, Chain.Laws.next_on, Chain.Stands.steps_stand, Chain.Stretch.chain_rules, Chain.Stretch.not_empty, Chain.Stretch.ready_on, Chain.Stretch.words_stay, Chain.Waits.holds_at, Chain.Waits.holder, Chain.Waits.unseen_if, Progress.Stretch.Paces, Progress.Stretch.Turns, Progress.Stretch.Here, Progress.Stretch.party-open, Progress.Stretch.unhindered}
-use Rattle.queue_laws.specs.Chain.ChainAt.{At, Only, push_tail, push_block, asking, installing, showing, claiming, spending, pop_head, pop_block, pop_tail, taking, following, peeking, passing, entering, awaiting, reading, beginning, walking, destroying, count_tail, count_head, count_again, empty_head, empty_tail, closing, closed_tail}
+use Rattle.machine_replay.proofs.{Engine.StandOf.running_of, Chain.Pops.is_pop, Chain.Pops.by_call, Chain.Pops.goes_as, Chain.Fits.ChainFits, Chain.Holding.ChainHolds, Chain.Laws.StepStands, Chain.Laws.chain_then, Chain.Laws.next_on, Chain.Stands.steps_stand, Chain.Stretch.chain_rules}
+use Rattle.machine_replay.proofs.Chain.{Stretch.not_empty, Stretch.ready_on, Stretch.words_stay, Waits.holds_at, Waits.holder, Waits.unseen_if}
+use Rattle.machine_replay.proofs.Progress.Stretch.{Paces, Turns, Here, party-open, unhindered}
+use Rattle.queue_laws.specs.Chain.ChainAt.{At, Only, push_tail, push_block, asking, installing, showing, claiming, spending, pop_head, pop_block, pop_tail, taking, following, peeking, passing, entering, awaiting, reading, beginning, walking, destroying, count_tail, count_head, count_again}
+use Rattle.queue_laws.specs.Chain.ChainAt.{empty_head, empty_tail, closing, closed_tail}
 use Rattle.queue_laws.specs.Chain.ChainCells.{Shown, Hidden, Showing, Seen, Chain, ShownOk, First, shower_of, HoldsOnly, queue_of}
 use Rattle.queue_laws.proofs.Chain.ChainRanks.{is_seen, rank, rank_at, rank_small, rank_some, Falls, IsBare}
 use Rattle.queue_laws.proofs.Chain.{ChainRanksPush.first_place, ChainRanksStep.IsReady, ChainRanksStep.step_falls, ChainRight.NextOkSpares, ChainRight.step_right, ChainStep.is_chain}
@@ -22,6 +25,9 @@ ready_at : {A : Type 0} (c : Chain A) (l : Local ℕ) → (is_pop l ≡ true →
 unfolding is_pop
 ready_at c (Local.Chain (chain.PopBlock head)) ready = ready refl
 ready_at c _ ready = tt
+
+not_pop : false ≡ true → ⊥
+not_pop e = cc
 
 -- a step of a pop leaves the tail
 pop_leaves : {A : Type 0} {c : Chain A} {who : ℕ} {ms : List (State A)} {k : Stand A} (ok : Bool) (s : MemoryState A) → At c who ms k → is_pop k.local ≡ true
@@ -40,7 +46,7 @@ pop_leaves ok s (reading x n name more holds got wrote inner) pop = refl
 pop_leaves ok s (beginning x n name more holds got wrote last) pop = refl
 pop_leaves ok s (walking x b name slot holds is named) pop = refl
 pop_leaves ok s (destroying x b name slot holds is named) pop = refl
-pop_leaves ok s _ pop = cc
+pop_leaves ok s _ pop = absurd (not_pop pop)
 
 -- a call that has had no effect has no part but the first block, which it is to show
 has_bare : {A : Type 0} {c : Chain A} {who : ℕ} {ms : List (State A)} {k : Stand A} → At c who ms k → k.effects ≡ [] → HoldsOnly c who (Only First)
@@ -67,7 +73,7 @@ has_bare _ e = absurd (not_empty _ _ e)
 -- a call that is to show the first block is no pop
 shows_no_pop : (l : Local ℕ) → IsToShow l → is_pop l ≡ true → ⊥
 unfolding is_pop
-shows_no_pop (Local.Chain (chain.Showing d tail block)) such pop = cc
+shows_no_pop (Local.Chain (chain.Showing d tail block)) such pop = not_pop pop
 shows_no_pop _ such pop = such
 
 not_none : (x : Option ℕ) → x ≡ None → IsSome x → ⊥

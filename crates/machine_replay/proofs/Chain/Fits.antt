@@ -2,9 +2,12 @@
 use Rattle.std.proofs.Common.{ℕ, ◌≡◌, ◌≢◌, true, Option, None, List, [], ◌∷◌, sym, subst, arith}
 use Rattle.queue_steps.specs.{State.State, Kinds.call_kind, Kinds.call_value, ChainNext.chain_begin, ChainNext.chain_next}
 use Rattle.machine_replay.specs.{Vocabulary.Call, Vocabulary.Reply, Vocabulary.Effect, Vocabulary.Kind, Vocabulary.Answer, Vocabulary.Next, Vocabulary.Running, Book.Open, Book.after_own, Book.begun, Book.is_wait_free, Book.joined, Book.watched}
-use Rattle.queue_laws.specs.{Common.Effects.with_effect, Chain.ChainCells.Chain, Chain.ChainCells.queue_of, Chain.ChainCells.ChainOk, Chain.ChainCells.HoldsOnly, Chain.ChainCells.Nothing, Chain.ChainPasses.Passes, Chain.ChainPasses.Spares, Chain.ChainPasses.spare_in, Chain.ChainAt.At, Chain.ChainAnswers.Answers, Chain.ChainAnswers.tail_word, Chain.ChainAnswers.head_word, Chain.ChainAfter.chain_of, Chain.ChainAfter.after_of, Chain.ChainAfter.carried_of, Chain.ChainAfter.left_by}
-use Rattle.machine_replay.proofs.{Engine.StandOf.stand_of, Progress.FewSteps.FewSteps, Progress.FewSteps.few_begun, Progress.FewSteps.few_joined, Progress.FewSteps.few_watched, Progress.FewSteps.few_own, Progress.FewSteps.few_stays, Chain.Moments.chain_begun, Chain.Moments.allowed_in, Engine.Moments.same_moments}
-use Rattle.queue_laws.proofs.Chain.{ChainFacts.holds_stays, ChainAt.at_stays, ChainStart.Begins, ChainStart.at_begun, ChainGiven.spares_stay, ChainRight.NextOkSpares, ChainRight.step_right, ChainRanks.rank, ChainRanks.longest, ChainRanks.rank_small, ChainRanks.rank_some, ChainRanks.Falls, ChainRanksStep.lone_falls, ChainRanksStep.wait_free_falls, ChainRanksStep.wait_free_small}
+use Rattle.queue_laws.specs.{Common.Effects.with_effect, Chain.ChainCells.Chain, Chain.ChainCells.queue_of, Chain.ChainCells.ChainOk, Chain.ChainCells.HoldsOnly, Chain.ChainCells.Nothing, Chain.ChainPasses.Passes, Chain.ChainPasses.Spares, Chain.ChainPasses.spare_in, Chain.ChainAt.At}
+use Rattle.queue_laws.specs.Chain.{ChainAnswers.Answers, ChainAnswers.tail_word, ChainAnswers.head_word, ChainAfter.chain_of, ChainAfter.after_of, ChainAfter.carried_of, ChainAfter.left_by}
+use Rattle.machine_replay.proofs.{Engine.StandOf.stand_of, Chain.Moments.chain_begun, Chain.Moments.allowed_in, Engine.Moments.same_moments}
+use Rattle.machine_replay.proofs.Progress.FewSteps.{FewSteps, few_begun, few_joined, few_watched, few_own, few_stays}
+use Rattle.queue_laws.proofs.Chain.{ChainFacts.holds_stays, ChainAt.at_stays, ChainStart.Begins, ChainStart.at_begun, ChainGiven.spares_stay, ChainRight.NextOkSpares, ChainRight.step_right, ChainRanksStep.lone_falls, ChainRanksStep.wait_free_falls, ChainRanksStep.wait_free_small}
+use Rattle.queue_laws.proofs.Chain.ChainRanks.{rank, longest, rank_small, rank_some, Falls}
 use Rattle.machine_memory.specs.SharedMemory.{MemoryState}
 use Rattle.machine_steps.specs.Steps.{CanStep, step_of, start_of, running_after, reply_after}
 use Rattle.machine_replay.proofs.Engine.Events as engine

@@ -6,7 +6,8 @@ use Rattle.queue_laws.proofs.Chain.ChainFirst.{first}
 use Rattle.machine_memory.specs.SharedMemory.{MemoryState}
 use Rattle.machine_steps.specs.{Steps.CanStep, Steps.step_of, Steps.start_of, World.World, World.call_at}
 use Rattle.machine_replay.proofs.Engine.Events as engine
-use Rattle.machine_replay.proofs.{Engine.KindLaws.KindLaws, Engine.KindLaws.SimulatesOf, Engine.KindLaws.IsCounted, Chain.Holding.ChainHolds, Chain.Fits.ChainIdle, Chain.Fits.ChainFits, Chain.Laws.chain_steps, Chain.Stands.steps_stand, Chain.Opening.chain_opens, Chain.Opening.chain_all_idle, Chain.Counted.StandsAt, Chain.Counted.chain_counted, Chain.Left.chain_left}
+use Rattle.machine_replay.proofs.Chain.{Holding.ChainHolds, Fits.ChainIdle, Fits.ChainFits, Laws.chain_steps, Stands.steps_stand, Opening.chain_opens, Opening.chain_all_idle, Counted.StandsAt, Counted.chain_counted, Left.chain_left}
+use Rattle.machine_replay.proofs.Engine.KindLaws.{KindLaws, SimulatesOf, IsCounted}
 
 -- each party of a run on a chain stands between its calls or in one
 party_stands : {A : Type 0} (s : MemoryState A) (g : Chain A) (p : ℕ) (r : Option (Running A)) (o : Option (Open A)) (busy : ℕ) (b : Book A)

@@ -2,8 +2,10 @@
 use Rattle.std.proofs.Common.{ℕ, ◌≡◌, ◌≢◌, Bool, Option, None, List, refl, sym, ap, subst}
 use Rattle.queue_steps.specs.{State.State, Next.CanNext, Next.next_of, ChainNext.chain_next}
 use Rattle.machine_replay.specs.{Vocabulary.Call, Vocabulary.Effect, Vocabulary.Kind, Vocabulary.Next, Vocabulary.Running, Book.Open, Book.Moves, Book.after_own}
-use Rattle.queue_laws.specs.{Common.Effects.with_effect, Chain.ChainCells.Chain, Chain.ChainCells.queue_of, Chain.ChainAt.At, Chain.ChainAnswers.Answers, Chain.ChainAfter.chain_of, Chain.ChainAfter.after_of, Chain.ChainAfter.carried_of, Chain.ChainAfter.left_by, Chain.ChainPasses.Spares, Chain.ChainPasses.spare_in}
-use Rattle.machine_replay.proofs.{Engine.StandOf.stand_of, Engine.KindLaws.LawsOf, Chain.Names.Codes, Chain.Holding.ChainHolds, Chain.Moments.chain_moves, Chain.Fits.ChainIdle, Chain.Fits.ChainFits, Chain.Fits.ChainGoes, Chain.Fits.chain_goes, Chain.Fits.chain_watched, Chain.Fits.chain_idle, Chain.Fits.chain_joins, Chain.Fits.chain_begins}
+use Rattle.queue_laws.specs.{Common.Effects.with_effect, Chain.ChainCells.Chain, Chain.ChainCells.queue_of, Chain.ChainAt.At, Chain.ChainAnswers.Answers, Chain.ChainPasses.Spares, Chain.ChainPasses.spare_in}
+use Rattle.queue_laws.specs.Chain.ChainAfter.{chain_of, after_of, carried_of, left_by}
+use Rattle.machine_replay.proofs.{Engine.StandOf.stand_of, Engine.KindLaws.LawsOf, Chain.Names.Codes, Chain.Holding.ChainHolds, Chain.Moments.chain_moves}
+use Rattle.machine_replay.proofs.Chain.Fits.{ChainIdle, ChainFits, ChainGoes, chain_goes, chain_watched, chain_idle, chain_joins, chain_begins}
 use Rattle.queue_laws.proofs.Chain.{ChainStep.is_chain, ChainRight.NextOkSpares, ChainRight.step_right}
 use Rattle.machine_memory.specs.{SharedMemory.MemoryState, SharedMemory.CanTouch, SharedMemory.CanOperate, SharedMemory.block_touched, SharedMemory.slots_there, EffectOf.effect_of}
 use Rattle.machine_steps.specs.Steps.{CanReply, CanStep, after_touch, answer_to, carried_then, shared_then, next_after, running_after, reply_after, step_of, start_of}

@@ -7,7 +7,8 @@ use Rattle.queue_laws.specs.Chain.ChainCells.{Reading, Done, Passer, Stands, Pas
 use Rattle.queue_laws.proofs.Chain.{ChainTransitions.no_block, ChainCount.number_of, ChainSpan.not_done, Count.count_all, Count.count_into}
 use Rattle.machine_memory.specs.{Blocks.BlockState, Blocks.fresh_block, Blocks.places_in, Blocks.behind_in, Blocks.without, SharedMemory.MemoryState}
 use Rattle.machine_steps.specs.{ChainLeft.unread, ChainLeft.chained, ChainLeft.settled_blocks, Left.left_of, World.World, World.call_at}
-use Rattle.machine_replay.proofs.Chain.{Codes.BlockIs, Names.NameIs, Names.name_of, Names.alive_of, Fresh.next_high, Fresh.unwalked, Holding.ChainHolds, Counted.StandsAt, Done.all_done, Done.settled_block, Shows.AllStand, Shows.deed_at, Shows.in_call, Shows.block_shows, Links.next_is, Links.last_next, Links.spare_empty, Links.front_then, Links.front_is}
+use Rattle.machine_replay.proofs.Chain.{Codes.BlockIs, Names.NameIs, Names.name_of, Names.alive_of, Fresh.next_high, Fresh.unwalked, Holding.ChainHolds, Counted.StandsAt, Done.all_done, Done.settled_block, Shows.AllStand, Shows.deed_at, Shows.in_call, Shows.block_shows}
+use Rattle.machine_replay.proofs.Chain.Links.{next_is, last_next, spare_empty, front_then, front_is}
 
 -- from no block on there is nothing
 chained_none : {A : Type 0} (n : ℕ) (bs : List (Option (BlockState A))) → chained n bs None ≡ []
@@ -46,7 +47,8 @@ walk : {A : Type 0} (g : Chain A) (calls : List (Option (Running A))) (blocks bs
     → Agrees g b bs (settled_blocks calls blocks) → chained fuel bs (Some (g.names b)) ≡ drop (b * BLOCK_SLOTS - g.head) g.items
 walk g calls blocks bs start k zero b w low left enough agrees = absurd (omega arith)
 walk {A} g calls blocks bs start k (suc fuel) b w low left enough agrees =
-    ap (λ y. unread (places_in y) ++ chained fuel (set bs (g.names b) None) (behind_in y)) there ∙ (ap (λ ys. unread (all_done calls (g.names b) x).places ++ ys) (rest k left enough (λ j low2 left2 enough2 agrees2. walk g calls blocks (set bs (g.names b) None) start j fuel (b + 1) w low2 left2 enough2 agrees2)) ∙ block_shows g calls b x w.ok w.each lt here.2)
+    ap (λ y. unread (places_in y) ++ chained fuel (set bs (g.names b) None) (behind_in y)) there
+    ∙ (ap (λ ys. unread (all_done calls (g.names b) x).places ++ ys) (rest k left enough (λ j low2 left2 enough2 agrees2. walk g calls blocks (set bs (g.names b) None) start j fuel (b + 1) w low2 left2 enough2 agrees2)) ∙ block_shows g calls b x w.ok w.each lt here.2)
   where
     lt : b < g.blocks
     lt = omega arith

@@ -133,7 +133,9 @@ front_kept [] Q keeps x q = q
 front_kept (None ∷ calls) Q keeps x q = front_kept calls Q (λ p r e. keeps (suc p) r e) x q
 front_kept (Some r ∷ calls) Q keeps x q = front_kept calls Q (λ p s e. keeps (suc p) s e) (front_at r.local x) (keeps 0 r refl x q)
 
-front_made : {A : Type 0} (calls : List (Option (Running A))) (Q : Option ℕ → Type 0) → ((p : ℕ) (r : Running A) → get_or calls p None ≡ Some r → (x : Option ℕ) → Q x → Q (front_at r.local x)) → (p : ℕ) (r : Running A) → get_or calls p None ≡ Some r → ((x : Option ℕ) → Q (front_at r.local x)) → (x : Option ℕ) → Q (settled_front calls x)
+front_made : {A : Type 0} (calls : List (Option (Running A))) (Q : Option ℕ → Type 0)
+    → ((p : ℕ) (r : Running A) → get_or calls p None ≡ Some r → (x : Option ℕ) → Q x → Q (front_at r.local x))
+    → (p : ℕ) (r : Running A) → get_or calls p None ≡ Some r → ((x : Option ℕ) → Q (front_at r.local x)) → (x : Option ℕ) → Q (settled_front calls x)
 front_made (None ∷ calls) Q keeps (suc p) r e made x = front_made calls Q (λ j s h. keeps (suc j) s h) p r e made x
 front_made (Some y ∷ calls) Q keeps zero r e made x = let same : y ≡ r = cc in front_kept calls Q (λ j s h. keeps (suc j) s h) (front_at y.local x) (subst (λ s. Q (front_at s.local x)) (sym same) (made x))
 front_made (Some y ∷ calls) Q keeps (suc p) r e made x = front_made calls Q (λ j s h. keeps (suc j) s h) p r e made (front_at y.local x)

@@ -1,7 +1,8 @@
 -- How the words, links and blocks of the machine stand for a chain.
 use Rattle.std.proofs.Common.{ℕ, ◌+◌, ◌<◌, ◌≤◌, ◌≡◌, ◌≢◌, ◌∙◌, ◌⊎◌, inl, inr, Option, Some, None, List, length, refl, sym, ap, subst, get_or}
 use Rattle.machine_replay.specs.Vocabulary.{BLOCK_SLOTS}
-use Rattle.queue_laws.specs.Chain.{ChainCells.item_at, ChainCells.GivenUp, ChainCells.Use, ChainCells.Unused, ChainCells.Spare, ChainCells.Chained, ChainCells.Chain, ChainFacts.IsNamed, ChainAnswers.tail_word, ChainAnswers.head_word, ChainAnswers.last_of, ChainAnswers.shown_of, ChainAnswers.linked_of, ChainAnswers.is_done, ChainAnswers.waits_at}
+use Rattle.queue_laws.specs.Chain.{ChainCells.item_at, ChainCells.GivenUp, ChainCells.Use, ChainCells.Unused, ChainCells.Spare, ChainCells.Chained, ChainCells.Chain, ChainFacts.IsNamed, ChainAnswers.tail_word, ChainAnswers.head_word, ChainAnswers.last_of, ChainAnswers.shown_of}
+use Rattle.queue_laws.specs.Chain.ChainAnswers.{linked_of, is_done, waits_at}
 use Rattle.machine_memory.specs.Blocks.{BlockState, fresh_block}
 use Rattle.machine_replay.proofs.Chain.Codes.{BlockIs, SameItem, wrote_in, block_same}
 

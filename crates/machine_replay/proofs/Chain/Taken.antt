@@ -5,7 +5,7 @@ use Rattle.machine_replay.specs.Vocabulary.{Reply, Kind, Word, Op, Touch, Answer
 use Rattle.queue_steps.specs.{State.State, Next.next_of, ChainWords.offset_of, ChainNext.followed, ChainNext.written_found, ChainNext.ends, ChainNext.walks, ChainNext.walks_on, ChainNext.chain_next, declared.steps.chain.ChainLocal.ChainLocal as chain}
 use Rattle.queue_laws.specs.{Common.Stand.Stand, Chain.ChainAfter.chain_of, Chain.ChainAnswers.Answers, Chain.ChainAnswers.IsState, Chain.ChainAnswers.linked_of, Chain.ChainAnswers.is_wrote, Chain.ChainFacts.head_of}
 use Rattle.queue_laws.specs.Chain.ChainCells as cells
-use Rattle.queue_laws.specs.Chain.ChainCells.{Reader, Unread, Reading, Done, Shown, Seen, Chain, ChainOk, ItemOk, ShownOk, Part, Write, Read, Tail, Head, Passed, owner, item_at, LAST, HoldsOnly}
+use Rattle.queue_laws.specs.Chain.ChainCells.{Reader, Unread, Reading, Done, Shown, Seen, Chain, ChainOk, ItemOk, ShownOk, Part, Write, Read, Tail, Head, Passed, item_at, LAST, HoldsOnly}
 use Rattle.queue_laws.specs.Chain.ChainAt.{Only, Either, At, showing, laying, opening, chaining, writing, following, peeking, passing, entering, awaiting, reading, beginning, walking, destroying}
 use Rattle.queue_laws.proofs.Chain.{ChainEarly.early, ChainAnswers.head_offset, ChainRanks.rests_if, ChainRanks.unheld, ChainRanksPop.wrote_then, ChainRanksPop.linked_then, ChainRanksWalk.last_claimed, ChainReads.own_item, ChainStep.is_chain}
 use Rattle.machine_replay.specs.{Book.Open, Progress.TakesReplyWithin}

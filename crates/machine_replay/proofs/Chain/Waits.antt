@@ -2,11 +2,15 @@
 use Rattle.std.proofs.Common.{ℕ, ◌+◌, ◌/◌, ◌%◌, ◌≤◌, ◌≡◌, ◌≢◌, ◌==◌, ◌⊎◌, inl, inr, ◌∙◌, not, false, true, Option, Some, None, List, refl, sym, ap, subst, arith}
 use Rattle.std.proofs.lemmas.Bool.{eq-eqb}
 use Rattle.machine_replay.specs.Vocabulary.{Call, Effect, Kind, Answer, Local, Next, PushKind, BLOCK_SLOTS, Running}
-use Rattle.queue_steps.specs.{State.State, Next.next_of, Words.position_of, ChainWords.offset_of, ChainNext.chain_tail_found, ChainNext.chain_head_found, ChainNext.chain_pop_tail_found, ChainNext.followed, ChainNext.written_found, ChainNext.chain_next, declared.steps.chain.ChainLocal.ChainLocal as chain}
-use Rattle.queue_laws.specs.{Common.Stand.Stand, Chain.ChainAfter.chain_of, Chain.ChainAnswers.Answers, Chain.ChainAnswers.IsState, Chain.ChainAnswers.tail_word, Chain.ChainAnswers.head_word, Chain.ChainAnswers.shown_of, Chain.ChainAnswers.linked_of, Chain.ChainAnswers.is_wrote, Chain.ChainFacts.head_of, Chain.ChainFacts.open_tail_of}
-use Rattle.machine_replay.proofs.{Engine.StandOf.stand_of, Progress.Beside.apart, Progress.Beside.beside, Progress.Beside.not_back, Chain.Laws.next_on, Chain.Stands.steps_stand, Chain.Stretch.chain_rules, Progress.Stretch.Here, Progress.Stretch.Party, Progress.Stretch.reach, Progress.Stretch.first, Progress.Stretch.party-open}
+use Rattle.queue_steps.specs.{State.State, Next.next_of, Words.position_of, ChainWords.offset_of, declared.steps.chain.ChainLocal.ChainLocal as chain}
+use Rattle.queue_steps.specs.ChainNext.{chain_tail_found, chain_head_found, chain_pop_tail_found, followed, written_found, chain_next}
+use Rattle.queue_laws.specs.{Common.Stand.Stand, Chain.ChainAfter.chain_of, Chain.ChainFacts.head_of, Chain.ChainFacts.open_tail_of}
+use Rattle.queue_laws.specs.Chain.ChainAnswers.{Answers, IsState, tail_word, head_word, shown_of, linked_of, is_wrote}
+use Rattle.machine_replay.proofs.{Engine.StandOf.stand_of, Progress.Beside.apart, Progress.Beside.beside, Progress.Beside.not_back, Chain.Laws.next_on, Chain.Stands.steps_stand, Chain.Stretch.chain_rules}
+use Rattle.machine_replay.proofs.Progress.Stretch.{Here, Party, reach, first, party-open}
 use Rattle.queue_laws.specs.Chain.ChainAt.{At, push_tail, showing, laying, opening, chaining, writing, pop_head, pop_tail, following, peeking, passing, entering, awaiting, reading, beginning, walking, destroying}
-use Rattle.queue_laws.proofs.Chain.{ChainEarly.early, ChainAnswers.head_offset, ChainRanks.rank, ChainRanks.late, ChainRanks.is_seen, ChainRanks.Falls, ChainRanks.rests_if, ChainRanks.stands_if, ChainRanksPop.head_falls, ChainRanksPop.unshown_place, ChainRanksPop.pop_tail_falls, ChainRanksPop.following_falls, ChainRanksPop.wrote_then, ChainRanksPop.awaiting_falls, ChainRanksPush.push_tail_falls, ChainReads.own_item, ChainStep.is_chain}
+use Rattle.queue_laws.proofs.Chain.{ChainEarly.early, ChainAnswers.head_offset, ChainRanks.rank, ChainRanks.late, ChainRanks.is_seen, ChainRanks.Falls, ChainRanks.rests_if, ChainRanks.stands_if, ChainRanksPop.head_falls, ChainRanksPop.unshown_place, ChainRanksPop.pop_tail_falls}
+use Rattle.queue_laws.proofs.Chain.{ChainRanksPop.following_falls, ChainRanksPop.wrote_then, ChainRanksPop.awaiting_falls, ChainRanksPush.push_tail_falls, ChainReads.own_item, ChainStep.is_chain}
 use Rattle.queue_laws.specs.Chain.ChainCells as cells
 use Rattle.queue_laws.specs.Chain.ChainCells.{Passing, Shown, Seen, Chain, ChainOk, Part, Write, Read, Tail, Head, First, Passed, owner}
 use Rattle.machine_steps.specs.{Left.opening_world, Steps.answer_to, Steps.running_after, Steps.next_after, Steps.carried_then, World.World, World.call_at}

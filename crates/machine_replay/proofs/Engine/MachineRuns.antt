@@ -1,7 +1,8 @@
 -- A run of the machine, one event after another, is a run of the book.
 use Rattle.std.proofs.Common.{◌≡◌, ◌∙◌, ℕ, ◌+◌, ◌≤◌, nat_lt, Bool, false, if◌then◌else◌, Option, Some, None, is_some, List, [], ◌∷◌, ◌++◌, length, refl, sym, ap, arith, append_assoc, append-nil}
 use Rattle.std.proofs.lemmas.Bool.{le-ltb}
-use Rattle.machine_replay.specs.{Vocabulary.Kind, Vocabulary.Event, Vocabulary.Told, Vocabulary.Peak, Vocabulary.Step, Vocabulary.Skipped, Vocabulary.Running, declared.machine_run.MachineRun.MachineRun, declared.machine_run.RunEnd.RunEnd, MachineRuns.Comes, MachineRuns.Continues, MachineRuns.EndsAs, MachineRuns.IsMachineRun, MachineRuns.KeepsRun, MachineRuns.IsSomeMachineRun, Peaks.opening_peak, Peaks.peaked, Replays.CanReplay, Replays.is_too_large}
+use Rattle.machine_replay.specs.{Vocabulary.Kind, Vocabulary.Event, Vocabulary.Told, Vocabulary.Peak, Vocabulary.Step, Vocabulary.Skipped, Vocabulary.Running, declared.machine_run.MachineRun.MachineRun, declared.machine_run.RunEnd.RunEnd, MachineRuns.Comes, MachineRuns.Continues, MachineRuns.EndsAs}
+use Rattle.machine_replay.specs.{MachineRuns.IsMachineRun, MachineRuns.KeepsRun, MachineRuns.IsSomeMachineRun, Peaks.opening_peak, Peaks.peaked, Replays.CanReplay, Replays.is_too_large}
 use Rattle.machine_memory.specs.{SharedMemory.MemoryState, Room.HasCount, Present.present}
 use Rattle.machine_steps.specs.{Left.HasSlot, Left.left_of, Left.opening_world, Machine.CanHandle, Machine.Handles, Machine.event_of, Machine.world_of, World.World, World.call_at}
 use Rattle.machine_replay.proofs.Engine.AllKinds.{KnownAfter, has_machine, has_slot, known-can, known-first, known-grows, known-more, known-peak, known-room}

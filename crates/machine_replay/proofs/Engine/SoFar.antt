@@ -1,7 +1,8 @@
 -- A run of the machine so far, and what is told of it. Whatever kind of queue it is, it keeps its laws.
 use Rattle.std.proofs.Common.{ℕ, ◌+◌, ◌/◌, ◌<◌, ◌≤◌, ◌≡◌, ◌∙◌, Bool, Option, Some, None, is_none, List, [], ◌∷◌, ◌++◌, length, refl, sym, ap, subst, arith, append_assoc, append-nil}
 use Rattle.std.proofs.lemmas.List.{length-replicate}
-use Rattle.machine_replay.specs.{Vocabulary.Kind, Vocabulary.BLOCK_SLOTS, Vocabulary.Event, Vocabulary.Told, Vocabulary.Peak, Vocabulary.Running, Book.Book, Book.Run, Book.Happens, Book.opening, Conforms.capacity_of, Conforms.party_of, Conforms.entries_from, Conforms.IsPeak, Conforms.HasNoBlocks, Conforms.share, Peaks.bound_of, Peaks.opening_peak, Peaks.peaked}
+use Rattle.machine_replay.specs.{Vocabulary.Kind, Vocabulary.BLOCK_SLOTS, Vocabulary.Event, Vocabulary.Told, Vocabulary.Peak, Vocabulary.Running, Book.Book, Book.Run, Book.Happens, Book.opening, Conforms.capacity_of, Conforms.party_of, Conforms.entries_from, Conforms.IsPeak, Conforms.HasNoBlocks}
+use Rattle.machine_replay.specs.{Conforms.share, Peaks.bound_of, Peaks.opening_peak, Peaks.peaked}
 use Rattle.machine_memory.specs.{SharedMemory.MemoryState, Present.present}
 use Rattle.machine_steps.specs.{Steps.CanStep, Steps.step_of, Steps.start_of, Left.left_of, Left.opening_world, Machine.event_of, World.World, World.call_at}
 use Rattle.machine_memory.proofs.Busy.{nobody_calls, none_are_busy}

@@ -1,7 +1,8 @@
 -- A call that has appended replies soon, whatever the other parties do. Nothing here knows a kind of queue.
 use Rattle.std.proofs.Common.{◌≡◌, ℕ, ◌<◌, ◌≤◌, Bool, true, false, Some, None, List, [], ◌∷◌, count_by, refl, arith}
 use Rattle.queue_steps.specs.State.{State}
-use Rattle.machine_replay.specs.{Vocabulary.Effect, Vocabulary.Kind, Vocabulary.Local, Vocabulary.Event, Vocabulary.EffectKind, Vocabulary.Step, Vocabulary.Ran, Vocabulary.Running, Book.Open, Conforms.capacity_of, Played.told_of, Played.world_after, Within.is_step_of, Progress.Standing, Progress.Between, Progress.stands_by, Progress.stands_then, Progress.IsNotAnswered, Progress.AppendsReplyWithin}
+use Rattle.machine_replay.specs.{Book.Open, Conforms.capacity_of, Played.told_of, Played.world_after, Within.is_step_of, Progress.Standing, Progress.Between, Progress.stands_by, Progress.stands_then, Progress.IsNotAnswered, Progress.AppendsReplyWithin}
+use Rattle.machine_replay.specs.Vocabulary.{Effect, Kind, Local, Event, EffectKind, Step, Ran, Running}
 use Rattle.machine_steps.specs.{Left.opening_world, Machine.event_of, Steps.step_of, World.World, World.call_at}
 use Rattle.machine_memory.specs.SharedMemory.{MemoryState}
 use Rattle.machine_replay.proofs.Progress.{Had.Had, Had.In, Had.in-next, Had.in-here, Had.nearer, Stretch.Rules, Stretch.Here, Stretch.next, Stretch.reach, Stretch.first, Stretch.call-there, Stretch.fits-at, Stretch.count-cons}

@@ -2,7 +2,8 @@
 use Rattle.std.proofs.Common.{◌≡◌, ◌≢◌, ◌∙◌, ℕ, ◌+◌, ◌<◌, ◌≤◌, ◌==◌, if◌then◌else◌, Bool, true, false, Option, Some, None, List, [], ◌∷◌, count_by, inl, inr, refl, sym, ap, subst, arith}
 use Rattle.std.proofs.lemmas.Bool.{eq-eqb, ltb-false, Decides.eqb_tells}
 use Rattle.queue_steps.specs.{State.State, declared.steps.slot.SlotLocal.TheVariants.Looking, declared.steps.chain.ChainLocal.ChainLocal as chain}
-use Rattle.machine_replay.specs.{Vocabulary.Kind, Vocabulary.Local, Vocabulary.Next, Vocabulary.RingLocal, Vocabulary.MAX_CAPACITY, Vocabulary.Event, Vocabulary.Running, Book.Open, Played.told_of, Played.world_after, Progress.Standing, Progress.Between, Progress.stands_by, Progress.stands_then, Progress.IsNotAnswered, Waits.IsOfLen, Waits.IsTailKept, Waits.LenWaitsForNobody, Within.is_step_of}
+use Rattle.machine_replay.specs.{Book.Open, Played.told_of, Played.world_after, Progress.Standing, Progress.Between, Progress.stands_by, Progress.stands_then, Progress.IsNotAnswered, Waits.IsOfLen, Waits.IsTailKept, Waits.LenWaitsForNobody, Within.is_step_of}
+use Rattle.machine_replay.specs.Vocabulary.{Kind, Local, Next, RingLocal, MAX_CAPACITY, Event, Running}
 use Rattle.queue_laws.specs.{Slot.SlotHolder.SlotHolder, Common.Stand.Stand, Ring.RingCells.Ring, Chain.ChainCells.Chain}
 use Rattle.queue_laws.specs.Slot.SlotRows as slot
 use Rattle.machine_replay.proofs.{Engine.StandOf.running_of, Progress.Beside.same_call, Chain.Stretch.chain_rules, Progress.Had.nearer, Ring.Stretch.ring_rules, Slot.Stretch.slot_rules, Progress.Standings.Agrees, Progress.Standings.in_call-next}

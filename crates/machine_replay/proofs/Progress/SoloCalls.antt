@@ -1,6 +1,7 @@
 -- A call that is the only one in progress is hindered by nobody.
 use Rattle.std.proofs.Common.{◌≡◌, ◌≢◌, ◌∙◌, ℕ, Some, None, List, [], ◌∷◌, refl, sym, subst}
-use Rattle.machine_replay.specs.{Vocabulary.Kind, Vocabulary.Event, Vocabulary.Told, Vocabulary.Skipped, Vocabulary.Ran, Vocabulary.Running, Played.world_after, Progress.Between, Progress.standing, Progress.effect_told, Progress.BeginsNone, Progress.IsAloneIn, Progress.IsLeftToIt, Progress.NobodyShows, Progress.SoloRunsReply}
+use Rattle.machine_replay.specs.{Vocabulary.Kind, Vocabulary.Event, Vocabulary.Told, Vocabulary.Skipped, Vocabulary.Ran, Vocabulary.Running, Played.world_after}
+use Rattle.machine_replay.specs.Progress.{Between, standing, effect_told, BeginsNone, IsAloneIn, IsLeftToIt, NobodyShows, SoloRunsReply}
 use Rattle.machine_steps.specs.{Left.opening_world, World.call_at}
 use Rattle.machine_replay.proofs.{Chain.Stretch.chain_rules, Progress.Standings.Agrees, Progress.Stretch.Rules, Progress.Stretch.reach, Progress.Stretch.first, Progress.Stretch.party-open, Progress.Unhindered.unhindered_calls}
 

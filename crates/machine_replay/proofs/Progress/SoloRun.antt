@@ -5,7 +5,9 @@ use Rattle.queue_laws.proofs.Common.Tests.{none_if, is_none_true}
 use Rattle.machine_replay.specs.Vocabulary.{Call, Reply, SOLO_STEPS, WAIT_FREE_STEPS, Event, Told, Replay, Begin, Step, Skipped, Ran}
 use Rattle.machine_replay.specs.Book.{Book, Open, Happens, Run, fits, is_wait_free, opening, at_open, joined, watched, after_own, begun}
 use Rattle.machine_replay.specs.{Conforms.Conforms, Conforms.party_of, InCall.IsInCall, Within.is_step_of, Within.steps_between, Within.IsAloneBetween, Within.SoloCallsReply, Within.WaitFreeCallsReply}
-use Rattle.machine_replay.proofs.{Engine.Calls.with_reply, Engine.Entries.event-last, Engine.Entries.length-one, Progress.Solo.Counts, Progress.Solo.counts-first, Progress.Solo.counts-happens, Progress.Solo.count-alone, Progress.Solo.put-same, Progress.Solo.and-right, Replays.Skips.noted, Replays.Skips.earlier-now, Replays.Skips.earlier-before, Replays.Skips.there-before, Replays.Skips.was-there, Replays.Skips.last-or-earlier, Replays.SkipsRun.Fair, Replays.SkipsRun.is_skipped, Replays.SkipsRun.reply_told, Replays.SkipsAll.fair-first, Replays.SkipsAll.fair-next, Replays.SkipsAll.some-open, Traces.TraceSteps.put-cases, Traces.TraceSteps.at_open-cases}
+use Rattle.machine_replay.proofs.{Engine.Calls.with_reply, Engine.Entries.event-last, Engine.Entries.length-one, Progress.Solo.Counts, Progress.Solo.counts-first, Progress.Solo.counts-happens, Progress.Solo.count-alone, Progress.Solo.put-same, Progress.Solo.and-right, Replays.Skips.noted}
+use Rattle.machine_replay.proofs.Replays.{Skips.earlier-now, Skips.earlier-before, Skips.there-before, Skips.was-there, Skips.last-or-earlier, SkipsRun.Fair, SkipsRun.is_skipped, SkipsRun.reply_told, SkipsAll.fair-first, SkipsAll.fair-next, SkipsAll.some-open}
+use Rattle.machine_replay.proofs.Traces.TraceSteps.{put-cases, at_open-cases}
 
 -- how many steps of party p there are from the event `since` on
 abbrev taken : {T : Type 0} → ℕ → ℕ → List (Event T) → ℕ

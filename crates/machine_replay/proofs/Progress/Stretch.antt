@@ -288,7 +288,8 @@ module _ (T : Type 0) (k : Kind) (laws : Rules T k) (parties : ℕ) where
         (same.0, omega arith)
     nearer w st h p r r' (Step q g) a ready is is' mine mine' others others' none = elim (eqb_tells q p) [
       | inl t ↦
-          let falls = subst (λ i. call_at (event_of k true w (Step i g)).0 p ≡ Some r' → paces.Ready (event_of k true w (Step i g)).0.shared r' × (paces.rank (event_of k true w (Step i g)).0.shared r' < paces.rank w.shared r)) (sym t.1) (λ there. own-falls w st h p r r' g ready is there mine others) is' in
+          let falls = subst (λ i. call_at (event_of k true w (Step i g)).0 p ≡ Some r'
+          → paces.Ready (event_of k true w (Step i g)).0.shared r' × (paces.rank (event_of k true w (Step i g)).0.shared r' < paces.rank w.shared r)) (sym t.1) (λ there. own-falls w st h p r r' g ready is there mine others) is' in
           let lt = falls.1 in
           (falls.0, rw t.0 (omega arith))
       | inr t ↦

@@ -9,7 +9,8 @@ use Rattle.machine_replay.specs.{Conforms.capacity_of, Conforms.party_of, Played
 use Rattle.machine_steps.specs.{Left.opening_world, Machine.event_of, Steps.CanStep, Steps.step_of, Steps.start_of, World.World, World.call_at}
 use Rattle.machine_memory.specs.SharedMemory.{MemoryState}
 use Rattle.machine_replay.proofs.Engine.Events as engine
-use Rattle.machine_replay.proofs.Progress.{Solo.and-right, Solo.put-same, Solo.put-other, Appended.is_append, Appended.HasAppend, Had.Had, Had.In, Had.less, Had.in-next, Had.in-here, Had.nearer, Stretch.Rules, Stretch.Here, Stretch.next, Stretch.first, Stretch.call-there, Stretch.fits-at, Stretch.count-cons}
+use Rattle.machine_replay.proofs.Progress.{Solo.and-right, Solo.put-same, Solo.put-other, Appended.is_append, Appended.HasAppend, Had.Had, Had.In, Had.less, Had.in-next, Had.in-here, Had.nearer, Stretch.Rules, Stretch.Here, Stretch.next, Stretch.first, Stretch.call-there, Stretch.fits-at}
+use Rattle.machine_replay.proofs.Progress.Stretch.{count-cons}
 use Rattle.machine_replay.specs.Progress.{Standing, Between, effect_told, stands_by, stands_then, writes_after, writes_then, writes_by, IsNotHeldUp, TakesReplyWithin}
 
 abbrev pub is_take : EffectKind → Bool

@@ -1,8 +1,10 @@
 -- A call that nobody hinders replies soon, on a queue of any kind.
 use Rattle.std.proofs.Common.{◌≡◌, ℕ, false, IsSome, List, ◌∷◌}
 use Rattle.std.proofs.lemmas.Bool.{ltb-false}
-use Rattle.machine_replay.specs.{Vocabulary.Kind, Vocabulary.MAX_CAPACITY, Vocabulary.Event, Vocabulary.Told, Conforms.capacity_of, Replays.CanReplay, Replays.is_too_large, Progress.AppendsReply, Progress.HalfDoneNeverWaits, Progress.HalfDoneTakesNone, Progress.TakesReply, Progress.IsLeftToIt, Progress.IsSilent, Progress.SilenceIsShort, Progress.UnhinderedCallsReply, Waits.CallsWait}
-use Rattle.machine_replay.proofs.{Chain.Waits.chain_waits, Ring.Waits.ring_waits, Slot.Waits.slot_waits, Slot.Stretch.slot_appends, Slot.Stretch.slot_takes, Slot.Stretch.slot_never_waits, Slot.Stretch.slot_takes_none, Slot.Stretch.slot_unhindered, Ring.Stretch.ring_appends, Ring.Stretch.ring_takes, Ring.Stretch.ring_never_waits, Ring.Stretch.ring_takes_none, Ring.Stretch.ring_unhindered, Chain.Taken.chain_takes, Chain.Appended.chain_appends, Chain.Early.chain_unhindered}
+use Rattle.machine_replay.specs.{Vocabulary.Kind, Vocabulary.MAX_CAPACITY, Vocabulary.Event, Vocabulary.Told, Conforms.capacity_of, Replays.CanReplay, Replays.is_too_large, Waits.CallsWait}
+use Rattle.machine_replay.specs.Progress.{AppendsReply, HalfDoneNeverWaits, HalfDoneTakesNone, TakesReply, IsLeftToIt, IsSilent, SilenceIsShort, UnhinderedCallsReply}
+use Rattle.machine_replay.proofs.{Chain.Waits.chain_waits, Ring.Waits.ring_waits, Slot.Waits.slot_waits, Slot.Stretch.slot_appends, Slot.Stretch.slot_takes, Slot.Stretch.slot_never_waits, Slot.Stretch.slot_takes_none, Slot.Stretch.slot_unhindered, Ring.Stretch.ring_appends, Ring.Stretch.ring_takes}
+use Rattle.machine_replay.proofs.{Ring.Stretch.ring_never_waits, Ring.Stretch.ring_takes_none, Ring.Stretch.ring_unhindered, Chain.Taken.chain_takes, Chain.Appended.chain_appends, Chain.Early.chain_unhindered}
 
 pub unhindered_calls : {T : Type 0} → UnhinderedCallsReply T
 unhindered_calls {T} Kind.Single can small = slot_unhindered T

@@ -1,6 +1,7 @@
 -- What is noted of a run, one event after another.
 use Rattle.std.proofs.Common.{◌≡◌, ◌∙◌, ℕ, List, [], ◌∷◌, ◌++◌, length, ap}
-use Rattle.machine_replay.specs.{Vocabulary.Kind, Vocabulary.Event, Vocabulary.Told, Vocabulary.Replay, declared.machine_run.MachineRun.MachineRun, declared.machine_run.RunEnd.RunEnd, declared.run.Lists.Lists, Conforms.Conforms, Conforms.capacity_of, Conforms.party_of, Conforms.entries_from, Conforms.reply_entry, Conforms.effect_entry, Conforms.skipped_entry, Peaks.peak_of, Played.IsPlayed, Played.as_told, MachineRuns.Continues, MachineRuns.IsMachineRun, MachineRuns.IsSomeMachineRun, MachineRuns.Leaves}
+use Rattle.machine_replay.specs.{Vocabulary.Kind, Vocabulary.Event, Vocabulary.Told, Vocabulary.Replay, declared.machine_run.MachineRun.MachineRun, declared.machine_run.RunEnd.RunEnd, declared.run.Lists.Lists, Conforms.Conforms, Conforms.capacity_of, Conforms.party_of, Conforms.entries_from}
+use Rattle.machine_replay.specs.{Conforms.reply_entry, Conforms.effect_entry, Conforms.skipped_entry, Peaks.peak_of, Played.IsPlayed, Played.as_told, MachineRuns.Continues, MachineRuns.IsMachineRun, MachineRuns.IsSomeMachineRun, MachineRuns.Leaves}
 use Rattle.machine_steps.specs.{Left.left_of, Machine.world_of}
 use Rattle.machine_replay.proofs.{Engine.AllKinds.known-length, Engine.MachineRuns.machine_run-known, Replays.Played.run-made, Engine.SoFar.noted}
 

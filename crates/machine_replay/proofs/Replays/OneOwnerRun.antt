@@ -78,7 +78,8 @@ sequential_from cap b (Step p g ∷ es) (Ran k (Some r) ∷ ts) c (Some o) S run
     let rest = sequential_from cap run.0 es ts c None done.0 run.2 (ap (λ x. x 0) s.calls ∙ rw f.0 refl) done.2 in
     record { calls = s.o.call ∷ rest.calls; unended = rest.unended; begun_are = ap (λ x. x.call ∷ begun_calls es ts) same ∙ ap (λ l. s.o.call ∷ l) rest.begun_are; last = rest.last; run = (done.0, (done.1, rest.run)); shown = rest.shown }
 sequential_from cap b (e ∷ es) (Skipped ∷ ts) c y S run is ready =
-    let rest = sequential_from cap run.0 es ts c y S run.2 (ap (λ x. x.open_call 0) run.1.1 ∙ is) (subst (λ x. Ready S x y) (sym (ap (λ x. x.queue) run.1.1)) ready) in record { calls = rest.calls; unended = rest.unended; begun_are = rest.begun_are; last = rest.last; run = rest.run; shown = rest.shown }
+    let rest = sequential_from cap run.0 es ts c y S run.2 (ap (λ x. x.open_call 0) run.1.1 ∙ is) (subst (λ x. Ready S x y) (sym (ap (λ x. x.queue) run.1.1)) ready) in
+    record { calls = rest.calls; unended = rest.unended; begun_are = rest.begun_are; last = rest.last; run = rest.run; shown = rest.shown }
 sequential_from cap b es ts c y S run is ready = absurd run
 
 -- the replies of the list

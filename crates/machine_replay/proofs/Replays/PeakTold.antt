@@ -6,8 +6,11 @@ use Rattle.std.proofs.lemmas.Bool.{lt-ltb, le-ltb}
 use Rattle.machine_replay.specs.Vocabulary.{Call, Reply, BLOCK_SLOTS, Event, Told, EffectKind, Begin, Step, Skipped, Ran}
 use Rattle.queue_steps.specs.{State.State, State.start, Effect.Runs, Effect.IsHistory, Effect.made, Effect.after_from, Sequential.blocks_of, Sequential.spanned}
 use Rattle.queue_laws.proofs.Common.Runs.{cap_made}
-use Rattle.machine_replay.specs.{Book.Book, Book.Run, Book.kind_of, Book.opening, Conforms.party_of, Conforms.entries_from, Conforms.effect_entry, Conforms.reply_entry, Conforms.skipped_entry, Meaning.Entry, Meaning.chosen, Meaning.effects_in, Meaning.kinds_in, OneOwner.begun_calls, OneOwner.calls_from, OneOwner.is_among, PeakTold.state_before, PeakTold.in_progress, PeakTold.PeakIsOfTheRun}
-use Rattle.machine_replay.proofs.{Replays.Counting.accepted_by, Replays.Counting.length_by, Replays.Counting.counts_all, Replays.Counting.made-accepted, Replays.Counting.made-length, Replays.Counting.run-accepted, Replays.Counting.run-length, Engine.Entries.each-all, Replays.Growing.run-cap, Progress.Solo.Counts, Progress.Solo.counts-first, Progress.Solo.counts-happens, Progress.Solo.some-busy, Replays.OwnersReplay.among-later, Replays.OwnersReplay.begun-listed, Replays.Peaking.Run-length, Replays.Rising.effects-early, Replays.Rising.effects-late, Replays.Rising.replies-early, Replays.Rising.replies-late, Replays.Rising.skipped-late}
+use Rattle.machine_replay.specs.{Book.Book, Book.Run, Book.kind_of, Book.opening, Meaning.Entry, Meaning.chosen, Meaning.effects_in, Meaning.kinds_in, OneOwner.begun_calls, OneOwner.calls_from, OneOwner.is_among, PeakTold.state_before, PeakTold.in_progress, PeakTold.PeakIsOfTheRun}
+use Rattle.machine_replay.specs.Conforms.{party_of, entries_from, effect_entry, reply_entry, skipped_entry}
+use Rattle.machine_replay.proofs.{Engine.Entries.each-all, Replays.Growing.run-cap, Progress.Solo.Counts, Progress.Solo.counts-first, Progress.Solo.counts-happens, Progress.Solo.some-busy, Replays.OwnersReplay.among-later, Replays.OwnersReplay.begun-listed, Replays.Peaking.Run-length}
+use Rattle.machine_replay.proofs.Replays.Counting.{accepted_by, length_by, counts_all, made-accepted, made-length, run-accepted, run-length}
+use Rattle.machine_replay.proofs.Replays.Rising.{effects-early, effects-late, replies-early, replies-late, skipped-late}
 
 -- the entries of events, and of those behind them
 entries-append : {T E : Type 0} (entry : ℕ → ℕ → Told T → List E) (n k : ℕ) (es cs : List (Event T)) (ts us : List (Told T)) → length es ≡ length ts → k ≡ n + length es

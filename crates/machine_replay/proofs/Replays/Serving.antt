@@ -2,7 +2,8 @@
 use Rattle.std.proofs.Common.{◌≡◌, ◌∙◌, ◌&&◌, not, ℕ, ◌+◌, Bool, true, false, Some, None, List, [], ◌∷◌, ◌++◌, length, length-append, refl, sym, ap, subst, arith, append_assoc, slice_get}
 use Rattle.std.specs.List.{AllByRecursion}
 use Rattle.machine_steps.specs.Left.{left_of, opening_world}
-use Rattle.machine_replay.specs.{Vocabulary.Event, Vocabulary.Told, Vocabulary.Begin, Vocabulary.Step, Vocabulary.Skipped, Vocabulary.Ran, Conforms.entries_from, Conforms.party_of, Conforms.reply_entry, Conforms.effect_entry, Conforms.skipped_entry, Peaks.peak_of, Played.as_told, Played.event_told, Played.is_no_memory, Played.told_of, Played.world_after, Served.IsAsRefused, Served.ServedIsExact}
+use Rattle.machine_replay.specs.{Conforms.entries_from, Conforms.party_of, Conforms.reply_entry, Conforms.effect_entry, Conforms.skipped_entry, Peaks.peak_of, Played.as_told, Played.event_told, Played.is_no_memory, Played.told_of, Played.world_after, Served.IsAsRefused, Served.ServedIsExact}
+use Rattle.machine_replay.specs.Vocabulary.{Event, Told, Begin, Step, Skipped, Ran}
 
 there : {X : Type 0} (xs : List X) (x : X) (ys : List X) → slice_get (xs ++ x ∷ ys) (length xs) ≡ Some x
 there [] x ys = refl

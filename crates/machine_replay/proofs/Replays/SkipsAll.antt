@@ -3,7 +3,8 @@ use Rattle.std.proofs.Common.{◌≡◌, ◌⊎◌, ◌∙◌, ℕ, ◌+◌, ◌
 use Rattle.machine_replay.specs.Vocabulary.{Call, Reply, Event, Told, Replay, Begin, Step, Skipped, Ran}
 use Rattle.machine_replay.specs.Book.{Book, Open, Happens, Run, begun, joined, watched, at_open, after_own, opening}
 use Rattle.machine_replay.specs.{Conforms.Conforms, Conforms.party_of, Conforms.entries_from, Conforms.reply_entry, Conforms.skipped_entry, InCall.IsInCall, Skips.IsExact, Skips.SkippedIsExact}
-use Rattle.machine_replay.proofs.{Progress.Solo.put-same, Progress.Solo.put-other, Engine.Calls.with_reply, Engine.Entries.each-all, Replays.Skips.noted, Replays.SkipsRun.Fair, Replays.SkipsRun.is_skipped, Replays.SkipsRun.reply_told, Replays.SkipsRun.fair-skipped, Replays.SkipsRun.fair-begun, Replays.SkipsRun.fair-at-once, Replays.SkipsRun.fair-step}
+use Rattle.machine_replay.proofs.{Progress.Solo.put-same, Progress.Solo.put-other, Engine.Calls.with_reply, Engine.Entries.each-all, Replays.Skips.noted}
+use Rattle.machine_replay.proofs.Replays.SkipsRun.{Fair, is_skipped, reply_told, fair-skipped, fair-begun, fair-at-once, fair-step}
 
 -- where a party stands after its own step: in its call, or between calls where it replied
 stays-if : {T : Type 0} (r : Option (Reply T)) (o x : Open T) → (if is_some r then None else Some o) ≡ Some x → r ≡ None

@@ -123,7 +123,14 @@ module _ (T : Type 0) (parties : ℕ) (past : List (Event T)) (told : List (Told
   -- a call that begins, with steps
   pub fair-begun : (p : ℕ) (k : Call T) (c : Book T) → fits parties b (Begin p k) ≡ true → ((j : ℕ) → j ≢ p → c.open_call j ≡ at_open joined (b.open_call j)) → (o : Open T) → c.open_call p ≡ Some o → next (Begin p k) (Ran None None) c
   fair-begun p k c good others o mine = fair-more parties past told n S R b c (Begin p k) (Ran None None) f
-      (inl ((ltb-true p parties (and-left (nat_lt p parties) (is_none (b.open_call p)) good), λ in_call. f.outside p (is_none_true (b.open_call p) (and-right (nat_lt p parties) (is_none (b.open_call p)) good)) (earlier-before T past (Begin p k) S R n p false None f.len f.early p n (omega arith) in_call)), not-in-later n S f.early_skipped))
+      (inl (
+        (
+          ltb-true p parties (and-left (nat_lt p parties) (is_none (b.open_call p)) good),
+          λ in_call. f.outside p (is_none_true (b.open_call p) (and-right (nat_lt p parties) (is_none (b.open_call p)) good))
+              (earlier-before T past (Begin p k) S R n p false None f.len f.early p n (omega arith) in_call),
+        ),
+        not-in-later n S f.early_skipped,
+      ))
       (λ q x e. elim (eqb_tells q p) [
         | inl t ↦ subst (λ z. IsInCall (past ++ Begin p k ∷ []) S R z (n + 1)) (sym t.1) fresh
         | inr t ↦ let old = open-some joined (b.open_call q) x (sym (others q t.1) ∙ e) in goes-on T past (Begin p k) S R n p false None f.len f.early q (inl refl) (f.inside q old.0 old.1)

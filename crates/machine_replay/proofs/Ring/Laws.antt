@@ -3,7 +3,8 @@ use Rattle.std.proofs.Common.{ℕ, ◌≤◌, ◌≡◌, ◌≢◌, ◌||◌, no
 use Rattle.queue_steps.specs.{State.State, Next.CanNext, Next.next_of, WaitFree.is_wait_free, Replies.IsRightAt}
 use Rattle.machine_replay.specs.{Vocabulary.Call, Vocabulary.Reply, Vocabulary.Effect, Vocabulary.Kind, Vocabulary.Next, Vocabulary.Running, Book.Open, Book.Allows, Book.after_own, Book.begun, Book.joined}
 use Rattle.queue_laws.specs.{Common.Effects.Leads, Common.Effects.with_effect, Ring.RingCells.Ring, Ring.RingCells.queue_of, Ring.RingCells.RingOk, Ring.RingCells.HoldsNone, Ring.RingPasses.Passes, Ring.RingAt.At, Ring.RingWords.Codes}
-use Rattle.machine_replay.proofs.{Engine.StandOf.stand_of, Engine.Moments.any_in, Engine.Moments.same_moments, Progress.FewSteps.FewSteps, Progress.FewSteps.few_begun, Progress.FewSteps.few_joined, Progress.FewSteps.few_watched, Progress.FewSteps.few_own, Progress.FewSteps.few_stays, Engine.KindLaws.LawsOf, Engine.Plain.IsPlain, Engine.Plain.plain-can, Engine.Plain.plain-step, Engine.Plain.plain-blocks, Ring.Coded.part, Ring.Coded.same_step, Ring.Moments.ring_begun, Ring.Moments.ring_moves}
+use Rattle.machine_replay.proofs.{Engine.StandOf.stand_of, Engine.Moments.any_in, Engine.Moments.same_moments, Progress.FewSteps.FewSteps, Progress.FewSteps.few_begun, Progress.FewSteps.few_joined, Progress.FewSteps.few_watched, Progress.FewSteps.few_own, Progress.FewSteps.few_stays}
+use Rattle.machine_replay.proofs.{Engine.KindLaws.LawsOf, Engine.Plain.IsPlain, Engine.Plain.plain-can, Engine.Plain.plain-step, Engine.Plain.plain-blocks, Ring.Coded.part, Ring.Coded.same_step, Ring.Moments.ring_begun, Ring.Moments.ring_moves}
 use Rattle.queue_laws.specs.Ring.RingShared as ring
 use Rattle.queue_laws.proofs.Ring.{RingPasses.none_stays, RingAt.at_stays, RingRanks.rank, RingRanks.rank_small, RingRanks.rank_some, RingRanks.longest, RingRanks.wait_free_rank, RingStepOk.IsQuiet, RingStepOk.NextOk, RingStepOk.IsEffect, RingStep.step_good, RingStart.at_first}
 use Rattle.machine_steps.specs.World.{StepOutcome}

@@ -7,7 +7,8 @@ use Rattle.queue_laws.proofs.{Common.Tails.position_tail, Ring.RingCells.wraps, 
 use Rattle.machine_steps.specs.{World.World, Steps.CanStep, Steps.step_of, Steps.start_of, Left.left_of, Left.all_written, Left.gathered}
 use Rattle.machine_memory.specs.SharedMemory.{MemoryState}
 use Rattle.machine_replay.proofs.Engine.Events as engine
-use Rattle.machine_replay.proofs.{Engine.KindLaws.SimulatesOf, Engine.AllWritten.writes, Engine.AllWritten.writes_slot, Engine.AllWritten.all_written-none, Engine.AllWritten.all_written-one, Engine.AllWritten.nth, Engine.AllWritten.gathered-items, Ring.Laws.RingHolds, Ring.Laws.RingIdle, Ring.Laws.RingFits}
+use Rattle.machine_replay.proofs.{Engine.KindLaws.SimulatesOf, Ring.Laws.RingHolds, Ring.Laws.RingIdle, Ring.Laws.RingFits}
+use Rattle.machine_replay.proofs.Engine.AllWritten.{writes, writes_slot, all_written-none, all_written-one, nth, gathered-items}
 use Rattle.queue_laws.specs.{Common.Stand.Stand, Ring.RingWords.item_in, Ring.RingAt.At, Ring.RingAt.filling, Ring.RingAt.arriving, Ring.RingAt.swapping, Ring.RingAt.emptying}
 use Rattle.queue_laws.specs.Ring.RingCells.{Cell, Free, Written, Full, Read, Coming, Swapped, Ring, CellOk, RingOk, owner}
 

@@ -4,8 +4,10 @@ use Rattle.std.proofs.{Math.Nat.min-eq_left, Math.Nat.min-eq_right, lemmas.Bool.
 use Rattle.queue_steps.specs.{State.State, RingNext.lap_found, RingNext.loads, RingNext.push_stamp_found, Words.IsRing, Words.position_of, Words.is_shut, Words.slot_at, Words.stamp_filled, Words.stamp_free, Words.tail_of, Next.next_of}
 use Rattle.machine_replay.specs.Vocabulary.{Call, Effect, Kind, Word, Op, Touch, Local, Next, PushKind, RingLocal, TAIL_STEP, Running}
 use Rattle.queue_laws.specs.{Common.Effects.with_effect, Common.Stand.Stand, Ring.RingOpening.opening_ring, Ring.RingWords.Codes, Ring.RingWords.stamp_in}
-use Rattle.queue_laws.proofs.{Common.Ranks.either_small, Common.Tails.position_tail, Common.Tails.shut_tail, Ring.RingStart.holds_none, Ring.RingStepOk.NextOk, Ring.RingStepOk.IsQuiet, Ring.RingRanks.rank, Ring.RingRanks.rank_some, Ring.RingSlots.nobody, Ring.RingTransitions.in_ring, Ring.RingStep.step_good}
-use Rattle.machine_replay.proofs.{Engine.StandOf.running_of, Engine.Plain.plain-step, Ring.Coded.part, Ring.Coded.same_step, Ring.Laws.RingHolds, Ring.Laws.RingIdle, Ring.Laws.RingFits, Ring.Laws.ring_steps, Ring.Opening.ring_opens, Ring.Opening.ring_all_idle, Progress.Appended.HasAppend, Progress.Appended.appends_reply, Progress.Taken.HasTake, Progress.Taken.takes_reply, Progress.Stretch.Rules, Progress.Stretch.Paces, Progress.Stretch.unhindered, Progress.Stretch.never_waits, Progress.Stretch.waits_take_none}
+use Rattle.queue_laws.proofs.{Common.Ranks.either_small, Common.Tails.position_tail, Common.Tails.shut_tail, Ring.RingStart.holds_none, Ring.RingStepOk.NextOk, Ring.RingStepOk.IsQuiet, Ring.RingRanks.rank, Ring.RingRanks.rank_some, Ring.RingSlots.nobody, Ring.RingTransitions.in_ring}
+use Rattle.queue_laws.proofs.Ring.RingStep.{step_good}
+use Rattle.machine_replay.proofs.{Engine.StandOf.running_of, Engine.Plain.plain-step, Ring.Coded.part, Ring.Coded.same_step, Ring.Laws.RingHolds, Ring.Laws.RingIdle, Ring.Laws.RingFits, Ring.Laws.ring_steps, Ring.Opening.ring_opens, Ring.Opening.ring_all_idle, Progress.Appended.HasAppend}
+use Rattle.machine_replay.proofs.Progress.{Appended.appends_reply, Taken.HasTake, Taken.takes_reply, Stretch.Rules, Stretch.Paces, Stretch.unhindered, Stretch.never_waits, Stretch.waits_take_none}
 use Rattle.queue_laws.specs.Ring.RingShared as ring
 use Rattle.queue_laws.specs.Ring.RingCells.{Cell, Free, Written, Read, Coming, Swapped, Ring, RingOk, CellOk, owner, queue_of}
 use Rattle.queue_laws.specs.Ring.RingAt.{At, push_stamp, claiming, filling, push_head, displacing, arriving, swapping, pop_stamp, taking, emptying, pop_tail, count_head, count_again}
@@ -114,7 +116,9 @@ falls_at {cap = cap} {r = r} {who = who} ok s x (push_stamp d v t none saw) fine
           let wide : 0 < cap = (let w = fine.ring.0 in omega arith) in
           let ne = not_lapped cap r.head r.tail (position_of t) i r.items r.coming (r.cells i) wide fine.room past (fine.cell i lt) (λ w e. nobody r who none quiet w i e) in
           let late = ne_eqb (word_at s (Word.Stamp i) + cap) (position_of t + 1) (λ e. ne (ap (λ n. n + cap) (sym (codes.stamp i lt)) ∙ e)) in
-          stale_falls _ _ (after_stamp cap (step_of (Kind.Bounded cap) ok s (record { local = Local.Ring (RingLocal.PushStamp d t); touch = Touch.Nothing; op = Op.Load (Word.Stamp (slot_at cap (position_of t))); carried = Some v })).shared d t (word_at s (Word.Stamp i)) (Some v) x late goes) (rw other.0 (omega arith))
+          stale_falls _ _
+          (after_stamp cap
+          (step_of (Kind.Bounded cap) ok s (record { local = Local.Ring (RingLocal.PushStamp d t); touch = Touch.Nothing; op = Op.Load (Word.Stamp (slot_at cap (position_of t))); carried = Some v })).shared d t (word_at s (Word.Stamp i)) (Some v) x late goes) (rw other.0 (omega arith))
     ]
 falls_at {cap = cap} ok s x (claiming d v t none saw free) fine codes quiet goes less = near_falls _ _ less (either_small (position_of t == position_of s.tail) 2 5 6 (omega arith) (omega arith))
 falls_at {cap = cap} ok s x (push_head v t none saw) fine codes quiet goes less = near_falls _ _ less (either_small (s.head + cap == position_of t) 1 6 6 (omega arith) (omega arith))
@@ -135,7 +139,8 @@ module _ {A : Type 0} (cap : ℕ) where
       let after = good.after in
       let codes : Codes cap after (part (after_operation true s x)) = subst (λ c. Codes cap after c) (sym same.leaves) good.codes in
       let went = ap (λ a. next_of (Kind.Bounded cap) x.local a) same.answers in
-      let falls = goes_on cap g after p (queue_of cap after ∷ o.moments) (o.was_open || not after.closed) (next_of (Kind.Bounded cap) x.local (ring.answered (ring.touched (part s) x.touch x.carried) x.op)) (ring.handed (part s) x.touch x.carried) o.call (with_effect o.effects good.e) (rank cap g x.local) x'
+      let falls = goes_on cap g after p (queue_of cap after ∷ o.moments) (o.was_open || not after.closed)
+      (next_of (Kind.Bounded cap) x.local (ring.answered (ring.touched (part s) x.touch x.carried) x.op)) (ring.handed (part s) x.touch x.carried) o.call (with_effect o.effects good.e) (rank cap g x.local) x'
       (subst (λ v. running_after (next_of (Kind.Bounded cap) x.local (ring.answered (ring.touched (part s) x.touch x.carried) x.op)) v ≡ Some x') same.carries (subst (λ n. running_after n (carried_then s x) ≡ Some x') went goes)) good.goes quiet in
       let there = far_is cap after (step_of (Kind.Bounded cap) true s x).shared x'.local (far_codes codes) in
       let here = far_is cap g s x.local holds.codes in

@@ -248,7 +248,8 @@ module _ {A : Type 0} (cap : ℕ) (ring : IsRing cap) (parties : ℕ) (w : World
       (push_cell cap g.head g.tail (q % cap) g.items g.coming wide ok.count ok.room (g.cells (q % cap)) (ap (λ n. n % cap) tail_is) (ok.cell (q % cap) (in_ring cap q ring)) (λ e. f.0 (stamp_is q ∙ (e ∙ sym tail_is))) (λ e. f.1 (ap (λ n. n + cap) (stamp_is q) ∙ (e ∙ ap (λ n. n + 1) (sym tail_is)))))
       (λ such. subst IsPushToStamp at_it such)
 
-  full_row : (p : ℕ) (r x y : Running A) (d : PushKind) → call_at w p ≡ Some r → r.local ≡ Local.Ring (RingLocal.PushStamp d w.shared.tail) → GoesOnTwice (Kind.Bounded cap) w.shared r x y → (x.local ≡ Local.Ring (RingLocal.PushTail d) → ⊥) → y.local ≡ Local.Ring (RingLocal.PushTail d) → IsBeside w p HasFront
+  full_row : (p : ℕ) (r x y : Running A) (d : PushKind) → call_at w p ≡ Some r → r.local ≡ Local.Ring (RingLocal.PushStamp d w.shared.tail)
+      → GoesOnTwice (Kind.Bounded cap) w.shared r x y → (x.local ≡ Local.Ring (RingLocal.PushTail d) → ⊥) → y.local ≡ Local.Ring (RingLocal.PushTail d) → IsBeside w p HasFront
   full_row p r x y d is at_it goes never back =
       let g = h.sim.g in let ok = h.sim.holds.ok in let q = position_of w.shared.tail in
       let s = (step_of (Kind.Bounded cap) true w.shared r).shared in

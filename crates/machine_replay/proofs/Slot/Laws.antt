@@ -3,7 +3,8 @@ use Rattle.std.proofs.Common.{ℕ, ◌<◌, ◌≤◌, ◌≡◌, ◌≢◌, ◌
 use Rattle.queue_steps.specs.{State.State, Next.next_of, Next.CanNext, WaitFree.is_wait_free, Replies.IsRightAt}
 use Rattle.machine_replay.specs.{Vocabulary.Call, Vocabulary.Reply, Vocabulary.Effect, Vocabulary.Kind, Vocabulary.Next, Vocabulary.Running, Book.Open, Book.Allows, Book.after_own, Book.begun}
 use Rattle.queue_laws.specs.{Common.Effects.with_effect, Slot.SlotHolder.SlotHolder, Slot.SlotHolder.Nobody, Slot.SlotHolder.LockHolder, Slot.SlotHolder.Idle, Slot.SlotHolder.own_of}
-use Rattle.machine_replay.proofs.{Engine.StandOf.stand_of, Engine.Moments.any_in, Progress.FewSteps.FewSteps, Progress.FewSteps.few_begun, Progress.FewSteps.few_joined, Progress.FewSteps.few_watched, Progress.FewSteps.few_own, Progress.FewSteps.few_stays, Engine.KindLaws.LawsOf, Slot.Coded.one_slot, Slot.Coded.same_step, Slot.Coded.shared_same, Slot.Moments.slot_begun, Slot.Moments.slot_moves}
+use Rattle.machine_replay.proofs.{Engine.StandOf.stand_of, Engine.Moments.any_in, Engine.KindLaws.LawsOf, Slot.Coded.one_slot, Slot.Coded.same_step, Slot.Coded.shared_same, Slot.Moments.slot_begun, Slot.Moments.slot_moves}
+use Rattle.machine_replay.proofs.Progress.FewSteps.{FewSteps, few_begun, few_joined, few_watched, few_own, few_stays}
 use Rattle.queue_laws.specs.Slot.SlotShared as slot
 use Rattle.queue_laws.specs.Slot.SlotRows.{Codes, At, push_try, force_try_empty, pop_try, close_try, look_at, single, NextOk, IsEffect}
 use Rattle.queue_laws.proofs.Slot.{SlotSteps.step_good, SlotHolder.share_of, SlotHolder.next_who, SlotHolder.own_self, SlotHolder.own_other, SlotHolder.own_alone}

@@ -9,7 +9,8 @@ use Rattle.queue_laws.specs.Slot.SlotRows.{Codes, free_empty, free_full, filling
 use Rattle.machine_memory.specs.SharedMemory.{MemoryState}
 use Rattle.machine_steps.specs.{Steps.CanStep, Steps.step_of, Steps.start_of, Left.left_of, Left.all_written, World.World, World.call_at}
 use Rattle.machine_replay.proofs.Engine.Events as engine
-use Rattle.machine_replay.proofs.{Engine.KindLaws.SimulatesOf, Engine.KindLaws.KindLaws, Engine.Counted.counted-none, Engine.AllWritten.writes, Engine.AllWritten.writes_slot, Engine.AllWritten.all_written-none, Engine.AllWritten.all_written-one, Slot.Laws.SlotHolds, Slot.Laws.FitsIn, Slot.Laws.slot_engine}
+use Rattle.machine_replay.proofs.{Engine.KindLaws.SimulatesOf, Engine.KindLaws.KindLaws, Engine.Counted.counted-none, Slot.Laws.SlotHolds, Slot.Laws.FitsIn, Slot.Laws.slot_engine}
+use Rattle.machine_replay.proofs.Engine.AllWritten.{writes, writes_slot, all_written-none, all_written-one}
 
 -- what the lock's holder is about to write
 abbrev wait_of : {T : Type 0} → SlotHolder T → Option T

@@ -2,7 +2,8 @@
 use Rattle.std.proofs.Common.{ℕ, ◌≡◌, ◌==◌, inl, Bool, true, false, if◌then◌else◌, Option, Some, None, Ok, [], refl}
 use Rattle.queue_steps.specs.{State.State, SlotNext.is_marked, declared.steps.slot.SlotLocal.TheVariants.Pushing, declared.steps.slot.SlotLocal.TheVariants.Forcing, declared.steps.slot.SlotLocal.TheVariants.Popping, declared.steps.slot.SlotLocal.TheVariants.Closing}
 use Rattle.machine_replay.specs.{Vocabulary.Reply, Vocabulary.Effect, Vocabulary.Kind, Vocabulary.Answer, Vocabulary.Local, Vocabulary.PushKind, Vocabulary.EffectKind, Book.IsBegun, Book.Open, Book.Moves}
-use Rattle.queue_laws.specs.{Common.Effects.Leads, Common.Effects.with_effect, Common.Effects.Whether, Common.Stand.Stand, Slot.SlotHolder.SlotHolder, Slot.SlotRows.At, Slot.SlotRows.push_put, Slot.SlotRows.force_put_empty, Slot.SlotRows.force_put_full, Slot.SlotRows.pop_take, Slot.SlotRows.IsEffect}
+use Rattle.queue_laws.specs.{Common.Effects.Leads, Common.Effects.with_effect, Common.Effects.Whether, Common.Stand.Stand, Slot.SlotHolder.SlotHolder}
+use Rattle.queue_laws.specs.Slot.SlotRows.{At, push_put, force_put_empty, force_put_full, pop_take, IsEffect}
 use Rattle.machine_memory.specs.EffectOf.{effect_of}
 use Rattle.machine_replay.proofs.Engine.{Moments.begun_none, Moments.begun_append, Moving.no_move, Moving.moved, Moving.won, Moving.marked, Moving.appends, Moving.takes}
 

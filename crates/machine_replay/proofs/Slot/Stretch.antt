@@ -4,7 +4,8 @@ use Rattle.std.proofs.lemmas.Option.{none-some}
 use Rattle.queue_steps.specs.{State.State, Next.next_of, declared.steps.slot.SlotLocal.TheVariants.Pushed, declared.steps.slot.SlotLocal.TheVariants.Forced, declared.steps.slot.SlotLocal.TheVariants.Popped}
 use Rattle.machine_replay.specs.{Vocabulary.Kind, Vocabulary.Local, Vocabulary.Next, Vocabulary.Running, Book.Open, Progress.AppendsReplyWithin, Progress.TakesReplyWithin, Progress.HalfDoneTakesNone, Progress.UnhinderedWithin, Progress.NeverWaits}
 use Rattle.queue_laws.specs.{Common.Stand.Stand, Slot.SlotHolder.SlotHolder, Slot.SlotHolder.Nobody, Slot.SlotHolder.Taking, Slot.SlotHolder.LockHolder, Slot.SlotHolder.Idle}
-use Rattle.machine_replay.proofs.{Engine.StandOf.running_of, Slot.Coded.one_slot, Slot.Coded.same_step, Slot.Coded.shared_same, Slot.Laws.SlotHolds, Slot.Laws.FitsIn, Slot.Laws.slot_engine, Progress.Appended.HasAppend, Progress.Appended.appends_reply, Progress.Taken.HasTake, Progress.Taken.takes_reply, Progress.Stretch.Rules, Progress.Stretch.Paces, Progress.Stretch.unhindered, Progress.Stretch.never_waits, Progress.Stretch.waits_take_none}
+use Rattle.machine_replay.proofs.{Engine.StandOf.running_of, Slot.Coded.one_slot, Slot.Coded.same_step, Slot.Coded.shared_same, Slot.Laws.SlotHolds, Slot.Laws.FitsIn, Slot.Laws.slot_engine, Progress.Appended.HasAppend, Progress.Appended.appends_reply, Progress.Taken.HasTake}
+use Rattle.machine_replay.proofs.Progress.{Taken.takes_reply, Stretch.Rules, Stretch.Paces, Stretch.unhindered, Stretch.never_waits, Stretch.waits_take_none}
 use Rattle.queue_laws.specs.Slot.SlotShared as slot
 use Rattle.queue_laws.specs.Slot.SlotRows.{Codes, free_empty, At, push_try, push_put, force_put_empty, force_put_full, pop_take, code}
 use Rattle.queue_laws.proofs.Slot.{SlotHolder.own_alone, SlotRanks.rank, SlotRanks.rank_small, SlotRanks.rank_some, SlotRanks.Falls, SlotRanks.step_falls}

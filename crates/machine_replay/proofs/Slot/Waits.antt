@@ -1,8 +1,10 @@
 -- One slot: who waits for whom, step by step.
 use Rattle.std.proofs.Common.{ℕ, ◌≡◌, ◌≢◌, ◌∙◌, Bool, true, false, Option, Some, None, List, refl, sym, ap, subst}
 use Rattle.std.proofs.lemmas.Bool.{eq-eqb}
-use Rattle.queue_steps.specs.{Next.next_of, SlotNext.unlocked, declared.steps.slot.SlotLocal.TheVariants.Pushing, declared.steps.slot.SlotLocal.TheVariants.Pushed, declared.steps.slot.SlotLocal.TheVariants.Forcing, declared.steps.slot.SlotLocal.TheVariants.Forced, declared.steps.slot.SlotLocal.TheVariants.Popping, declared.steps.slot.SlotLocal.TheVariants.Popped}
-use Rattle.machine_replay.specs.{Vocabulary.Kind, Vocabulary.Answer, Vocabulary.Local, Vocabulary.Running, Book.Open, Played.told_of, Played.world_after, Progress.Standing, Progress.Between, Progress.stands_by, Waits.SlotWaits, Waits.SlotCallsWait, Waits.IsBeside, Waits.GoesOn, Waits.IsToUnlock, Waits.IsPushToUnlock, Waits.IsPopToUnlock}
+use Rattle.queue_steps.specs.{Next.next_of, SlotNext.unlocked}
+use Rattle.queue_steps.specs.declared.steps.slot.SlotLocal.TheVariants.{Pushing, Pushed, Forcing, Forced, Popping, Popped}
+use Rattle.machine_replay.specs.{Vocabulary.Kind, Vocabulary.Answer, Vocabulary.Local, Vocabulary.Running, Book.Open, Played.told_of, Played.world_after, Progress.Standing, Progress.Between, Progress.stands_by}
+use Rattle.machine_replay.specs.Waits.{SlotWaits, SlotCallsWait, IsBeside, GoesOn, IsToUnlock, IsPushToUnlock, IsPopToUnlock}
 use Rattle.queue_laws.specs.{Common.Stand.Stand, Slot.SlotHolder.SlotHolder, Slot.SlotHolder.Nobody, Slot.SlotHolder.Taking, Slot.SlotHolder.LockHolder}
 use Rattle.machine_replay.proofs.{Engine.StandOf.stand_of, Progress.Beside.beside, Progress.Beside.not_back, Slot.Coded.one_slot, Slot.Coded.same_step, Slot.Stretch.slot_rules, Progress.Stretch.Here, Progress.Stretch.Party, Progress.Stretch.reach, Progress.Stretch.first, Progress.Stretch.party-open}
 use Rattle.queue_laws.specs.Slot.SlotShared as slot

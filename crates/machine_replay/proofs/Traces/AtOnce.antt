@@ -3,8 +3,10 @@ use Rattle.std.proofs.Common.{◌≡◌, ◌⊎◌, ℕ, ◌+◌, ◌<◌, ◌�
 use Rattle.std.specs.List.{AllByRecursion}
 use Rattle.std.proofs.lemmas.{Bool.Decides.eqb_tells, Option.slice_get_within}
 use Rattle.queue_steps.specs.{State.State, State.start, Effect.IsHistory, Replies.IsRightAt, Replies.Allows, Replies.Tells}
-use Rattle.machine_replay.specs.{Vocabulary.Call, Vocabulary.Reply, Vocabulary.Effect, Vocabulary.Event, Vocabulary.Begin, Vocabulary.Step, Book.IsBegun, Book.has_steps, InCall.IsStepOf, InCall.IsUnanswered, InCall.IsInCall, Meaning.state_after, Meaning.own_effects, Meaning.SawOpen, Meaning.IsOwn, Meaning.EndsCall, Meaning.RepliesAtOnce, Meaning.IsAnswer, AtOnce.IsWithinCall, AtOnce.IsGlanced, AtOnce.IsWhole, AtOnce.RunsDisplaceAtOnce, Skips.IsExact, Skips.SkippedIsExact}
-use Rattle.queue_laws.proofs.{Common.Runs.cap_after, Moment.Naming.Rising, Moment.Choosing.before, Moment.Choosing.both_parts, Moment.Glances.cases_before, Moment.Glances.middle_or, Moment.Shut.In, Moment.Shut.each_with, Moment.Shut.each_in, Moment.Shut.each_append, Moment.Shut.closed_by, Moment.Settling.sound_start, Moment.Settling.sound_after, Moment.Histories.rising, Moment.Histories.histories_settle, Moment.Owning.is_few, Moment.Together.settle_paired, Moment.Together.stands_together}
+use Rattle.machine_replay.specs.{Vocabulary.Call, Vocabulary.Reply, Vocabulary.Effect, Vocabulary.Event, Vocabulary.Begin, Vocabulary.Step, Book.IsBegun, Book.has_steps, InCall.IsStepOf, InCall.IsUnanswered, InCall.IsInCall, Meaning.state_after, Meaning.own_effects, Meaning.SawOpen, Meaning.IsOwn}
+use Rattle.machine_replay.specs.{Meaning.EndsCall, Meaning.RepliesAtOnce, Meaning.IsAnswer, AtOnce.IsWithinCall, AtOnce.IsGlanced, AtOnce.IsWhole, AtOnce.RunsDisplaceAtOnce, Skips.IsExact, Skips.SkippedIsExact}
+use Rattle.queue_laws.proofs.{Common.Runs.cap_after, Moment.Naming.Rising, Moment.Choosing.before, Moment.Choosing.both_parts, Moment.Glances.cases_before, Moment.Glances.middle_or, Moment.Shut.In, Moment.Shut.each_with, Moment.Shut.each_in, Moment.Shut.each_append, Moment.Shut.closed_by}
+use Rattle.queue_laws.proofs.Moment.{Settling.sound_start, Settling.sound_after, Histories.rising, Histories.histories_settle, Owning.is_few, Together.settle_paired, Together.stands_together}
 use Rattle.queue_laws.specs.Moment.Moments.{IsGlance}
 use Rattle.queue_laws.specs.Moment.Entries.{Entry, effects_in, state_before, front_first, fronts_at, other_first, other_entries, settle_first, settle, SeesNoMove, KeepsFronts, own_of, SettlesInto}
 

@@ -7,7 +7,8 @@ use Rattle.queue_steps.specs.Replies.{IsRightAt}
 use Rattle.machine_replay.specs.Vocabulary.{Call, Reply, Effect, Event, Told, EffectKind, Begin, Step, Skipped, Ran}
 use Rattle.machine_replay.specs.Book.{Book, Open, IsBegun, Steps, GoesOn, Happens, Run, has_steps, begun, joined, watched, after_own, put, at_open, opening}
 use Rattle.machine_replay.specs.{Conforms.entries_from, Conforms.reply_entry, Conforms.skipped_entry, InCall.IsInCall, Meaning.Entry, Meaning.state_after, Meaning.own_effects, Meaning.RepliesAtOnce, Meaning.ConformingHasHistory}
-use Rattle.machine_replay.proofs.{Engine.Calls.with_reply, Traces.Displacing.pending, Engine.Moments.begun_none, Engine.Entries.each-all, Engine.Entries.each-more, Engine.Entries.event-last, Engine.Entries.state-last, Engine.Entries.own-none, Progress.Solo.and-right, Replays.Rising.replies-rise, Replays.Rising.skipped-late, Replays.Rising.skipped-rise, Replays.SkipsAll.in-call-at-end, Traces.Trace.Since, Traces.Trace.Trace, Traces.Trace.ReplyOwes, Traces.Trace.FitsIf, Traces.Trace.trace-more, Traces.Trace.added, Traces.Trace.leads-added}
+use Rattle.machine_replay.proofs.{Engine.Calls.with_reply, Traces.Displacing.pending, Engine.Moments.begun_none, Engine.Entries.each-all, Engine.Entries.each-more, Engine.Entries.event-last, Engine.Entries.state-last, Engine.Entries.own-none, Progress.Solo.and-right, Replays.Rising.replies-rise}
+use Rattle.machine_replay.proofs.{Replays.Rising.skipped-late, Replays.Rising.skipped-rise, Replays.SkipsAll.in-call-at-end, Traces.Trace.Since, Traces.Trace.Trace, Traces.Trace.ReplyOwes, Traces.Trace.FitsIf, Traces.Trace.trace-more, Traces.Trace.added, Traces.Trace.leads-added}
 use Rattle.machine_replay.proofs.Traces.TraceSteps.{put-cases, at_open-cases, since-other, since-joined, since-watched, moves-does, Does, since-own, answer-own, entry-owes, others-wait}
 
 -- the trace after one event more
@@ -132,7 +133,8 @@ abbrev RanIf : {T : Type 0} → List ℕ → ℕ → Told T → Type 0
 RanIf S n Skipped = Unit {0}
 RanIf S n (Ran k r) = Contains S n → ⊥
 
-happens-next : {T : Type 0} (cap : Option ℕ) (S : List ℕ) (parties : ℕ) (past : List (Event T)) (told : List (Told T)) (n : ℕ) (H : List (Entry T)) (R : List (ℕ × ℕ × Reply T)) (b c : Book T) (x : Event T) (t : Told T) → Trace cap S past told n H R b → RanIf S n t → Happens cap parties b x t c → Next cap S past told n x t c
+happens-next : {T : Type 0} (cap : Option ℕ) (S : List ℕ) (parties : ℕ) (past : List (Event T)) (told : List (Told T)) (n : ℕ) (H : List (Entry T)) (R : List (ℕ × ℕ × Reply T)) (b c : Book T) (x : Event T) (t : Told T)
+    → Trace cap S past told n H R b → RanIf S n t → Happens cap parties b x t c → Next cap S past told n x t c
 happens-next cap S parties past told n H R b c x Skipped tr ran h = skipped-next cap S past told n H R b c x tr h.1
 happens-next cap S parties past told n H R b c (Begin p k) (Ran None None) tr ran h = began-next cap S past told n H R b c p k tr ran h.2
 happens-next cap S parties past told n H R b c (Begin p k) (Ran None (Some y)) tr ran h =

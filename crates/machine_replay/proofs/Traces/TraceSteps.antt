@@ -7,7 +7,8 @@ use Rattle.queue_steps.specs.{State.State, State.start, Effect.after_from}
 use Rattle.machine_replay.specs.{Vocabulary.Reply, Vocabulary.Effect, Vocabulary.Event, Vocabulary.EffectKind, Vocabulary.Step, Vocabulary.Ran, Conforms.effect_entry, InCall.IsStepOf}
 use Rattle.machine_replay.specs.Book.{Open, Allows, MayEnd, GoesOn, IsBegun, Moves, MayMake, kind_of, put, at_open, watched, joined, after_own, seen_by}
 use Rattle.machine_replay.specs.Meaning.{Entry, effects_in, kinds_in, state_after, own_effects, IsMoment, SawOpen, EndsCall, IsOwn, IsArrivalOf}
-use Rattle.machine_replay.proofs.{Engine.Calls.with_reply, Engine.Calls.unanswered-since, Engine.Calls.in-call-late, Engine.Calls.in-call-on, Traces.Displacing.pending, Traces.Displacing.pending-append, Traces.Displacing.begun-by-front, Traces.Displacing.coming-pending, Engine.Entries.each-all, Engine.Entries.event-last, Engine.Entries.own-last, Engine.Entries.own-mine, Engine.Entries.own-others}
+use Rattle.machine_replay.proofs.{Engine.Calls.with_reply, Engine.Calls.unanswered-since, Engine.Calls.in-call-late, Engine.Calls.in-call-on, Traces.Displacing.pending, Traces.Displacing.pending-append, Traces.Displacing.begun-by-front, Traces.Displacing.coming-pending}
+use Rattle.machine_replay.proofs.Engine.Entries.{each-all, event-last, own-last, own-mine, own-others}
 use Rattle.machine_replay.proofs.Traces.Trace.{IsDisplacing, Since, added, extends-added, FitsIf, made_if, moment-more, opened-more, EntryOwes, ReplyOwes}
 
 -- whose call changes where one party's does

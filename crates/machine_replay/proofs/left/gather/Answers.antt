@@ -11,6 +11,7 @@ gather_one-requires g c =
 pub loop-position-preserved : goal.loop-position-preserved
 loop-position-preserved g c =
     record {
-      items = rw (c.gather_one.ensures.left, c.gather_one.ensures.slots) (gathered-next c.args.cap c.loop-position.position c.args.end c.loop-position.slots.items c.loop-position.left.items (gathered c.args.cap c.args.head (c.args.end - c.args.head) c.args.slots.items) c.loop-position-test.true c.loop-position.invariant.items);
+      items = rw (c.gather_one.ensures.left, c.gather_one.ensures.slots) (gathered-next c.args.cap c.loop-position.position c.args.end c.loop-position.slots.items c.loop-position.left.items
+          (gathered c.args.cap c.args.head (c.args.end - c.args.head) c.args.slots.items) c.loop-position-test.true c.loop-position.invariant.items);
       room = rw c.gather_one.ensures.room c.loop-position.invariant.room;
     }
