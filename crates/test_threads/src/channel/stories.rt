@@ -244,6 +244,26 @@ fn tell_in_turn<R: Host>(rt: &R, stage: &Stage, mut cast: Cast, lines: &str) {
     }
 }
 
+/// Tells the lines of the ends of a side, of which there are one or two, each on a thread of its own.
+fn tell_side<R: Host + Sync>(
+    rt: &R,
+    stage: &Stage,
+    names: [&'static str; 2],
+    first: &mut Option<AnyEnd>,
+    second: &mut Option<AnyEnd>,
+    lines: &str,
+) {
+    let [one, two] = names;
+    if second.is_none() {
+        return perform(rt, stage, one, first, lines);
+    }
+    join(
+        rt,
+        || perform(rt, stage, one, first, lines),
+        || perform(rt, stage, two, second, lines),
+    );
+}
+
 /// Tells the lines of each end on a thread of its own.
 fn tell_at_once<R: Host + Sync>(rt: &R, stage: &Stage, cast: Cast, lines: &str) {
     let Cast {
@@ -254,20 +274,8 @@ fn tell_at_once<R: Host + Sync>(rt: &R, stage: &Stage, cast: Cast, lines: &str) 
     } = cast;
     join(
         rt,
-        || {
-            join(
-                rt,
-                || perform(rt, stage, "A", &mut a, lines),
-                || perform(rt, stage, "B", &mut b, lines),
-            );
-        },
-        || {
-            join(
-                rt,
-                || perform(rt, stage, "X", &mut x, lines),
-                || perform(rt, stage, "Y", &mut y, lines),
-            );
-        },
+        || tell_side(rt, stage, ["A", "B"], &mut a, &mut b, lines),
+        || tell_side(rt, stage, ["X", "Y"], &mut x, &mut y, lines),
     );
 }
 
