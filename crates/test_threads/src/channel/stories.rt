@@ -279,6 +279,18 @@ fn tell_at_once<R: Host + Sync>(rt: &R, stage: &Stage, cast: Cast, lines: &str) 
     );
 }
 
+/// Asserts that each line of a story is of an end, and tells what that does.
+fn are_of_ends(rt: &impl Abort, story: &'static str, lines: &'static str) {
+    for line in lines.lines() {
+        let is_told = match told_in(line) {
+            (_, "") => false,
+            ("A" | "B" | "X" | "Y", _) => true,
+            _ => false,
+        };
+        is_in(rt, (story, line), is_told, true);
+    }
+}
+
 /// Tells a story. Asserts what its lines say.
 pub(crate) fn tell<R: Host + Sync>(rt: &R, told: Told, text: &'static str) {
     let Some((head, lines)) = text.split_once("\n") else {
@@ -287,6 +299,7 @@ pub(crate) fn tell<R: Host + Sync>(rt: &R, told: Told, text: &'static str) {
     let Some((story, caps)) = head.rsplit_once(": ") else {
         panic!(rt; "no capacities: {text}")
     };
+    are_of_ends(rt, story, lines);
     let ways = if lines.contains("leave") {
         WAYS.len()
     } else {
