@@ -11,3 +11,6 @@ pub mod search;
 mod show;
 mod stage;
 mod trail;
+
+#[cfg(test)]
+mod tests;
