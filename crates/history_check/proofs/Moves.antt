@@ -1,5 +1,5 @@
 -- What a move between two events does, and what lists of calls keep.
-use Rattle.std.proofs.Common.{◌≡◌, ◌≢◌, ◌∙◌, ◌⊎◌, inl, inr, ℕ, suc, zero, Bool, true, false, Option, Some, List, [], ◌∷◌, refl, ap, ◌++◌, ◌<◌, length, arith}
+use Rattle.std.proofs.Common.{◌≡◌, ◌≢◌, ◌∙◌, ◌⊎◌, inl, inr, ℕ, suc, zero, Bool, true, false, Option, Some, List, [], ◌∷◌, refl, ap}
 use Rattle.std.specs.Prelude.{slice_get, slice_set}
 use Rattle.queue_steps.specs.State.{State}
 use Rattle.queue_steps.proofs.Keeping.{stays_closed}
@@ -24,12 +24,6 @@ set_other (x ∷ xs) zero zero y ne = absurd (ne refl)
 set_other (x ∷ xs) zero (suc i) y ne = refl
 set_other (x ∷ xs) (suc k) zero y ne = refl
 set_other (x ∷ xs) (suc k) (suc i) y ne = set_other xs k i y (λ e. ne (ap suc e))
-
--- what is in a list keeps its place when the list grows
-pub at_front : {X : Type 0} (xs more : List X) (k : ℕ) → k < length xs → slice_get (xs ++ more) k ≡ slice_get xs k
-at_front [] more k h = absurd (let no : k < 0 = h in omega arith)
-at_front (x ∷ xs) more zero h = refl
-at_front (x ∷ xs) more (suc k) h = at_front xs more k (let more' : suc k < suc (length xs) = h in omega arith)
 
 -- the first is the second, or waits for the same call and saw the queue open where the second did not
 abbrev pub IsMoreOpen : Way → Way → Type 0

@@ -1,5 +1,5 @@
 -- When a recorded history is legal: each call has its effects between its beginning and its end, and together they are one history of the queue, in which each reply is right.
-use Rattle.std.specs.Prelude.{◌≡◌, ℕ, Bool, true, not, Option, Some, None, List, [], ◌∷◌, slice_get, slice_set, replicate, take, ◌<◌, ◌++◌}
+use Rattle.std.specs.Prelude.{◌≡◌, ℕ, Bool, true, not, Option, Some, None, List, [], ◌∷◌, slice_get, slice_set, replicate, take, ◌<◌, ◌+◌, ◌++◌}
 use Rattle.queue_steps.specs.State.{State, start}
 use Rattle.queue_steps.specs.Effect.{Fits, made}
 use Rattle.queue_steps.specs.Replies.{Allows, Tells}
@@ -75,3 +75,7 @@ IsShortest cap parties events n = ¬ (IsLegal cap parties (take n events)) × ((
 -- each beginning of a legal history is legal
 abbrev pub BeginningsAreLegal : Type 0
 BeginningsAreLegal = (cap : Option ℕ) (parties : ℕ) (es fs : List Event) → IsLegal cap parties (es ++ fs) → IsLegal cap parties es
+
+-- where the first n events are legal and one more is not, these are the shortest beginning that is not
+abbrev pub ShortestIsNext : Type 0
+ShortestIsNext = (cap : Option ℕ) (parties : ℕ) (events : List Event) (n : ℕ) → IsLegal cap parties (take n events) → ¬ (IsLegal cap parties (take (n + 1) events)) → IsShortest cap parties events (n + 1)

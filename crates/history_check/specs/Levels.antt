@@ -5,7 +5,7 @@ use Rattle.history_check.specs.declared.recorded.Event.{Event}
 use Rattle.history_check.specs.declared.recorded.Event.TheVariants.{Begin, End}
 use Rattle.history_check.specs.declared.recorded.Move.{Move}
 use Rattle.history_check.specs.declared.recorded.Move.TheVariants as move
-use Rattle.history_check.specs.Legal.{Stage, MayRecord, recorded, Makes, Goes}
+use Rattle.history_check.specs.Legal.{Stage, opening, MayRecord, recorded, Makes, Goes, IsLegal}
 
 -- the reply by which the party's next end is recorded
 abbrev pub next_reply : ℕ → List Event → Option (Reply ℕ)
@@ -60,3 +60,14 @@ LevelsPass = (level next : List Stage) (e : Event) (replies : List (Option (Repl
 -- where an event may be recorded at once, the moves before it may wait: the rest is taken from the stage after the event
 abbrev pub MovesMayWait : Type 0
 MovesMayWait = (s : Stage) (e : Event) (es : List Event) (ms : List Move) → MayRecord s e → Goes s (e ∷ es) ms → (ns : List Move) × Goes (recorded s e) es ns
+
+-- from this level on, each made longer where calls lead on, levels pass the events until one is empty
+abbrev pub Dies : List Stage → List Event → Type 0
+Dies level [] = level ≡ []
+Dies level (e ∷ es) =
+    (level ≡ [])
+    ⊎ ((replies : List (Option (Reply ℕ))) × (longer next : List Stage) × Extends level longer × Expects replies (e ∷ es) × ((s : Stage) → Contains longer s → Handles longer next e replies s) × Dies next es)
+
+-- a history whose levels die is not legal
+abbrev pub LevelsRefute : Type 0
+LevelsRefute = (cap : Option ℕ) (parties : ℕ) (es : List Event) (level : List Stage) → Contains level (opening cap parties) → Dies level es → ¬ (IsLegal cap parties es)
