@@ -28,7 +28,8 @@ party_read n line spelled (Err why) below is fault = ((λ calls p same. fault.0 
     behind calls same = let front : (48 + n) ∷ 58 ∷ calls_text calls ≡ line = rw digit at same in let both : (48 + n) ∷ 58 ∷ calls_text calls ≡ (48 + n) ∷ 58 ∷ spelled = front ∙ is in cc
 party_read n line spelled (Ok calls) below is read = ((below, read.0), rw (decimal_digit n (omega arith)) (ap (λ t. (48 + n) ∷ 58 ∷ t) read.1 ∙ sym is))
 
-pub party_found : {E : Type 0} (n : ℕ) (line spelled : List ℕ) (r : Result (Result (List (Call ℕ)) LineFault) E) → n < MOST_PARTIES → line ≡ (48 + n) ∷ 58 ∷ spelled → IfOk r (IsParsing (IsCalls MOST_CALLS) calls_text (IsCallsFault MOST_CALLS) spelled) → IfOk r (IsParsing (IsPartyCalls n) (party_line n) (IsPartyFault n) line)
+pub party_found : {E : Type 0} (n : ℕ) (line spelled : List ℕ) (r : Result (Result (List (Call ℕ)) LineFault) E) → n < MOST_PARTIES → line ≡ (48 + n) ∷ 58 ∷ spelled
+    → IfOk r (IsParsing (IsCalls MOST_CALLS) calls_text (IsCallsFault MOST_CALLS) spelled) → IfOk r (IsParsing (IsPartyCalls n) (party_line n) (IsPartyFault n) line)
 party_found n line spelled (Ok found) below is read = party_read n line spelled found below is read
 party_found n line spelled (Err e) below is read = tt
 

@@ -135,7 +135,8 @@ module _ {M : Type 1} {𝓤 : Ura M} (𝓛 : Logic 𝓤) (R : RattleType) (κ : 
   pub slot_seen : (bs : List (Block S)) (k : ℕ) (p : Ptr) (j : ℕ) (x : S) → Lives bs k p → Rests bs k j (Some x)
       → ⟦ chain_lent R bs κ ⟧ ⊢ guard 𝓤 (Small R × (j < SLOTS)) ⟦ shared_of R x (block_of p) (j * s + slots_at R (count_of p)) κ ⟧
   slot_seen bs k p j x lies at = subst (λ (u : Ptr). ⟦ chain_lent R bs κ ⟧ ⊢ guard 𝓤 (Small R × (j < SLOTS)) ⟦ shared_of R x (block_of u) (j * s + slots_at R (count_of u)) κ ⟧) lies.1 (
-      let a : Block S = block bs k in qed 𝓛 (‵ (chain_lent R bs κ) ∷ []) ∵ use1 𝓛 (‵ (block_lent R a κ)) (block_seen bs k lies.0) $ fsplit3 ! $ fpick ! (λ so. drop ! $ let near = found_there a.homes j (Some (Some x)) (Some None) at in check ! (so.1, (let few = so.3 in let here = near.0 in omega arith)) $
+      let a : Block S = block bs k in qed 𝓛 (‵ (chain_lent R bs κ) ∷ []) ∵ use1 𝓛 (‵ (block_lent R a κ)) (block_seen bs k lies.0) $ fsplit3 ! $ fpick ! (λ so. drop ! $
+      let near = found_there a.homes j (Some (Some x)) (Some None) at in check ! (so.1, (let few = so.3 in let here = near.0 in omega arith)) $
       move ! (1 ∷ []) $ fsplit3 ! $ move ! (1 ∷ []) $ use1 𝓛 (‵ (shared_of R x (block_of a.at) (j * s + slots_at R (count_of a.at)) κ)) (value_seen a.homes j x (block_of a.at) (slots_at R (count_of a.at)) _ refl at) $ keep ! (0 ∷ []) $ done !))
 
 -- It may be seen from another thread where each value may.

@@ -60,7 +60,10 @@ closed_sync S A g s t f = declared_sync (the_type S A g) (
   record { shared = λ d b o κ. ((((λ vs. (tt, λ q. cell_keyless q (raw ty_ptr ∷ []) vs b (o + 0))), ((λ vs. ((tt, tt), λ q. cell_keyless q (raw (ty_int w64) ∷ []) vs b (o + 8))), tt)), λ q. tt), (tt, slots_shared u64 (search sendable) d.ptr d.items d.filled κ)) },
   (
     record { shared = λ d b o κ. ((((λ vs. (tt, λ q. cell_keyless q (raw ty_ptr ∷ []) vs b (o + 0))), ((λ vs. ((tt, tt), λ q. cell_keyless q (raw (ty_int w64) ∷ []) vs b (o + 8))), tt)), λ q. tt), (tt, slots_shared S s d.ptr d.items d.filled κ)) },
-    (record { shared = λ d b o κ q. whole-keyless _ _ (λ x vs. ((λ vss. (tt, (tt, ((tt, tt), ((λ uss. (tt, tt)), tt))))), f.frees x.alloc _ x.ptr)) q d b o }, (record { shared = λ d b o κ q. whole-keyless _ _ (λ x vs. ((λ vss. (tt, (tt, ((tt, tt), ((λ uss. (tt, tt)), tt))))), f.frees x.alloc _ x.ptr)) q d b o }, (as_row_sync (row_field A) t, tt))),
+    (
+      record { shared = λ d b o κ q. whole-keyless _ _ (λ x vs. ((λ vss. (tt, (tt, ((tt, tt), ((λ uss. (tt, tt)), tt))))), f.frees x.alloc _ x.ptr)) q d b o },
+      (record { shared = λ d b o κ q. whole-keyless _ _ (λ x vs. ((λ vss. (tt, (tt, ((tt, tt), ((λ uss. (tt, tt)), tt))))), f.frees x.alloc _ x.ptr)) q d b o }, (as_row_sync (row_field A) t, tt)),
+    ),
   ),
 )
 

@@ -110,7 +110,10 @@ module _ {T : Type 0} (ps : List (Piece T)) (first k : ℕ) (b : Name T) (last :
       record {
         read = λ n from before. lay-same base n (omega arith) ∙ holds.read n from before;
         written = λ n from before. let old = holds.written n from before in (old.0, lay-same base n (omega arith) ∙ old.1);
-        free = λ n from before. let long = length-chained in elim (below_or_not n ((base + length ps) * BLOCK_SLOTS)) [ inl old ↦ lay-same base n old ∙ holds.free n from old | inr new ↦ keeps-new (λ p. cell_in p (n % BLOCK_SLOTS)) (λ p. refl) (n / BLOCK_SLOTS - base) (omega arith) ∙ fresh-cell b (n % BLOCK_SLOTS) (omega arith) ];
+        free = λ n from before. let long = length-chained in elim (below_or_not n ((base + length ps) * BLOCK_SLOTS)) [
+          | inl old ↦ lay-same base n old ∙ holds.free n from old
+          | inr new ↦ keeps-new (λ p. cell_in p (n % BLOCK_SLOTS)) (λ p. refl) (n / BLOCK_SLOTS - base) (omega arith) ∙ fresh-cell b (n % BLOCK_SLOTS) (omega arith)
+        ];
       }
 
 -- the oldest block leaves the list

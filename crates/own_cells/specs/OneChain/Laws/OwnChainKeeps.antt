@@ -53,11 +53,13 @@ abbrev pub set_item : {T : Type 0} → List (Piece T) → ℕ → ℕ → ℕ �
 set_item ps base n state item = set_cell ps (n / BLOCK_SLOTS - base) (n % BLOCK_SLOTS) state item
 
 pub length-set_item : {T : Type 0} (ps : List (Piece T)) (base n state : ℕ) (item : Option T) → length (set_item ps base n state item) ≡ length ps
-length-set_item ps base n state item = length-set ps (n / BLOCK_SLOTS - base) (record (piece_at ps (n / BLOCK_SLOTS - base)) { states = slice_set (piece_at ps (n / BLOCK_SLOTS - base)).states (n % BLOCK_SLOTS) state; slots = slice_set (piece_at ps (n / BLOCK_SLOTS - base)).slots (n % BLOCK_SLOTS) item })
+length-set_item ps base n state item = length-set ps (n / BLOCK_SLOTS - base) (record (piece_at ps (n / BLOCK_SLOTS - base))
+    { states = slice_set (piece_at ps (n / BLOCK_SLOTS - base)).states (n % BLOCK_SLOTS) state; slots = slice_set (piece_at ps (n / BLOCK_SLOTS - base)).slots (n % BLOCK_SLOTS) item })
 
 -- and its block keeps its name
 pub name-set_item : {T : Type 0} (ps : List (Piece T)) (base n state : ℕ) (item : Option T) (j : ℕ) → n / BLOCK_SLOTS - base < length ps → (piece_at (set_item ps base n state item) j).name ≡ (piece_at ps j).name
-name-set_item ps base n state item j below = replaced-keeps (λ p. p.name) ps (n / BLOCK_SLOTS - base) (record (piece_at ps (n / BLOCK_SLOTS - base)) { states = slice_set (piece_at ps (n / BLOCK_SLOTS - base)).states (n % BLOCK_SLOTS) state; slots = slice_set (piece_at ps (n / BLOCK_SLOTS - base)).slots (n % BLOCK_SLOTS) item }) j below refl
+name-set_item ps base n state item j below = replaced-keeps (λ p. p.name) ps (n / BLOCK_SLOTS - base) (record (piece_at ps (n / BLOCK_SLOTS - base))
+    { states = slice_set (piece_at ps (n / BLOCK_SLOTS - base)).states (n % BLOCK_SLOTS) state; slots = slice_set (piece_at ps (n / BLOCK_SLOTS - base)).slots (n % BLOCK_SLOTS) item }) j below refl
 
 -- the cell of an item in a block that is there, and the cells of other items
 module _ {T : Type 0} (ps : List (Piece T)) (base first n state : ℕ) (item : Option T) (linked : Linked first ps) (low : base * BLOCK_SLOTS ≤ n) (high : n < (base + length ps) * BLOCK_SLOTS) where

@@ -74,13 +74,29 @@ module _ {T : Type 0} (r : OwnChain T) (v : T) (i : IsIdle r) where
   pub right-spent : (p : PushKind) → is_shut r.tail ≡ false → (accepted r == LIMIT) ≡ true → EndsAnswered (push_call p v) r (closed_reply p) None (Some v) (marked r)
   right-spent push_kind.Push e1 e2 =
       (idle-marked r i, (reply.Push (Err (push.Closed v)), refl, sequential r (marked r) (call.Push v) (reply.Push (Err (push.Closed v))) (idle-marked r i) (rw (sequential_reply, e1, sequential_reply, e2) refl) (queue-marked r ∙ rw (sequential_state, e1, sequential_state, e2) refl) (λ x. refl)))
-  right-spent push_kind.Force e1 e2 =
-      (idle-marked r i, (reply.ForcePush (Err (force.Closed v)), refl, sequential r (marked r) (call.ForcePush v) (reply.ForcePush (Err (force.Closed v))) (idle-marked r i) (rw (sequential_reply, e1, sequential_reply, e2) refl) (queue-marked r ∙ rw (sequential_state, e1, sequential_state, e2) refl) (λ x. refl)))
+  right-spent push_kind.Force e1 e2 = (
+    idle-marked r i,
+    (
+      reply.ForcePush (Err (force.Closed v)),
+      refl,
+      sequential r (marked r) (call.ForcePush v) (reply.ForcePush (Err (force.Closed v)))
+          (idle-marked r i) (rw (sequential_reply, e1, sequential_reply, e2) refl) (queue-marked r ∙ rw (sequential_state, e1, sequential_state, e2) refl) (λ x. refl),
+    ),
+  )
 
   pub right-pushed : (p : PushKind) (done : OwnChain T) → is_shut r.tail ≡ false → (accepted r == LIMIT) ≡ false → IsIdle done → accepted done ≡ accepted r + 1
       → own_chain_queue done ≡ record (own_chain_queue r) { items = (own_chain_queue r).items ++ v ∷ []; accepted = (own_chain_queue r).accepted + 1 } → EndsAnswered (push_call p v) r (pushed_reply p) None None done
-  right-pushed push_kind.Push done e1 e2 idle more leaves = (idle, (reply.Push (Ok tt), refl, sequential r done (call.Push v) (reply.Push (Ok tt)) idle (rw (sequential_reply, e1, sequential_reply, e2) refl) (leaves ∙ rw (sequential_state, e1, sequential_state, e2) refl) (λ none. absurd (omega arith))))
-  right-pushed push_kind.Force done e1 e2 idle more leaves = (idle, (reply.ForcePush (Ok None), refl, sequential r done (call.ForcePush v) (reply.ForcePush (Ok None)) idle (rw (sequential_reply, e1, sequential_reply, e2) refl) (leaves ∙ rw (sequential_state, e1, sequential_state, e2) refl) (λ none. absurd (omega arith))))
+  right-pushed push_kind.Push done e1 e2 idle more leaves =
+      (idle, (reply.Push (Ok tt), refl, sequential r done (call.Push v) (reply.Push (Ok tt)) idle (rw (sequential_reply, e1, sequential_reply, e2) refl) (leaves ∙ rw (sequential_state, e1, sequential_state, e2) refl) (λ none. absurd (omega arith))))
+  right-pushed push_kind.Force done e1 e2 idle more leaves = (
+    idle,
+    (
+      reply.ForcePush (Ok None),
+      refl,
+      sequential r done (call.ForcePush v) (reply.ForcePush (Ok None)) idle
+          (rw (sequential_reply, e1, sequential_reply, e2) refl) (leaves ∙ rw (sequential_state, e1, sequential_state, e2) refl) (λ none. absurd (omega arith)),
+    ),
+  )
 
   pub right-refused : (p : PushKind) → MayAsk (own_chain_queue r) → (accepted r ≡ 0 → length r.pieces ≡ 0) → EndsAnswered (push_call p v) r (gives_up p) None (Some v) r
   right-refused push_kind.Push may none = (i, (reply.Push (Err (push.NoMemory v)), refl, inr ((refl, may), none, refl)))

@@ -23,7 +23,8 @@ take_spec 𝓤 𝓛 𝓜 𝓡 wired S A L _ ga da dd _ _ =
     let sz : ℕ = (mem R).size in let b : ℕ = block_of p in let e : ℕ = j * sz + slots_at R (count_of p) in let h' : Chain.Denot = record { marker = h.marker; heap = h.heap; blocks = with_home bs k j vacant } in let Told : Type 0 = (h.heap ≡ h.heap) × (h'.blocks ≡ h'.blocks) in
     qed 𝓛 (((‵ (flft κs.0 qs.0) ⊛ ‵ others) ⊛ ‵ (owns (types_at goal.signature.params κs) a y.0.4)) ∷ raw (fact 𝓤 _) ∷ raw (fact 𝓤 _) ∷ raw (fact 𝓤 Asked) ∷ []) ∵
     keep ! (3 ∷ 0 ∷ []) $ heard ! Asked (λ asked. let x : S.Denot = asked.2.0 in takes_ref ! $
-    enters_at ! p asked.0 𝓣.C 𝓣.Λ mir (λ u. vptr a.0.ref_ptr.0 a.0.ref_ptr.1 ∷ vint w64 a.1.0 ∷ place_val u ∷ vint w64 a.1.1.1.0 ∷ []) Post $ alloc_all ! (λ l. pass_all ! refl ((tt, tt), ((tt, record { fits = are.1.0.1 }), ((tt, (tt, tt)), ((tt, record { fits = are.1.1.1.0.1 }), tt)))) $ let locals = env mir.locals l in
+    enters_at ! p asked.0 𝓣.C 𝓣.Λ mir (λ u. vptr a.0.ref_ptr.0 a.0.ref_ptr.1 ∷ vint w64 a.1.0 ∷ place_val u ∷ vint w64 a.1.1.1.0 ∷ []) Post $ alloc_all ! (λ l.
+    pass_all ! refl ((tt, tt), ((tt, record { fits = are.1.0.1 }), ((tt, (tt, tt)), ((tt, record { fits = are.1.1.1.0.1 }), tt)))) $ let locals = env mir.locals l in
     opens_ref ! tt Chain h b' o' (λ ts. refl) (λ ts. use1 𝓛 (given (blocks.Placed 𝓛 R token p j) (‵ (content_owns R (Some x) b e) ⊛ raw (all 𝓤 (blocks.Rehome 𝓛 R token bs k p j)))) (blocks.content_at 𝓛 R token bs k p j (Some x) asked.1 asked.2.1) $ learn ! (λ at. split ! $
     let near : j < SLOTS = at.2 in let less : j * sz ≤ SLOTS * sz = mul-le-mul_right sz (omega arith) in let tiny : sz < 2 ^ 31 = at.1 in let small : j * sz < 2 ^ 64 = omega arith in spread v ! lawful x b e (λ w good. first ! $ blocks ! $
     sets ! (of_opd ! (get_in ! (fld ! refl (stop !)) (sub ! 0 refl (all_of_it !)))) refl (tt, tt) $ sets ! (addr ! (through ! refl (fld ! refl (stop !)))) refl (tt, tt) $

@@ -23,7 +23,9 @@ put_spec 𝓤 𝓛 𝓜 𝓡 wired S V A L _ _ ga da dd _ _ =
     qed 𝓛 (((‵ (flft κs.0 qs.0) ⊛ ‵ others) ⊛ ‵ (owns (types_at goal.signature.params κs) a vss)) ∷ raw (fact 𝓤 _) ∷ raw (fact 𝓤 _) ∷ raw (fact 𝓤 _) ∷ raw (fact 𝓤 Asked) ∷ []) ∵
     keep ! (4 ∷ 0 ∷ []) $ heard ! Asked (λ asked. split ! $ split ! $ move ! (2 ∷ []) $ fsplit3 ! $ fsplit3 ! $ move ! (4 ∷ []) $ fsplit3 ! $ keep ! (4 ∷ 5 ∷ 7 ∷ 1 ∷ 8 ∷ []) $
     rewrite ! 3 (λ (ws : List Val). ‵ (R.own_val new ws)) got.1 refl $ let us : Ptr → List Val = λ u. vptr b' o' ∷ place_val u ∷ vint w64 j ∷ vy ∷ [] in let Run : List Val → SProp 𝓤 = λ ws. WpFn 𝓤 H 𝓣.C 𝓣.Λ mir ws Post in
-    suffices ! (Run (us p)) (subst (λ (ws : List Val). ent 𝓤 (Run (us p)) (Run ws)) (sym (λ i. are.0.0 i ++ (place_told R a.1.0 vss.1.0 are.1.0 i ++ (are.1.1.0.0 i ++ (got.1 i ++ []))))) (id⊢ 𝓤 (Run (us p)))) $ enters_at ! p asked.0 𝓣.C 𝓣.Λ mir us Post $ alloc_all ! (λ l. pass_all ! refl ((tt, tt), ((tt, (tt, tt)), ((tt, record { fits = are.1.1.0.1 }), (got.2, tt)))) $ let locals = env mir.locals l in
+    suffices ! (Run (us p)) (subst (λ (ws : List Val). ent 𝓤 (Run (us p)) (Run ws))
+    (sym (λ i. are.0.0 i ++ (place_told R a.1.0 vss.1.0 are.1.0 i ++ (are.1.1.0.0 i ++ (got.1 i ++ []))))) (id⊢ 𝓤 (Run (us p)))) $ enters_at ! p asked.0 𝓣.C 𝓣.Λ mir us Post $
+    alloc_all ! (λ l. pass_all ! refl ((tt, tt), ((tt, (tt, tt)), ((tt, record { fits = are.1.1.0.1 }), (got.2, tt)))) $ let locals = env mir.locals l in
     opens_ref ! tt Seat h b' o' (λ ts. refl) (λ ts. fsplit3 ! $ rewrite ! 1 (λ (u : Option (Hand S.Denot)). ‵ (hand_owns R u)) asked.1 refl $ move ! (1 ∷ []) $ fsplit ! $ fpick ! (λ at. drop ! $
     let near : j < SLOTS = at.2 in let less : j * sz ≤ SLOTS * sz = mul-le-mul_right sz (omega arith) in let tiny : sz < 2 ^ 31 = at.1 in let small : j * sz < 2 ^ 64 = omega arith in use1 𝓛 (‵ (froom (layout S) b e)) (𝓛.laws.raw-room (layout S) b e) $ first ! $ blocks ! $
     sets ! (of_opd ! (get_in ! (fld ! refl (stop !)) (sub ! 0 refl (all_of_it !)))) refl (tt, tt) $ sets ! (addr ! (through ! refl (fld ! refl (stop !)))) refl (tt, tt) $
