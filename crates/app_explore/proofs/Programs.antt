@@ -1,10 +1,10 @@
 -- The lines of a program, read back.
 use Rattle.std.proofs.Common.{◌≡◌, ◌≢◌, ℕ, ◌+◌, ◌<◌, ◌≤◌, List, [], ◌∷◌, ◌++◌, codes, length, get_or, refl, sym, ◌∙◌, ap, subst, arith, append_assoc, length-append, IfOk, Result, Ok, Err}
-use Rattle.std.proofs.lemmas.{List.append-nil, Fmt.decimal_digit}
-use Rattle.std.specs.{Fmt.decimal, List.AllByRecursion}
+use Rattle.std.{proofs.lemmas.List.append-nil, proofs.lemmas.Fmt.decimal_digit, specs.Fmt.decimal, specs.List.AllByRecursion}
 use Rattle.queue_steps.specs.declared.model.Call.{Call, Call as call}
 use Rattle.app_text.specs.Lines.{lines_of}
-use Rattle.app_explore.specs.{Parsing.IsParsing, declared.limits.TheConstants.MOST_PARTIES, declared.limits.TheConstants.MOST_CALLS, declared.limits.TheConstants.MOST_CALLS_BEFORE, Faults.IsCallsFault, Faults.IsPartyFault, declared.read_faults.LineFault.LineFault, declared.read_faults.LineFault.LineFault as reason, Reads.BeginsProgram, Reads.IsFirstWrong, Reads.HasNoBefore}
+use Rattle.app_explore.specs.{Parsing.IsParsing, Faults.IsCallsFault, Faults.IsPartyFault, Reads.BeginsProgram, Reads.IsFirstWrong, Reads.HasNoBefore}
+use Rattle.app_explore.specs.declared.{limits.TheConstants.MOST_PARTIES, limits.TheConstants.MOST_CALLS, limits.TheConstants.MOST_CALLS_BEFORE, read_faults.LineFault.LineFault, read_faults.LineFault.LineFault as reason}
 use Rattle.app_explore.specs.Programs.{calls_text, before_line, before_lines, party_line, party_lines, program_lines, IsCalls, IsPartyCalls, IsBefore, IsProgram}
 
 -- why the text behind the party's number is that of no calls is why the line is not the party's

@@ -3,7 +3,8 @@ use Rattle.std.proofs.Common.{◌≡◌, ℕ, Option, Err, Result, List, [], ◌
 use Rattle.std.specs.Result.{result_ok}
 use Rattle.queue_steps.specs.{declared.model.Call.Call, declared.model.Call.Call as call, declared.model.Reply.Reply, declared.model.Reply.Reply as reply, declared.errors.PopError.PopError as pop, declared.errors.PushError.PushError as push, Shares.Share, Shares.IsEntire, Parties.View}
 use Rattle.concurrent_queue.specs.{SawMore.SawMore, Shared.PartyView, Shared.Calls}
-use Rattle.counted_channel.specs.{declared.calls.polled.At.At, declared.calls.polled.At.At as at, QueueCalls.Polled.party_at, QueueCalls.Polled.IsBetween, QueueCalls.Polled.IsPopping, declared.calls.errors.Disconnected.Disconnected, declared.counting.SeatCounts.SeatCounts, Channel.End, Channel.ChannelCall, Channel.end_at, Channel.received, Polling.EndWaited, Polling.HasReceived}
+use Rattle.counted_channel.specs.{declared.calls.polled.At.At, declared.calls.polled.At.At as at, declared.calls.errors.Disconnected.Disconnected, declared.counting.SeatCounts.SeatCounts, Channel.End, Channel.ChannelCall, Channel.end_at, Channel.received, Polling.EndWaited, Polling.HasReceived}
+use Rattle.counted_channel.specs.QueueCalls.Polled.{party_at, IsBetween, IsPopping}
 use Rattle.atomic_table.specs.Seated.{TableId}
 use Rattle.counted_channel.proofs.Trying.{Tried, untried, prefix_on, tried_more, conforms_then, empty_is_refused, full_is_refused}
 

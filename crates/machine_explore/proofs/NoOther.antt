@@ -5,7 +5,8 @@ use Rattle.std.proofs.lemmas.List.{get_or-map, get_or-replicate, length-map, sam
 use Rattle.queue_steps.specs.declared.{model.Call.Call, model.Reply.Reply, steps.types.Kind.Kind}
 use Rattle.machine_steps.specs.{Left.left_of, Left.opening_world, Steps.start_of, Steps.step_of, World.World}
 use Rattle.machine_memory.specs.{SharedMemory.MemoryState, declared.calls.Running.Running, declared.types.Event.Event}
-use Rattle.machine_explore.specs.{Explored.HasNoOther, Explored.IsGranted, Explored.Prepares, Explored.begun_by, Explored.outcome_of, Explored.replies_by, Moves.led, Positions.IsFinal, Positions.Outcome, Positions.Progress, Positions.Standing, Positions.calls_of, Positions.no_progress, Positions.outcome_at, Positions.progress_of, Starts.IsStart, Tables.EndsAmong, Tables.IsClosed, Tables.IsInside, Tables.StaysForAll}
+use Rattle.machine_explore.specs.{Explored.HasNoOther, Explored.IsGranted, Explored.Prepares, Explored.begun_by, Explored.outcome_of, Explored.replies_by, Moves.led, Starts.IsStart, Tables.EndsAmong, Tables.IsClosed, Tables.IsInside, Tables.StaysForAll}
+use Rattle.machine_explore.specs.Positions.{IsFinal, Outcome, Progress, Standing, calls_of, no_progress, outcome_at, progress_of}
 use Rattle.machine_replay.specs.Played.{told_of, world_after}
 use Rattle.machine_explore.proofs.{Preparing.PreparesBy, Preparing.prepared_once, Reaching.Arrives, Reaching.Begins, Reaching.reaches}
 

@@ -1,10 +1,9 @@
 -- How a step finds its word or its link in an invariant that holds a borrow, which a token of the borrow's lifetime opens. Assumes `Logic`.
-use Rattle.mem_blocks.proofs.Walks.{Bool, true, false, cond, ◌≡◌, refl, subst, List, [], ◌∷◌, ℕ, Ura, vnull, ptr_same, SProp, ent, sep, wand, ex, guard, upd, emp, upd_i, apply∗, Lft, Share, Fml, ftrue, fsep, flft, fbor, finv, Logic, sem, ‵, raw, ◌⊛◌, some, ◌$◌, ◌∵◌, !, qed, by, move, keep, split, split3, join, pick, show, check, frame, each, assume, suffices, settle, use1, use2, fpack, done, Ptr, block_ptr, null_ptr, ptr_val, Testable, tests_null, nothing, asks, always, cell, alike, compares}
+use Rattle.mem_blocks.proofs.Walks.{Bool, true, false, cond, ◌≡◌, refl, subst, List, [], ◌∷◌, ℕ, Ura, vnull, ptr_same, SProp, ent, sep, wand, ex, guard, upd, emp, upd_i, apply∗, Lft, Share, Fml, ftrue, fsep, flft, fbor, finv, Logic, sem, ‵, raw, ◌⊛◌, some, ◌$◌, ◌∵◌, !, qed, by}
+use Rattle.mem_blocks.proofs.Walks.{move, keep, split, split3, join, pick, show, check, frame, each, assume, suffices, settle, use1, use2, fpack, done, Ptr, block_ptr, null_ptr, ptr_val, Testable, tests_null, nothing, asks, always, cell, alike, compares}
 use mathlib.Core.List.{Mem, not-mem-nil}
-use base.Logic.{ex_i}
-use base.Fml.{fnamed}
-use Rattle.std.specs.Sync.RawAtomic.{Shift, rests, opens, shuts, enters, leaves, word, if_none, along, shifted, back, found}
-use Rattle.std.specs.Sync.RawAtomic.Pointer.{found_ptr, asks_by_cases}
+use base.{Logic.ex_i, Fml.fnamed}
+use Rattle.std.specs.Sync.RawAtomic.{Shift, rests, opens, shuts, enters, leaves, word, if_none, along, shifted, back, found, Pointer.found_ptr, Pointer.asks_by_cases}
 
 module _ {M : Type 1} {𝓤 : Ura M} (𝓛 : Logic 𝓤) where
   open 𝓛 use {H, A}

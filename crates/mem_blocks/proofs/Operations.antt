@@ -2,13 +2,10 @@
 use Rattle.std.proofs.Common.{◌≡◌, ℕ, List, [], ◌∷◌, refl, ap, ◌∙◌, lit<}
 use lib.Dec.{T}
 use mir.Val.{Val, of_list, has_ty, WT}
-use denote.Laws.{Is}
-use denote.Shadow.{makes_shadow}
+use denote.{Laws.Is, Memory.lone, Shadow.makes_shadow}
 use seplogic.Ra.Ura.{Ura}
 use base.Logic.{ent, emp}
-use types.Logic.{Logic, sem}
-use types.Match.{live}
-use denote.Memory.{lone}
+use types.{Logic.Logic, Logic.sem, Match.live}
 use Rattle.mem_blocks.specs.{Words.told, Words.IsTold, declared.operation.Operation.Operation, declared.operation.Operation.Operation as does}
 use Rattle.mem_blocks.specs.contracts.operation.Operation as operation
 

@@ -2,18 +2,10 @@
 use Rattle.std.proofs.Common.{[], ◌∷◌}
 use seplogic.Ra.Ura.{Ura}
 use mir.Syntax.{Ty}
-use base.Logic.{sep, wand, apply∗, snd∗}
-use base.Fraction.{full_share}
-use base.Stored.{Coded}
-use base.Fml.{Lft, Share, Fml, fsep, fbor, flent, flft, fshr_bor}
-use types.Logic.{Logic, sem, lfts}
+use base.{Logic.sep, Logic.wand, Logic.apply∗, Logic.snd∗, Fraction.full_share, Stored.Coded, Fml.Lft, Fml.Share, Fml.Fml, Fml.fsep, Fml.fbor, Fml.flent, Fml.flft, Fml.fshr_bor}
+use types.{Logic.Logic, Logic.sem, Logic.lfts, Tokens.bor_fracture}
 use types.Kit.{‵, raw, ◌⊛◌, later, ◌$◌, !, qed, move, drop, split, fsplit, fjoin, use1, use2, updating, await, now, done}
-use types.Tokens.{bor_fracture}
-use denote.RattleType.{RattleType}
-use denote.RawPtr.{Ptr}
-use denote.Sharing.{ShrLaws, one, said}
-use denote.SharingLaws.{beside_shr_laws, one_shr_laws}
-use denote.Struct.Lending.{Lends, Lends-both}
+use denote.{RattleType.RattleType, RawPtr.Ptr, SharingLaws.beside_shr_laws, SharingLaws.one_shr_laws, Struct.Lending.Lends, Struct.Lending.Lends-both, Sharing.ShrLaws, Sharing.one, Sharing.said}
 use Rattle.mem_blocks.specs.{Web.State, Laid.WebId, Laid.age, Laid.inside_owns, Laid.known_to_all, Laid.web_owns, Laid.web_shares}
 
 module _ (R : RattleType) (token : Ty → Ptr → Fml) {V : Type 0} (cv : Coded V) (z : WebId) (holds : State R.Denot V → Type 0) where

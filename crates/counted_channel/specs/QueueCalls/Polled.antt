@@ -4,7 +4,8 @@ use Rattle.queue_steps.specs.declared.{model.Call.Call, model.Call.Call as call,
 use Rattle.concurrent_queue.specs.{SawMore.SawMore, Shared.QueueId, Shared.PartyView, Shared.IsPartyOf, Shared.Calls}
 use Rattle.event_count.specs.Sleep.Seats.{looked_of}
 use Rattle.waker_list.specs.declared.place.{Place.Place, Look.Look, Missed.Missed}
-use Rattle.counted_channel.specs.declared.calls.{waited.Items.Items, waited.Room.Room, polled.At.At, polled.At.At as at, polled.Attempt.Attempt, polled.Attempt.Attempt as attempt, polled.PolledPop.PolledPop, polled.PolledPop.PolledPop as popped, polled.PolledPush.PolledPush, polled.PolledPush.PolledPush as pushed}
+use Rattle.counted_channel.specs.declared.calls.waited.{Items.Items, Room.Room}
+use Rattle.counted_channel.specs.declared.calls.polled.{At.At, At.At as at, Attempt.Attempt, Attempt.Attempt as attempt, PolledPop.PolledPop, PolledPop.PolledPop as popped, PolledPush.PolledPush, PolledPush.PolledPush as pushed}
 
 module _ {T A : Type 0} where
   -- the party, as it was before the pop that it is in

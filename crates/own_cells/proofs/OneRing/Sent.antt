@@ -1,13 +1,8 @@
 -- What a ring with one owner owns may go to another thread where its items and its allocator may: what the memory of a closed table owns names no thread.
 use Rattle.std.proofs.Common.{◌+◌, Bool, true, false, List, [], ◌∷◌}
-use base.Fraction.{full_share}
-use base.Fml.{Lft, Fml, ftrue}
-use base.Shift.{Keyless}
-use mir.Raw.{raw}
-use mir.Syntax.{ty_ptr, ty_int, w64}
-use denote.Builtin.{u64}
-use denote.RattleType.{RattleType}
-use denote.Struct.Field.{row_field}
+use base.{Fraction.full_share, Shift.Keyless, Fml.Lft, Fml.Fml, Fml.ftrue}
+use mir.{Raw.raw, Syntax.ty_ptr, Syntax.ty_int, Syntax.w64}
+use denote.{Builtin.u64, RattleType.RattleType, Struct.Field.row_field}
 use denote.RawPtr.{Ptr, block_ptr, null_ptr, block_of, count_of, in_block, ◌+ₚ◌}
 use denote.Param.Send.{IsSend, IsSync, Frees, part_keyless, whole-keyless, cell_keyless, view_send, view_sync, sendable}
 use denote.Param.SendFields.{declared_send, declared_sync, as_row_send, as_row_sync}

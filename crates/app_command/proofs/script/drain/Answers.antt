@@ -1,6 +1,5 @@
 use Rattle.std.proofs.Common.{rules, [], ◌∷◌, ap, length}
-use Rattle.app_text.specs.Items.{items_text}
-use Rattle.app_text.proofs.Writing.{first-of-three}
+use Rattle.app_text.{specs.Items.items_text, proofs.Writing.first-of-three}
 use Rattle.app_command.proofs.Draining.{drains-more, drains-part, drains-all}
 use Rattle.app_command.proofs.script.drain.Goals as goal
 

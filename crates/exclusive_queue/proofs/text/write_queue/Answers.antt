@@ -1,8 +1,6 @@
-use Rattle.std.proofs.Common.{Some, subst}
-use Rattle.std.specs.Prelude.{codes}
+use Rattle.std.{proofs.Common.Some, proofs.Common.subst, specs.Prelude.codes}
 use Rattle.std.specs.Fmt.{DisplaysOnOk, decimal, ◌++?◌}
-use Rattle.exclusive_queue.specs.QueueText.{flag_text}
-use Rattle.exclusive_queue.proofs.Texts.{capacity_shown}
+use Rattle.exclusive_queue.{specs.QueueText.flag_text, proofs.Texts.capacity_shown}
 use Rattle.exclusive_queue.proofs.text.write_queue.Goals as goal
 
 pub returns : goal.returns

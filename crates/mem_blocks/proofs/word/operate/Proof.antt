@@ -1,14 +1,12 @@
 -- `operate` is one step for each operation.
-use Rattle.mem_blocks.proofs.Walks.{ℕ, ◌^◌, ◌<◌, List, [], ◌∷◌, refl, lit<, w64, a_type, dcons, dnil, Val, vint, inst_fn, SProp, ent, Fml, WpFn, Wp, after_seq, at_return, mean, ‵, raw, ◌⊛◌, at_ret, any_q, ◌$◌, ◌∵◌, !, qed, by, keep, use1, split, stop, fld, lit, of_opd, no_more, and_then, first, blocks, exec, Calls-last, returns, enter, alloc_all, pass_all, free_all, look_at, get, get_tag, sets, sets_last, lands_last, env, vrt, agg, all_of_it, switches_on, tables, fact, yes, owns, types_at, plain, Ptr, RawPtr, ptr_val, rawptr_vals, rawptr_Tells, bounded, u64, uint_vals, uint_Tells, alive, Stays, stay_dropped, walk_of, Goes-dropped, proved, leaves, fm, seq_cst, found, stored, finds, has_stored, loads, stores, adds, subs, ors, exchanges, asks, always, head, after, arm_body, ptr_good, numbers, spends}
+use Rattle.mem_blocks.proofs.Walks.{ℕ, ◌^◌, ◌<◌, List, [], ◌∷◌, refl, lit<, w64, a_type, dcons, dnil, Val, vint, inst_fn, SProp, ent, Fml, WpFn, Wp, after_seq, at_return, mean, ‵, raw, ◌⊛◌, at_ret, any_q, ◌$◌, ◌∵◌, !, qed, by, keep, use1, split, stop, fld, lit, of_opd, no_more, and_then, first}
+use Rattle.mem_blocks.proofs.Walks.{blocks, exec, Calls-last, returns, enter, alloc_all, pass_all, free_all, look_at, get, get_tag, sets, sets_last, lands_last, env, vrt, agg, all_of_it, switches_on, tables, fact, yes, owns, types_at, plain, Ptr, RawPtr, ptr_val, rawptr_vals, rawptr_Tells, bounded}
+use Rattle.mem_blocks.proofs.Walks.{u64, uint_vals, uint_Tells, alive, Stays, stay_dropped, walk_of, Goes-dropped, proved, leaves, fm, seq_cst, found, stored, finds, has_stored, loads, stores, adds, subs, ors, exchanges, asks, always, head, after, arm_body, ptr_good, numbers, spends}
 use types.Kit.{Sq, prop}
-use Rattle.mem_blocks.specs.Words.{becomes, told}
-use Rattle.mem_blocks.specs.declared.operation.Operation.{Operation}
+use Rattle.mem_blocks.specs.{Words.becomes, Words.told, declared.operation.Operation.Operation, contracts.word.operate.ended, contracts.word.operate.clauses, contracts.word.operate.Key.name as #self}
 use Rattle.mem_blocks.specs.declared.operation.Operation.TheVariants as does
 use Rattle.mem_blocks.specs.contracts.operation.Operation as operation
-use Rattle.mem_blocks.proofs.Operations.{operation_val, operation_told, operation_good}
-use Rattle.mem_blocks.specs.contracts.word.operate.{ended, clauses}
-use Rattle.mem_blocks.specs.contracts.word.operate.Key.{name as #self}
-use Rattle.mem_blocks.proofs.word.operate.Statement.{statement}
+use Rattle.mem_blocks.proofs.{Operations.operation_val, Operations.operation_told, Operations.operation_good, word.operate.Statement.statement}
 use Rattle.mem_blocks.proofs.word.operate.Code as code
 
 pub operate_spec : {M : Type 1} → statement M

@@ -3,7 +3,8 @@ use Rattle.std.specs.Prelude.{slice_set, bit_or}
 use Rattle.std.proofs.Common.{◌≡◌, ◌≢◌, ℕ, zero, suc, ◌+◌, ◌-◌, ◌*◌, ◌/◌, ◌%◌, ◌<◌, ◌≤◌, ◌⊎◌, List, [], ◌++◌, length, Option, Some, None, refl, arith, sym, ap, ◌∙◌, inl, inr}
 use Rattle.std.proofs.lemmas.List.{get_or-set_same, get_or-set_other, length-set}
 use Rattle.queue_steps.specs.declared.{sizes.TheConstants.BLOCK_SLOTS, steps.chain.TheConstants.WRITE, steps.chain.TheConstants.READ}
-use Rattle.own_cells.specs.{OneRing.Laws.Numbers.same_or_not, OneRing.RingOwned.put_in, OneChain.OwnChainCells.Piece, OneChain.OwnChainCells.piece_at, OneChain.OwnChainCells.state_in, OneChain.OwnChainCells.item_in, OneChain.OwnChainOwned.cell_of, OneChain.OwnChainOwned.items_from, OneChain.OwnChainOwned.HoldsItems, OneChain.OwnChainOwned.Linked, OneChain.Laws.OwnChainRuns.set_cell}
+use Rattle.own_cells.specs.OneRing.{Laws.Numbers.same_or_not, RingOwned.put_in}
+use Rattle.own_cells.specs.OneChain.{OwnChainCells.Piece, OwnChainCells.piece_at, OwnChainCells.state_in, OwnChainCells.item_in, OwnChainOwned.cell_of, OwnChainOwned.items_from, OwnChainOwned.HoldsItems, OwnChainOwned.Linked, Laws.OwnChainRuns.set_cell}
 
 -- the state and the content of a slot of a block
 abbrev pub cell_in : {T : Type 0} → Piece T → ℕ → ℕ × Option T

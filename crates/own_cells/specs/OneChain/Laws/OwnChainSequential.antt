@@ -1,9 +1,14 @@
 -- What a call on a chain of blocks has to end with, and that it does where it leaves what the table of one owner says.
 use Rattle.std.specs.Prelude.{◌==◌, if◌then◌else◌}
 use Rattle.std.proofs.Common.{◌≡◌, ◌⊎◌, ℕ, ◌+◌, ◌-◌, ◌/◌, ◌<◌, Bool, true, false, [], ◌∷◌, ◌++◌, length, Some, None, Ok, Err, refl, arith, ap, ◌∙◌, subst, inl, inr}
-use Rattle.queue_steps.specs.{declared.sizes.TheConstants.LIMIT, declared.sizes.TheConstants.BLOCK_SLOTS, declared.model.Call.Call, declared.model.Call.Call as call, declared.model.Reply.Reply, declared.model.Reply.Reply as reply, declared.errors.PushError.PushError as push, declared.errors.ForcePushError.ForcePushError as force, declared.steps.ring.PushKind.PushKind, declared.steps.ring.PushKind.PushKind as push_kind, State.State, Legal.IsSoundOwned, Replies.MayAsk, Sequential.Sequential, Sequential.HoldsBlocks, Sequential.blocks_of, Sequential.sequential_reply, Sequential.sequential_state, Sequential.moved, Words.is_shut, RingNext.closed_reply, RingNext.pushed_reply, ChainNext.gives_up}
+use Rattle.queue_steps.specs.declared.{sizes.TheConstants.LIMIT, sizes.TheConstants.BLOCK_SLOTS, model.Call.Call, model.Call.Call as call, model.Reply.Reply, model.Reply.Reply as reply, errors.PushError.PushError as push, errors.ForcePushError.ForcePushError as force}
+use Rattle.queue_steps.specs.{declared.steps.ring.PushKind.PushKind, declared.steps.ring.PushKind.PushKind as push_kind, State.State, Words.is_shut, ChainNext.gives_up, Legal.IsSoundOwned, Replies.MayAsk, RingNext.closed_reply, RingNext.pushed_reply}
+use Rattle.queue_steps.specs.Sequential.{Sequential, HoldsBlocks, blocks_of, sequential_reply, sequential_state, moved}
 use Rattle.call_driver.specs.EndsIn.{EndsRight, Answered}
-use Rattle.own_cells.specs.{OneRing.Laws.Numbers.is_equal, OneRing.Laws.Numbers.is_apart, OneRing.Laws.Numbers.equal_or_above, OneChain.OwnChainCells.OwnChain, OneChain.OwnChainCells.kind_of_own_chain, OneChain.OwnChainCells.own_chain_can_touch, OneChain.OwnChainCells.own_chain_touches, OneChain.OwnChainCells.own_chain_can_perform, OneChain.OwnChainCells.own_chain_performs, OneChain.OwnChainCells.own_chain_can_release, OneChain.OwnChainCells.own_chain_releases, OneChain.OwnChainOwned.taken, OneChain.OwnChainOwned.accepted, OneChain.OwnChainOwned.own_chain_queue, OneChain.OwnChainOwned.own_chain_owned, OneChain.OwnChainOwned.IsBare, OneChain.OwnChainOwned.IsLaid, OneChain.OwnChainOwned.IsIdle, OneChain.Laws.OwnChainRuns.Ending, OneChain.Laws.OwnChainKeeps.length-items_from, OneChain.Laws.OwnChainLeaves.marked, OneChain.Laws.OwnChainLeaves.idle-marked, OneChain.Laws.OwnChainLeaves.queue-marked}
+use Rattle.own_cells.specs.OneRing.Laws.Numbers.{is_equal, is_apart, equal_or_above}
+use Rattle.own_cells.specs.OneChain.OwnChainCells.{OwnChain, kind_of_own_chain, own_chain_can_touch, own_chain_touches, own_chain_can_perform, own_chain_performs, own_chain_can_release, own_chain_releases}
+use Rattle.own_cells.specs.OneChain.OwnChainOwned.{taken, accepted, own_chain_queue, own_chain_owned, IsBare, IsLaid, IsIdle}
+use Rattle.own_cells.specs.OneChain.Laws.{OwnChainRuns.Ending, OwnChainKeeps.length-items_from, OwnChainLeaves.marked, OwnChainLeaves.idle-marked, OwnChainLeaves.queue-marked}
 
 -- what a call has to end with
 abbrev pub EndsAnswered : {T : Type 0} → Call T → OwnChain T → Ending T

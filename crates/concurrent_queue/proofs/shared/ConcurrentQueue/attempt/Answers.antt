@@ -3,7 +3,8 @@ use Rattle.queue_laws.specs.Chain.ChainEarly.{IsPush}
 use Rattle.queue_steps.specs.declared.model.Call.{Call}
 use Rattle.shared_tables.specs.{SlotTable.slot_table, RingTable.ring_table}
 use Rattle.concurrent_queue.specs.{declared.party.SeatPlace.SeatPlace as place, Shared.QueueId, Shared.form_id, Shared.IsHeld, Shared.party_view_of, Tries.Tries}
-use Rattle.concurrent_queue.proofs.{TableCalls.held_here, Told.told_web, Told.tells, Told.tells_where, shared.ConcurrentQueue.attempt.Given.Over, shared.ConcurrentQueue.attempt.Goals.Joined-self, shared.ConcurrentQueue.attempt.Goals.in-Slot-Table, shared.ConcurrentQueue.attempt.Goals.in-Ring-Table, shared.ConcurrentQueue.attempt.Goals.in-Chain-Web}
+use Rattle.concurrent_queue.proofs.{TableCalls.held_here, Told.told_web, Told.tells, Told.tells_where}
+use Rattle.concurrent_queue.proofs.shared.ConcurrentQueue.attempt.{Given.Over, Goals.Joined-self, Goals.in-Slot-Table, Goals.in-Ring-Table, Goals.in-Chain-Web}
 use Rattle.concurrent_queue.proofs.shared.ConcurrentQueue.attempt.Goals as goal
 
 pub attempt_at-requires-clause-held : goal.attempt_at-requires-clause-held

@@ -1,7 +1,8 @@
 use Rattle.std.proofs.Common.{rules, ap, subst, ◌∙◌, sym}
 use Rattle.queue_steps.specs.declared.model.Call.{Call as call}
 use Rattle.concurrent_queue.specs.Shared.{QueueId, form_id, IsHeld, Calls, party_view_of}
-use Rattle.concurrent_queue.proofs.{PartyViews.pop_reply, TableCalls.begins_here, TableCalls.ends_here, WebParties.web_ends, shared.ConcurrentQueue.pop.Given.Over, shared.ConcurrentQueue.pop.Goals.In-Pop, shared.ConcurrentQueue.pop.Goals.in-Slot-Table+in-Break, shared.ConcurrentQueue.pop.Goals.in-Slot-Table+in-Continue, shared.ConcurrentQueue.pop.Goals.in-Ring-Table+in-Break-begun, shared.ConcurrentQueue.pop.Goals.in-Ring-Table+in-Continue-begun, shared.ConcurrentQueue.pop.Goals.in-Chain-Web}
+use Rattle.concurrent_queue.proofs.{PartyViews.pop_reply, WebParties.web_ends, TableCalls.begins_here, TableCalls.ends_here}
+use Rattle.concurrent_queue.proofs.shared.ConcurrentQueue.pop.{Given.Over, Goals.In-Pop, Goals.in-Slot-Table+in-Break, Goals.in-Slot-Table+in-Continue, Goals.in-Ring-Table+in-Break-begun, Goals.in-Ring-Table+in-Continue-begun, Goals.in-Chain-Web}
 use Rattle.concurrent_queue.proofs.shared.ConcurrentQueue.pop.Goals as goal
 
 pub run-begun-requires : goal.run-begun-requires

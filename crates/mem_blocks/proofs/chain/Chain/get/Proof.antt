@@ -1,13 +1,13 @@
 -- `get` hands on the `&` to a value in a slot that a `&` to the chain holds.
-use Rattle.mem_blocks.proofs.Walks.{ℕ, ◌+◌, ◌*◌, ◌^◌, ◌<◌, ◌≤◌, List, [], ◌∷◌, sym, refl, ap, subst, arith, w64, Some, mul-le-mul_right, a_type, dcons, dnil, named, Val, vint, vptr, inst_fn, SProp, Fml, ftrue, fsep, flft, ‵, raw, ◌⊛◌, given, at_ret, ◌$◌, ◌∵◌, !, qed, by, move, keep, drop, use1, split, join, fsplit, fjoin, feq_i, learn, stop, fld, addr, size_word, of_opd, bin, first, blocks, exec, returns, alloc_all, pass_all, free_all, look_at, get, get_in, through, sets, sets_last, is, env, sub, all_of_it, tables, fact, yes, no, RattleType, owns, types_at, plain, mem, Ptr, block_of, count_of, InBlock, unhide, heard, param, bounded, RefOf, u64, usize, shr_vals, shr_Tells, uint_vals, uint_Tells, Stays, stay_dropped, walk_of, Goes-dropped, proved, leaves, Block, Lives, Rests, Small, slots_at, SLOTS, after, place_val, place_told, full_product, tells, spends, enters_at}
-use denote.Memory.{shared_of}
-use denote.Opens.{hide}
+use Rattle.mem_blocks.proofs.Walks.{ℕ, ◌+◌, ◌*◌, ◌^◌, ◌<◌, ◌≤◌, List, [], ◌∷◌, sym, refl, ap, subst, arith, w64, Some, mul-le-mul_right, a_type, dcons, dnil, named, Val, vint, vptr, inst_fn, SProp, Fml, ftrue, fsep, flft, ‵, raw, ◌⊛◌, given, at_ret}
+use Rattle.mem_blocks.proofs.Walks.{◌$◌, ◌∵◌, !, qed, by, move, keep, drop, use1, split, join, fsplit, fjoin, feq_i, learn, stop, fld, addr, size_word, of_opd, bin, first, blocks, exec, returns, alloc_all, pass_all, free_all, look_at, get, get_in}
+use Rattle.mem_blocks.proofs.Walks.{through, sets, sets_last, is, env, sub, all_of_it, tables, fact, yes, no, RattleType, owns, types_at, plain, mem, Ptr, block_of, count_of, InBlock, unhide, heard, param, bounded, RefOf, u64, usize, shr_vals}
+use Rattle.mem_blocks.proofs.Walks.{shr_Tells, uint_vals, uint_Tells, Stays, stay_dropped, walk_of, Goes-dropped, proved, leaves, Block, Lives, Rests, Small, slots_at, SLOTS, after, place_val, place_told, full_product, tells, spends, enters_at}
+use denote.{Memory.shared_of, Opens.hide}
 use Rattle.mem_blocks.specs.contracts.block.BlockPtr as link
 use Rattle.mem_blocks.specs.contracts.chain.Chain as chain
-use Rattle.mem_blocks.proofs.Lent.{slot_seen}
-use Rattle.mem_blocks.specs.contracts.chain.Chain.get.{ended, clauses}
-use Rattle.mem_blocks.specs.contracts.chain.Chain.get.Key.{name as #self}
-use Rattle.mem_blocks.proofs.chain.Chain.get.Statement.{statement}
+use Rattle.mem_blocks.proofs.{Lent.slot_seen, chain.Chain.get.Statement.statement}
+use Rattle.mem_blocks.specs.contracts.chain.Chain.get.{ended, clauses, Key.name as #self}
 use Rattle.mem_blocks.proofs.chain.Chain.get.Code as code
 
 pub get_spec : {M : Type 1} → statement M

@@ -1,10 +1,12 @@
 -- `put` writes an empty slot of a block.
-use Rattle.mem_blocks.proofs.Walks.{◌≡◌, ℕ, ◌+◌, ◌*◌, ◌^◌, ◌<◌, ◌≤◌, List, [], ◌∷◌, ◌++◌, sym, refl, ap, subst, arith, w64, None, mul-le-mul_right, Ty, a_type, dcons, dnil, Val, vunit, vint, vptr, inst_fn, bare, full_share, SProp, ent, all, id⊢, Fml, ftrue, fsep, froom, fat, flft, WpFn, ‵, raw, ◌⊛◌, given, at_ret, ◌$◌, ◌∵◌, !, qed, by, move, keep, use1, use2, split, fsplit, fsplit3, learn, suffices, rewrite, feq_i, stop, fld, addr, unit_lit, size_word, of_opd, bin, first, blocks, exec, returns, assigns_last, init, alloc_all, pass_all, free_all, look_at, get, get_in, through, sets, is, env, sub, all_of_it, tables, fact, yes, no, RattleType, owns, types_at, plain, mem, Ptr, block_of, count_of, InBlock, heard, param, bounded, layout, param_laws, u64, usize, Member, Stays, stay_dropped, stay_ref, walk_of, Goes-dropped, Goes-ref, one, gather, proved_at, leaves, Block, full, Lives, Rests, with_home, slots_at, content_owns, chain_owns, SLOTS, after, place_val, place_told, full_product, tells, opens_ref, shuts_ref, enters_at}
+use Rattle.mem_blocks.proofs.Walks.{◌≡◌, ℕ, ◌+◌, ◌*◌, ◌^◌, ◌<◌, ◌≤◌, List, [], ◌∷◌, ◌++◌, sym, refl, ap, subst, arith, w64, None, mul-le-mul_right, Ty, a_type, dcons, dnil, Val, vunit, vint, vptr, inst_fn, bare, full_share, SProp, ent, all, id⊢, Fml, ftrue, fsep, froom, fat, flft, WpFn}
+use Rattle.mem_blocks.proofs.Walks.{‵, raw, ◌⊛◌, given, at_ret, ◌$◌, ◌∵◌, !, qed, by, move, keep, use1, use2, split, fsplit, fsplit3, learn, suffices, rewrite, feq_i, stop, fld, addr, unit_lit, size_word, of_opd, bin, first, blocks, exec, returns, assigns_last, init, alloc_all, pass_all}
+use Rattle.mem_blocks.proofs.Walks.{free_all, look_at, get, get_in, through, sets, is, env, sub, all_of_it, tables, fact, yes, no, RattleType, owns, types_at, plain, mem, Ptr, block_of, count_of, InBlock, heard, param, bounded, layout, param_laws, u64, usize, Member, Stays, stay_dropped}
+use Rattle.mem_blocks.proofs.Walks.{stay_ref, walk_of, Goes-dropped, Goes-ref, one, gather, proved_at, leaves, Block, full, Lives, Rests, with_home, slots_at, content_owns, chain_owns, SLOTS, after, place_val, place_told, full_product, tells, opens_ref, shuts_ref, enters_at}
 use Rattle.mem_blocks.specs.contracts.block.BlockPtr as link
 use Rattle.mem_blocks.specs.contracts.chain.Chain as chain
 use Rattle.mem_blocks.proofs.Blocks as blocks
-use Rattle.mem_blocks.specs.contracts.chain.Chain.put.{ended, clauses}
-use Rattle.mem_blocks.specs.contracts.chain.Chain.put.Key.{name as #self}
+use Rattle.mem_blocks.specs.contracts.chain.Chain.put.{ended, clauses, Key.name as #self}
 use Rattle.mem_blocks.proofs.chain.Chain.put.Statement.{statement}
 use Rattle.mem_blocks.proofs.chain.Chain.put.Code as code
 

@@ -1,10 +1,12 @@
 -- `set_next` writes the link of a block.
-use Rattle.mem_blocks.proofs.Walks.{◌≡◌, ℕ, ◌+◌, List, [], ◌∷◌, refl, w64, Ty, a_type, dcons, dnil, named, ty_ptr, Val, vunit, vint, vptr, inst_fn, SProp, all, Fml, ftrue, fsep, flft, ‵, raw, ◌⊛◌, at_ret, ◌$◌, ◌∵◌, !, qed, by, keep, use1, split, feq_i, stop, from, fld, hop, unit_lit, of_opd, first, blocks, exec, returns, assigns_last, store, alloc_all, pass_all, free_all, look_at, look_in_at, get_in, sets, env, sub, all_of_it, tables, fact, yes, no, RattleType, owns, types_at, plain, Ptr, block_of, count_of, InBlock, heard, param, bounded, u64, mut_vals, mut_Tells, uint_vals, uint_Tells, Stays, stay_dropped, stay_ref, walk_of, Goes-dropped, Goes-ref, cell, Good-round, proved, leaves, Block, block, Lives, with_next, chain_owns, after, ptr_good, place_val, place_told, tells, takes_ref, puts_back, opens_ref, shuts_ref, enters_at}
+use Rattle.mem_blocks.proofs.Walks.{◌≡◌, ℕ, ◌+◌, List, [], ◌∷◌, refl, w64, Ty, a_type, dcons, dnil, named, ty_ptr, Val, vunit, vint, vptr, inst_fn, SProp, all, Fml, ftrue, fsep, flft, ‵, raw, ◌⊛◌, at_ret, ◌$◌, ◌∵◌, !, qed, by, keep, use1}
+use Rattle.mem_blocks.proofs.Walks.{split, feq_i, stop, from, fld, hop, unit_lit, of_opd, first, blocks, exec, returns, assigns_last, store, alloc_all, pass_all, free_all, look_at, look_in_at, get_in, sets, env, sub, all_of_it, tables}
+use Rattle.mem_blocks.proofs.Walks.{fact, yes, no, RattleType, owns, types_at, plain, Ptr, block_of, count_of, InBlock, heard, param, bounded, u64, mut_vals, mut_Tells, uint_vals, uint_Tells, Stays, stay_dropped, stay_ref, walk_of}
+use Rattle.mem_blocks.proofs.Walks.{Goes-dropped, Goes-ref, cell, Good-round, proved, leaves, Block, block, Lives, with_next, chain_owns, after, ptr_good, place_val, place_told, tells, takes_ref, puts_back, opens_ref, shuts_ref, enters_at}
 use Rattle.mem_blocks.specs.contracts.block.BlockPtr as link
 use Rattle.mem_blocks.specs.contracts.chain.Chain as chain
 use Rattle.mem_blocks.proofs.Blocks as blocks
-use Rattle.mem_blocks.specs.contracts.chain.Chain.set_next.{ended, clauses}
-use Rattle.mem_blocks.specs.contracts.chain.Chain.set_next.Key.{name as #self}
+use Rattle.mem_blocks.specs.contracts.chain.Chain.set_next.{ended, clauses, Key.name as #self}
 use Rattle.mem_blocks.proofs.chain.Chain.set_next.Statement.{statement}
 use Rattle.mem_blocks.proofs.chain.Chain.set_next.Code as code
 

@@ -1,10 +1,12 @@
 -- `set_word` writes a word of a block.
-use Rattle.mem_blocks.proofs.Walks.{◌≡◌, ℕ, ◌+◌, ◌*◌, ◌^◌, ◌<◌, List, [], ◌∷◌, refl, arith, w64, Ty, a_type, dcons, dnil, named, Val, vunit, vint, vptr, inst_fn, SProp, all, Fml, ftrue, fsep, flft, ‵, raw, ◌⊛◌, at_ret, ◌$◌, ◌∵◌, !, qed, by, keep, use1, split, feq_i, stop, from, fld, hop, addr, lit, unit_lit, of_opd, bin, first, blocks, exec, returns, assigns_last, store, alloc_all, pass_all, free_all, look_at, look_in_at, get, through, sets, env, sub, all_of_it, tables, fact, yes, no, RattleType, owns, types_at, plain, Ptr, block_of, count_of, InBlock, heard, param, bounded, u64, usize, mut_vals, mut_Tells, uint_vals, uint_Tells, Stays, stay_dropped, stay_ref, walk_of, Goes-dropped, Goes-ref, word, proved, leaves, Block, Lives, word_of, with_word, chain_owns, SLOTS, after, place_val, place_told, tells, takes_ref, puts_back, opens_ref, shuts_ref, enters_at}
+use Rattle.mem_blocks.proofs.Walks.{◌≡◌, ℕ, ◌+◌, ◌*◌, ◌^◌, ◌<◌, List, [], ◌∷◌, refl, arith, w64, Ty, a_type, dcons, dnil, named, Val, vunit, vint, vptr, inst_fn, SProp, all, Fml, ftrue, fsep, flft, ‵, raw, ◌⊛◌, at_ret, ◌$◌, ◌∵◌, !, qed, by, keep}
+use Rattle.mem_blocks.proofs.Walks.{use1, split, feq_i, stop, from, fld, hop, addr, lit, unit_lit, of_opd, bin, first, blocks, exec, returns, assigns_last, store, alloc_all, pass_all, free_all, look_at, look_in_at, get, through, sets, env, sub}
+use Rattle.mem_blocks.proofs.Walks.{all_of_it, tables, fact, yes, no, RattleType, owns, types_at, plain, Ptr, block_of, count_of, InBlock, heard, param, bounded, u64, usize, mut_vals, mut_Tells, uint_vals, uint_Tells, Stays, stay_dropped}
+use Rattle.mem_blocks.proofs.Walks.{stay_ref, walk_of, Goes-dropped, Goes-ref, word, proved, leaves, Block, Lives, word_of, with_word, chain_owns, SLOTS, after, place_val, place_told, tells, takes_ref, puts_back, opens_ref, shuts_ref, enters_at}
 use Rattle.mem_blocks.specs.contracts.block.BlockPtr as link
 use Rattle.mem_blocks.specs.contracts.chain.Chain as chain
 use Rattle.mem_blocks.proofs.Blocks as blocks
-use Rattle.mem_blocks.specs.contracts.chain.Chain.set_word.{ended, clauses}
-use Rattle.mem_blocks.specs.contracts.chain.Chain.set_word.Key.{name as #self}
+use Rattle.mem_blocks.specs.contracts.chain.Chain.set_word.{ended, clauses, Key.name as #self}
 use Rattle.mem_blocks.proofs.chain.Chain.set_word.Statement.{statement}
 use Rattle.mem_blocks.proofs.chain.Chain.set_word.Code as code
 

@@ -1,10 +1,12 @@
 -- `word` reads a word of a block.
-use Rattle.mem_blocks.proofs.Walks.{◌≡◌, ℕ, ◌+◌, ◌*◌, ◌^◌, ◌<◌, List, [], ◌∷◌, refl, arith, w64, Ty, a_type, dcons, dnil, named, ty_int, Val, vint, vptr, has_ty, WT, inst_fn, full_share, SProp, all, Fml, ftrue, fsep, flft, ‵, raw, ◌⊛◌, given, at_ret, ◌$◌, ◌∵◌, !, qed, by, keep, use1, split, learn, rewrite, stop, from, fld, hop, load, addr, lit, of_opd, bin, first, blocks, exec, returns, look, alloc_all, pass_all, free_all, look_at, look_in_at, get, through, sets, sets_last, env, sub, all_of_it, tables, fact, yes, no, RattleType, owns, types_at, plain, Ptr, block_of, count_of, InBlock, heard, param, bounded, u64, usize, mut_vals, mut_Tells, uint_vals, uint_Tells, Stays, stay_dropped, stay_ref, walk_of, Goes-dropped, Goes-ref, word, proved, leaves, Block, Lives, word_of, with_word, chain_owns, SLOTS, after, place_val, place_told, tells, numbers, takes_ref, puts_back, opens_ref, shuts_ref, enters_at}
+use Rattle.mem_blocks.proofs.Walks.{◌≡◌, ℕ, ◌+◌, ◌*◌, ◌^◌, ◌<◌, List, [], ◌∷◌, refl, arith, w64, Ty, a_type, dcons, dnil, named, ty_int, Val, vint, vptr, has_ty, WT, inst_fn, full_share, SProp, all, Fml, ftrue, fsep, flft, ‵, raw, ◌⊛◌, given, at_ret, ◌$◌}
+use Rattle.mem_blocks.proofs.Walks.{◌∵◌, !, qed, by, keep, use1, split, learn, rewrite, stop, from, fld, hop, load, addr, lit, of_opd, bin, first, blocks, exec, returns, look, alloc_all, pass_all, free_all, look_at, look_in_at, get, through, sets, sets_last}
+use Rattle.mem_blocks.proofs.Walks.{env, sub, all_of_it, tables, fact, yes, no, RattleType, owns, types_at, plain, Ptr, block_of, count_of, InBlock, heard, param, bounded, u64, usize, mut_vals, mut_Tells, uint_vals, uint_Tells, Stays, stay_dropped, stay_ref}
+use Rattle.mem_blocks.proofs.Walks.{walk_of, Goes-dropped, Goes-ref, word, proved, leaves, Block, Lives, word_of, with_word, chain_owns, SLOTS, after, place_val, place_told, tells, numbers, takes_ref, puts_back, opens_ref, shuts_ref, enters_at}
 use Rattle.mem_blocks.specs.contracts.block.BlockPtr as link
 use Rattle.mem_blocks.specs.contracts.chain.Chain as chain
 use Rattle.mem_blocks.proofs.Blocks as blocks
-use Rattle.mem_blocks.specs.contracts.chain.Chain.word.{ended, clauses}
-use Rattle.mem_blocks.specs.contracts.chain.Chain.word.Key.{name as #self}
+use Rattle.mem_blocks.specs.contracts.chain.Chain.word.{ended, clauses, Key.name as #self}
 use Rattle.mem_blocks.proofs.chain.Chain.word.Statement.{statement}
 use Rattle.mem_blocks.proofs.chain.Chain.word.Code as code
 

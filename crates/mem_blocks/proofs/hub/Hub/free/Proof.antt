@@ -1,12 +1,14 @@
 -- `free` puts the parts of both ends together, and gives the room back.
-use Rattle.mem_blocks.proofs.Walks.{◌≡◌, ℕ, List, [], ◌∷◌, sym, refl, subst, lit<, w64, Ty, a_type, dcons, dnil, named, ty_unit, Val, vunit, vint, vptr, has_ty, WT, inst_fn, bare, SProp, Lft, Share, Fml, ftrue, fsep, froom, flft, Incl-trans, align, ‵, raw, ◌⊛◌, given, later, at_ret, ◌$◌, ◌∵◌, !, qed, by, move, keep, drop, use1, use3, split, join, fsplit, fsplit3, fjoin, fpick, fpack, learn, await, rewrite, feq_i, stop, fld, lit, unit_lit, of_opd, no_more, and_then, first, blocks, exec, returns, alloc_all, pass_all, free_all, look_at, get, get_in, sets, lands_last, env, sub, all_of_it, tables, fact, ◌⊑◌, yes, no, RattleType, owns, types_at, plain, Ptr, block_ptr, block_of, count_of, at_block, nothing, heard, param, bounded, RefOf, usize, shr_vals, shr_Tells, uint_vals, uint_Tells, Tuple, calls_at_last, Stays, stay_dropped, walk_of, Goes-dropped, proved, leaves, fm, Block, alive_at, Sized, hub_ty, hub_rim, head_of, hub_size, block_owns, after, blank_val, place_val, blank_told, place_told, spends, enters_at}
+use Rattle.mem_blocks.proofs.Walks.{◌≡◌, ℕ, List, [], ◌∷◌, sym, refl, subst, lit<, w64, Ty, a_type, dcons, dnil, named, ty_unit, Val, vunit, vint, vptr, has_ty, WT, inst_fn, bare, SProp, Lft, Share, Fml, ftrue, fsep, froom, flft, Incl-trans, align, ‵, raw, ◌⊛◌, given, later, at_ret}
+use Rattle.mem_blocks.proofs.Walks.{◌$◌, ◌∵◌, !, qed, by, move, keep, drop, use1, use3, split, join, fsplit, fsplit3, fjoin, fpick, fpack, learn, await, rewrite, feq_i, stop, fld, lit, unit_lit, of_opd, no_more, and_then, first, blocks, exec, returns, alloc_all, pass_all, free_all}
+use Rattle.mem_blocks.proofs.Walks.{look_at, get, get_in, sets, lands_last, env, sub, all_of_it, tables, fact, ◌⊑◌, yes, no, RattleType, owns, types_at, plain, Ptr, block_ptr, block_of, count_of, at_block, nothing, heard, param, bounded, RefOf, usize, shr_vals, shr_Tells, uint_vals}
+use Rattle.mem_blocks.proofs.Walks.{uint_Tells, Tuple, calls_at_last, Stays, stay_dropped, walk_of, Goes-dropped, proved, leaves, fm, Block, alive_at, Sized, hub_ty, hub_rim, head_of, hub_size, block_owns, after, blank_val, place_val, blank_told, place_told, spends, enters_at}
 use Rattle.std.proofs.alloc.Calls.{Al as Handle, at_gives, Gives, Gives-goes, Gives-Gives}
 use Rattle.mem_blocks.specs.contracts.block.BlockPtr as link
 use Rattle.mem_blocks.specs.contracts.block.Loose as loose
 use Rattle.mem_blocks.specs.contracts.hub.Hub as hub
 use Rattle.mem_blocks.proofs.Rooms as parts
-use Rattle.mem_blocks.specs.contracts.hub.Hub.free.{ended, clauses}
-use Rattle.mem_blocks.specs.contracts.hub.Hub.free.Key.{name as #self}
+use Rattle.mem_blocks.specs.contracts.hub.Hub.free.{ended, clauses, Key.name as #self}
 use Rattle.mem_blocks.proofs.hub.Hub.free.Statement.{statement}
 use Rattle.mem_blocks.proofs.hub.Hub.free.Code as code
 

@@ -1,5 +1,11 @@
 -- `reserve` asks the allocator for room, cuts it into the parts of both ends, and writes their links and words.
-use Rattle.mem_blocks.proofs.Walks.{◌≡◌, ℕ, ◌+◌, ◌*◌, true, false, List, [], ◌∷◌, replicate, sym, refl, ap, arith, lit<, w64, Ty, Body, a_type, dcons, dnil, named, Val, vint, vptr, vstruct, vcons, vnil, WT, inst_fn, bare, SProp, Lft, Share, Fml, ftrue, fsep, fwand, froom, flft, Incl-trans, align, Wp, after_seq, at_return, ‵, raw, ◌⊛◌, later, at_ret, any_q, ◌$◌, ◌∵◌, !, qed, by, move, keep, drop, use0, use1, use2, split, join, fsplit, fsplit3, fjoin, fpack, await, feq_i, stop, fld, addr, lit, of_opd, no_more, and_then, first, blocks, exec, returns, enter, assigns_last, assigns, init, switches_on, alloc_all, pass_all, free_all, look_at, get, get_in, get_tag, through, sets, sets_last, lands_as, is, env, live, vrt, in_variant, agg, rep, all_of_it, tables, fact, ◌⊑◌, yes, RattleType, Valss, owns, types_at, plain, Ptr, block_ptr, null_ptr, InBlock, nothing, heard, param, bounded, RefOf, usize, shr_vals, shr_Tells, uint_vals, uint_Tells, makes_shadow, within, Tuple, tuple_type, calls_at, Stays, stay_dropped, walk_of, Goes-dropped, Ok, Err, row, proved, leaves, fm, Home, alive_at, Small, Sized, hub_ty, hub_rooms, hub_size, SLOTS, head, after, arm_body, ptr_good, blank_val, place_val, place_made, ok_of, err_of, tells, blank, spends}
+use Rattle.mem_blocks.proofs.Walks.{◌≡◌, ℕ, ◌+◌, ◌*◌, true, dnil, named, Val, vint, Goes-dropped, Ok, Err, Home, alive_at, Small, SProp, Lft, Share, Fml, at_return, ‵, raw, ◌⊛◌, move, keep, drop, use0, fsplit, fsplit3, fjoin}
+use Rattle.mem_blocks.proofs.Walks.{false, List, [], ◌∷◌, replicate, sym, refl, shr_vals, shr_Tells, hub_rooms, hub_size, ap, arith, lit<, w64, vptr, vstruct, vcons, align, Wp, after_seq, later, at_ret, any_q}
+use Rattle.mem_blocks.proofs.Walks.{Ty, Body, a_type, dcons, free_all, look_at, get, vnil, WT, inst_fn, bare, froom, flft, Incl-trans, use1, use2, split, join, and_then, first, blocks, sets_last, lands_as, is, all_of_it, tables, fact}
+use Rattle.mem_blocks.proofs.Walks.{ftrue, fsep, fwand, place_made, ok_of, null_ptr, InBlock, Tuple, tuple_type, fpack, await, feq_i, alloc_all, pass_all, SLOTS, head, after, arm_body, ptr_good}
+use Rattle.mem_blocks.proofs.Walks.{◌$◌, ◌∵◌, !, qed, by, stop, fld, addr, lit, exec, returns, enter, in_variant, agg, rep, ◌⊑◌, yes, RattleType, makes_shadow, within, blank_val, place_val, err_of, tells, blank}
+use Rattle.mem_blocks.proofs.Walks.{of_opd, no_more, get_in, get_tag, init, switches_on, calls_at, Stays, env, live, vrt, Sized, hub_ty, row, proved, leaves, fm}
+use Rattle.mem_blocks.proofs.Walks.{assigns_last, assigns, through, sets, spends, Valss, owns, types_at, plain, Ptr, block_ptr, nothing, heard, param, bounded, RefOf, usize, uint_vals, uint_Tells, stay_dropped, walk_of}
 use Rattle.std.proofs.alloc.Calls.{Al as Handle, Answer-typed, Takes, at_takes, Answered, Takes-goes, Takes-gives, answers}
 use denote.Struct.Declared as declared
 use Rattle.std.specs.contracts.result.Result as Res
@@ -8,8 +14,7 @@ use Rattle.mem_blocks.specs.contracts.block.BlockPtr as link
 use Rattle.mem_blocks.specs.contracts.block.Loose as loose
 use Rattle.mem_blocks.specs.contracts.hub.Hub as hub
 use Rattle.mem_blocks.proofs.Rooms as parts
-use Rattle.mem_blocks.specs.contracts.hub.Hub.reserve.{ended, clauses}
-use Rattle.mem_blocks.specs.contracts.hub.Hub.reserve.Key.{name as #self}
+use Rattle.mem_blocks.specs.contracts.hub.Hub.reserve.{ended, clauses, Key.name as #self}
 use Rattle.mem_blocks.proofs.hub.Hub.reserve.Statement.{statement}
 use Rattle.mem_blocks.proofs.hub.Hub.reserve.Code as code
 

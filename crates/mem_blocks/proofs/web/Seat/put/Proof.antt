@@ -1,10 +1,14 @@
 -- `put` writes the slot that the seat has in hand.
-use Rattle.mem_blocks.proofs.Walks.{◌≡◌, ℕ, ◌+◌, ◌*◌, ◌^◌, ◌<◌, ◌≤◌, List, [], ◌∷◌, ◌++◌, sym, refl, ap, subst, arith, w64, Option, Some, None, mul-le-mul_right, a_type, dcons, dnil, Val, vunit, vint, vptr, inst_fn, bare, full_share, Coded, SProp, ent, id⊢, Fml, ftrue, fsep, froom, fat, flft, WpFn, ‵, raw, ◌⊛◌, at_ret, ◌$◌, ◌∵◌, !, qed, by, move, keep, drop, use1, split, join, fsplit, fsplit3, fjoin, fjoin3, fpick, fpack, suffices, rewrite, feq_i, stop, fld, addr, unit_lit, size_word, of_opd, bin, first, blocks, exec, returns, assigns_last, init, alloc_all, pass_all, free_all, look_at, get, get_in, through, sets, is, env, sub, all_of_it, tables, fact, yes, no, RattleType, owns, types_at, plain, mem, Ptr, block_of, count_of, InBlock, nothing, heard, param, bounded, layout, param_laws, usize, Member, Stays, stay_dropped, stay_ref, walk_of, Goes-dropped, Goes-ref, one, gather, proved_at, leaves, Hand, Sitter, sitter, Same, slots_at, hand_owns, SLOTS, after, place_val, place_told, full_product, tells, opens_ref, shuts_ref, enters_at}
+use Rattle.mem_blocks.proofs.Walks.{◌≡◌, ℕ, ◌+◌, ◌*◌, ◌^◌, blocks, exec, returns, get_in, through, sets, tables, fact, yes, no, fjoin3, fpick, fpack, types_at, plain, mem, Sitter, sitter, Same, opens_ref, shuts_ref}
+use Rattle.mem_blocks.proofs.Walks.{◌<◌, ◌≤◌, List, [], ◌∷◌, stay_dropped, stay_ref, ftrue, fsep, froom, fat, flft, WpFn, ‵, raw, ◌⊛◌, drop, use1, split, join, is, env, sub, all_of_it, Ptr, block_of, count_of, InBlock, nothing, heard}
+use Rattle.mem_blocks.proofs.Walks.{◌++◌, sym, refl, ap, assigns_last, init, Option, Some, None, of_opd, bin, first, subst, arith, w64, full_share, Coded, suffices, rewrite, param_laws, usize}
+use Rattle.mem_blocks.proofs.Walks.{mul-le-mul_right, RattleType, owns, inst_fn, bare, Member, Stays, proved_at, leaves, Hand, SLOTS, after, place_val}
+use Rattle.mem_blocks.proofs.Walks.{a_type, dcons, dnil, at_ret, ◌$◌, ◌∵◌, !, qed, by, move, keep, unit_lit, size_word, SProp, ent, id⊢, Fml, full_product, tells, alloc_all, pass_all, slots_at, hand_owns}
+use Rattle.mem_blocks.proofs.Walks.{Val, vunit, vint, vptr, place_told, enters_at, walk_of, Goes-dropped, Goes-ref, one, gather, fsplit, fsplit3, fjoin, feq_i, stop, fld, addr, free_all, look_at, get, param, bounded, layout}
 use Rattle.mem_blocks.specs.contracts.block.BlockPtr as link
 use Rattle.mem_blocks.specs.contracts.web.Seat as seat
 use Rattle.mem_blocks.proofs.Blocks as blocks
-use Rattle.mem_blocks.specs.contracts.web.Seat.put.{ended, clauses}
-use Rattle.mem_blocks.specs.contracts.web.Seat.put.Key.{name as #self}
+use Rattle.mem_blocks.specs.contracts.web.Seat.put.{ended, clauses, Key.name as #self}
 use Rattle.mem_blocks.proofs.web.Seat.put.Statement.{statement}
 use Rattle.mem_blocks.proofs.web.Seat.put.Code as code
 

@@ -1,11 +1,13 @@
 -- `merge` is one load, by which one seat's view takes another's in.
-use Rattle.mem_blocks.proofs.Walks.{◌≡◌, ℕ, ◌+◌, List, [], ◌∷◌, sym, refl, lit<, Ty, a_type, dcons, dnil, named, Val, vunit, vptr, inst_fn, Coded, SProp, via, Lft, Fml, ftrue, fsep, flft, mean, ‵, raw, ◌⊛◌, given, at_ret, ◌$◌, ◌∵◌, !, qed, by, move, keep, drop, use3, split, split3, join, fsplit, fsplit3, fjoin, learn, rewrite, feq_i, stop, from, fld, hop, addr, lit, unit_lit, of_opd, no_more, and_then, first, blocks, exec, Calls-last, returns, alloc_all, pass_all, free_all, look_at, look_in_at, get, sets, lands_last, env, agg, sub, all_of_it, obor_close, tokens_halve, tables, fact, yes, no, RattleType, owns, types_at, plain, Ptr, block_ptr, block_of, count_of, InBlock, nothing, unhide, param, bounded, RefOf, mut_vals, mut_Tells, shr_vals, shr_Tells, Stays, stay_dropped, stay_ref, walk_of, Goes-dropped, Goes-ref, proved, leaves, fm, seq_cst, found, finds, loads, Sitter, sitter, CanMerge, Sits, Same, WebId, age, seat_owns, after, place_val, place_told, begins_step, tells, alone, opens_ref, closes_ref, enters_at}
+use Rattle.mem_blocks.proofs.Walks.{◌≡◌, ℕ, ◌+◌, List, [], ◌∷◌, sym, refl, lit<, Ty, a_type, dcons, dnil, named, Val, vunit, vptr, inst_fn, Coded, SProp, via, Lft, Fml, ftrue, fsep, flft, mean, ‵, raw, ◌⊛◌, given, at_ret, ◌$◌, ◌∵◌, !, qed, by, move, keep, drop, use3, split, split3}
+use Rattle.mem_blocks.proofs.Walks.{join, fsplit, fsplit3, fjoin, learn, rewrite, feq_i, stop, from, fld, hop, addr, lit, unit_lit, of_opd, no_more, and_then, first, blocks, exec, Calls-last, returns, alloc_all, pass_all, free_all, look_at, look_in_at, get, sets, lands_last, env, agg}
+use Rattle.mem_blocks.proofs.Walks.{sub, all_of_it, obor_close, tokens_halve, tables, fact, yes, no, RattleType, owns, types_at, plain, Ptr, block_ptr, block_of, count_of, InBlock, nothing, unhide, param, bounded, RefOf, mut_vals, mut_Tells, shr_vals, shr_Tells, Stays, stay_dropped}
+use Rattle.mem_blocks.proofs.Walks.{stay_ref, walk_of, Goes-dropped, Goes-ref, proved, leaves, fm, seq_cst, found, finds, loads, Sitter, sitter, CanMerge, Sits, Same, WebId, age, seat_owns, after, place_val, place_told, begins_step, tells, alone, opens_ref, closes_ref, enters_at}
 use Rattle.mem_blocks.specs.contracts.block.BlockPtr as link
 use Rattle.mem_blocks.specs.contracts.web.Web as web
 use Rattle.mem_blocks.specs.contracts.web.Seat as seat
 use Rattle.mem_blocks.proofs.Moves as moves
-use Rattle.mem_blocks.specs.contracts.web.Web.merge.{ended, clauses}
-use Rattle.mem_blocks.specs.contracts.web.Web.merge.Key.{name as #self}
+use Rattle.mem_blocks.specs.contracts.web.Web.merge.{ended, clauses, Key.name as #self}
 use Rattle.mem_blocks.proofs.web.Web.merge.Statement.{statement}
 use Rattle.mem_blocks.proofs.web.Web.merge.Code as code
 

@@ -1,17 +1,16 @@
 -- `operate` is one step on a word, and the seat goes with it.
-use Rattle.mem_blocks.proofs.Walks.{ℕ, ◌+◌, ◌*◌, ◌^◌, ◌<◌, [], ◌∷◌, sym, refl, arith, w64, Ty, a_type, dcons, dnil, named, Val, vint, vptr, inst_fn, Coded, SProp, via, Lft, Fml, ftrue, fsep, flft, mean, ‵, raw, ◌⊛◌, given, at_ret, ◌$◌, ◌∵◌, !, qed, by, move, keep, drop, use3, split3, learn, stop, from, fld, hop, addr, lit, of_opd, bin, no_more, and_then, first, blocks, exec, Calls-last, returns, alloc_all, pass_all, free_all, look_at, look_in_at, get, sets, lands_last, env, sub, all_of_it, tokens_halve, tables, fact, yes, no, RattleType, owns, types_at, plain, Ptr, block_ptr, block_of, count_of, InBlock, param, bounded, RefOf, u64, usize, mut_vals, mut_Tells, shr_vals, shr_Tells, uint_vals, uint_Tells, Stays, stay_dropped, stay_ref, walk_of, Goes-dropped, Goes-ref, proved, leaves, fm, found, finds, Sitter, step, Allows, Sits, Same, WebId, age, seat_owns, SLOTS, word_of, after, place_val, place_told, fpick, tells, numbers, begins_step, ends_step, takes_step, enters_at}
+use Rattle.mem_blocks.proofs.Walks.{ℕ, ◌+◌, ◌*◌, ◌^◌, ◌<◌, [], ◌∷◌, sym, refl, arith, w64, Ty, a_type, dcons, dnil, named, Val, vint, vptr, inst_fn, Coded, SProp, via, Lft, Fml, ftrue, fsep, flft, mean, ‵, raw, ◌⊛◌, given, at_ret, ◌$◌, ◌∵◌, !, qed, by, move, keep, drop, use3}
+use Rattle.mem_blocks.proofs.Walks.{split3, learn, stop, from, fld, hop, addr, lit, of_opd, bin, no_more, and_then, first, blocks, exec, Calls-last, returns, alloc_all, pass_all, free_all, look_at, look_in_at, get, sets, lands_last, env, sub, all_of_it, tokens_halve, tables}
+use Rattle.mem_blocks.proofs.Walks.{fact, yes, no, RattleType, owns, types_at, plain, Ptr, block_ptr, block_of, count_of, InBlock, param, bounded, RefOf, u64, usize, mut_vals, mut_Tells, shr_vals, shr_Tells, uint_vals, uint_Tells, Stays, stay_dropped, stay_ref, walk_of}
+use Rattle.mem_blocks.proofs.Walks.{Goes-dropped, Goes-ref, proved, leaves, fm, found, finds, Sitter, step, Allows, Sits, Same, WebId, age, seat_owns, SLOTS, word_of, after, place_val, place_told, fpick, tells, numbers, begins_step, ends_step, takes_step, enters_at}
 use Rattle.mem_blocks.specs.contracts.block.BlockPtr as link
 use Rattle.mem_blocks.specs.contracts.web.Web as web
 use Rattle.mem_blocks.specs.contracts.web.Seat as seat
-use Rattle.mem_blocks.specs.Words.{becomes, told, IsTold}
-use Rattle.mem_blocks.specs.declared.operation.Operation.{Operation}
+use Rattle.mem_blocks.specs.{Words.becomes, Words.told, Words.IsTold, declared.operation.Operation.Operation}
 use Rattle.mem_blocks.specs.contracts.operation.Operation as operation
-use Rattle.mem_blocks.proofs.Operations.{operation_val, operation_told, operation_good, is_told}
-use Rattle.mem_blocks.proofs.Operating.{operates}
+use Rattle.mem_blocks.proofs.{Operations.operation_val, Operations.operation_told, Operations.operation_good, Operations.is_told, Operating.operates, web.Web.operate.Statement.statement}
 use Rattle.mem_blocks.proofs.Moves as moves
-use Rattle.mem_blocks.specs.contracts.web.Web.operate.{ended, clauses}
-use Rattle.mem_blocks.specs.contracts.web.Web.operate.Key.{name as #self}
-use Rattle.mem_blocks.proofs.web.Web.operate.Statement.{statement}
+use Rattle.mem_blocks.specs.contracts.web.Web.operate.{ended, clauses, Key.name as #self}
 use Rattle.mem_blocks.proofs.web.Web.operate.Code as code
 
 pub operate_spec : {M : Type 1} → statement M

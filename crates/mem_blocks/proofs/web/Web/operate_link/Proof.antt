@@ -1,20 +1,20 @@
 -- `operate_link` is one step on a link, and the seat goes with it.
-use Rattle.mem_blocks.proofs.Walks.{ℕ, ◌+◌, List, [], ◌∷◌, sym, refl, Ty, Body, a_type, dcons, dnil, named, ty_ptr, Val, vnull, vptr, inst_fn, Coded, SProp, Lft, Fml, ftrue, fsep, flft, Wp, after_seq, at_return, mean, ‵, raw, ◌⊛◌, given, at_ret, any_q, ◌$◌, ◌∵◌, !, qed, by, move, keep, drop, use0, use1, use3, split3, learn, rewrite, stop, from, fld, hop, addr, lit, of_opd, switches, no_more, and_then, first, blocks, exec, Calls-last, returns, switches_on, alloc_all, pass_all, free_all, look_at, look_in_at, get, get_in, get_tag, sets, sets_last, lands_last, env, vrt, in_variant, agg, sub, all_of_it, tokens_halve, tables, fact, yes, no, RattleType, owns, types_at, plain, Ptr, block_ptr, null_ptr, ptr_val, block_of, count_of, InBlock, param, bounded, RefOf, u64, mut_vals, mut_Tells, shr_vals, shr_Tells, Stays, stay_dropped, stay_ref, walk_of, Goes-dropped, Goes-ref, Ok, Err, Good-round, proved, leaves, fm, seq_cst, stored, has_stored, Sitter, AllowsLink, Sits, Same, WebId, age, seat_owns, head, after, arm_body, ptr_good, place_val, place_told, place_made, word_laws, tells, fpick, lent_back, begins_step, ends_step, takes_step, enters_at}
+use Rattle.mem_blocks.proofs.Walks.{ℕ, ◌+◌, List, [], ◌∷◌, sym, refl, Ty, Body, a_type, dcons, dnil, named, ty_ptr, Val, vnull, vptr, inst_fn, Coded, SProp, Lft, Fml, ftrue, fsep, flft, Wp, after_seq, at_return, mean, ‵, raw, ◌⊛◌, given, at_ret, any_q, ◌$◌}
+use Rattle.mem_blocks.proofs.Walks.{◌∵◌, !, qed, by, move, keep, drop, use0, use1, use3, split3, learn, rewrite, stop, from, fld, hop, addr, lit, of_opd, switches, no_more, and_then, first, blocks, exec, Calls-last, returns, switches_on, alloc_all, pass_all}
+use Rattle.mem_blocks.proofs.Walks.{free_all, look_at, look_in_at, get, get_in, get_tag, sets, sets_last, lands_last, env, vrt, in_variant, agg, sub, all_of_it, tokens_halve, tables, fact, yes, no, RattleType, owns, types_at, plain, Ptr, block_ptr, null_ptr}
+use Rattle.mem_blocks.proofs.Walks.{ptr_val, block_of, count_of, InBlock, param, bounded, RefOf, u64, mut_vals, mut_Tells, shr_vals, shr_Tells, Stays, stay_dropped, stay_ref, walk_of, Goes-dropped, Goes-ref, Ok, Err, Good-round, proved, leaves, fm, seq_cst}
+use Rattle.mem_blocks.proofs.Walks.{stored, has_stored, Sitter, AllowsLink, Sits, Same, WebId, age, seat_owns, head, after, arm_body, ptr_good, place_val, place_told, place_made, word_laws, tells, fpick, lent_back, begins_step, ends_step, takes_step, enters_at}
 use Rattle.mem_blocks.specs.contracts.block.BlockPtr as link
 use Rattle.mem_blocks.specs.contracts.web.Web as web
 use Rattle.mem_blocks.specs.contracts.web.Seat as seat
-use Rattle.mem_blocks.specs.Links.{leads_to, told_place, IsToldPlace}
-use Rattle.mem_blocks.specs.declared.operation.LinkOperation.{LinkOperation}
+use Rattle.mem_blocks.{specs.Links.leads_to, specs.Links.told_place, specs.Links.IsToldPlace, specs.declared.operation.LinkOperation.LinkOperation, proofs.web.Web.operate_link.Statement.statement}
 use Rattle.mem_blocks.specs.contracts.operation.LinkOperation as operation
 use Rattle.mem_blocks.proofs.LinkOperations.{link_tag, link_operation_val, link_operation_told, link_operation_good, no_fourth, asks_link}
 use Rattle.mem_blocks.proofs.Moves as moves
-use types.Kit.{Item, Sq, runs}
+use types.{Kit.Item, Kit.Sq, Kit.runs, ByLocal.forget_but, ByLocal.holding}
 use prog.Wp.{Out}
-use types.ByLocal.{forget_but, holding}
 use Rattle.std.proofs.raw_atomic.PtrCalls as pointers
-use Rattle.mem_blocks.specs.contracts.web.Web.operate_link.{ended, clauses}
-use Rattle.mem_blocks.specs.contracts.web.Web.operate_link.Key.{name as #self}
-use Rattle.mem_blocks.proofs.web.Web.operate_link.Statement.{statement}
+use Rattle.mem_blocks.specs.contracts.web.Web.operate_link.{ended, clauses, Key.name as #self}
 use Rattle.mem_blocks.proofs.web.Web.operate_link.Code as code
 
 pub operate_link_spec : {M : Type 1} → statement M

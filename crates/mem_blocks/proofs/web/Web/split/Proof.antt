@@ -1,11 +1,13 @@
 -- `split` is one load, by which the seat's view is cut in two.
-use Rattle.mem_blocks.proofs.Walks.{◌≡◌, ℕ, ◌+◌, [], ◌∷◌, sym, refl, lit<, None, Ty, a_type, dcons, dnil, named, Val, vptr, inst_fn, Coded, SProp, via, Lft, Fml, ftrue, fsep, fex, flft, mean, ‵, raw, ◌⊛◌, given, at_ret, ◌$◌, ◌∵◌, !, qed, by, move, keep, drop, use3, join, split3, learn, stop, from, fld, hop, addr, lit, no_more, and_then, first, blocks, exec, Calls-last, returns, alloc_all, pass_all, free_all, look_at, look_in_at, get, sets, lands_last, env, agg, sub, all_of_it, tokens_halve, tables, fact, yes, no, RattleType, owns, types_at, plain, Ptr, block_ptr, block_of, count_of, InBlock, param, bounded, RefOf, mut_vals, mut_Tells, shr_vals, shr_Tells, Tuple, Stays, stay_dropped, stay_ref, walk_of, Goes-dropped, Goes-ref, proved, leaves, fm, seq_cst, found, finds, loads, Sitter, sitter, CanFork, Sits, Same, WebId, age, seat_owns, after, blank_val, place_val, place_told, begins_step, tells, blank, takes_step, ends_step, enters_at}
+use Rattle.mem_blocks.proofs.Walks.{◌≡◌, ℕ, ◌+◌, [], ◌∷◌, sym, refl, lit<, None, Ty, a_type, dcons, dnil, named, Val, vptr, inst_fn, Coded, SProp, via, Lft, Fml, ftrue, fsep, fex, flft, mean, ‵, raw, ◌⊛◌, given, at_ret, ◌$◌, ◌∵◌, !, qed, by, move, keep, drop, use3}
+use Rattle.mem_blocks.proofs.Walks.{join, split3, learn, stop, from, fld, hop, addr, lit, no_more, and_then, first, blocks, exec, Calls-last, returns, alloc_all, pass_all, free_all, look_at, look_in_at, get, sets, lands_last, env, agg, sub, all_of_it, tokens_halve}
+use Rattle.mem_blocks.proofs.Walks.{tables, fact, yes, no, RattleType, owns, types_at, plain, Ptr, block_ptr, block_of, count_of, InBlock, param, bounded, RefOf, mut_vals, mut_Tells, shr_vals, shr_Tells, Tuple, Stays, stay_dropped, stay_ref, walk_of, Goes-dropped}
+use Rattle.mem_blocks.proofs.Walks.{Goes-ref, proved, leaves, fm, seq_cst, found, finds, loads, Sitter, sitter, CanFork, Sits, Same, WebId, age, seat_owns, after, blank_val, place_val, place_told, begins_step, tells, blank, takes_step, ends_step, enters_at}
 use Rattle.mem_blocks.specs.contracts.block.BlockPtr as link
 use Rattle.mem_blocks.specs.contracts.web.Web as web
 use Rattle.mem_blocks.specs.contracts.web.Seat as seat
 use Rattle.mem_blocks.proofs.Moves as moves
-use Rattle.mem_blocks.specs.contracts.web.Web.split.{ended, clauses}
-use Rattle.mem_blocks.specs.contracts.web.Web.split.Key.{name as #self}
+use Rattle.mem_blocks.specs.contracts.web.Web.split.{ended, clauses, Key.name as #self}
 use Rattle.mem_blocks.proofs.web.Web.split.Statement.{statement}
 use Rattle.mem_blocks.proofs.web.Web.split.Code as code
 
