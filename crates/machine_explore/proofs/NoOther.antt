@@ -23,7 +23,7 @@ starts_there k before parties s first start all =
 pub none_begun : (k : Kind) (before : List (Call ℕ)) (parties p : ℕ) (s : Standing) → IsStart k before parties s → p < parties → progress_of s p ≡ no_progress
 none_begun k before parties p s start h = ap (λ l. slice_index_or l p no_progress) start.none_begun ∙ get_or-replicate parties p no_progress no_progress h
 
--- what a standing ends with, told by the events that led there
+-- what a standing ends with, known by the events that led there
 pub ends_with : (k : Kind) (calls : List (List (Call ℕ))) (w : World (MemoryState ℕ) (Running ℕ)) (rest : List (Event ℕ)) (end : Standing) → end.kind ≡ k → end.world ≡ world_after k w rest → length end.parties ≡ length calls
     → ((p : ℕ) → p < length calls → (progress_of end p).replies ≡ replies_by p rest (told_of k w rest)) → outcome_at end ≡ outcome_of k (length calls) w rest
 ends_with k calls w rest end kind world parties replies =

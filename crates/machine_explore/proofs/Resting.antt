@@ -54,7 +54,7 @@ first-between k before parties q s can start =
       | inr other ↦ others-between q past (told_of k (opening_world k parties) past) Between other.1 start.prepared.1.alone
     ]
 
--- where a party stands is told by the events since then
+-- where a party stands is known by the events since then
 pub standing_since : (k : Kind) (before : List (Call ℕ)) (parties q : ℕ) (s : Standing) (rest : List (Event ℕ)) → CanReplay k → (start : IsStart k before parties s)
     → standing k parties q (start.prepared.0 ++ rest) ≡ stands_by q Between rest (told_of k s.world rest)
 standing_since k before parties q s rest can start =
