@@ -4,10 +4,10 @@ use Rattle.atomic_table.specs.{Seated.TableId, declared.shared.Seat.Seat}
 use Rattle.queue_steps.specs.{declared.model.Call.Call, declared.model.Reply.Reply, declared.steps.types.Kind.Kind, Kinds.call_kind, Next.next_of, Parties.IsView}
 use Rattle.shared_parties.specs.{declared.known.CallState.CallState, declared.known.InCall.InCall, declared.known.Work.Work as work, Calling.cap_of, CallsAt.begun_at, Quitting.its_call, CallStates.idle, Known.party}
 use Rattle.shared_tables.specs.{AtTable.TableSeat, AtTable.Ended, Seats.view_at, TableRule.TableOf, TableTurns.After, TableTurns.TableStands}
-use Rattle.shared_calls.specs.{declared.left.Left.Left, Pausing.IsStep}
-use Rattle.concurrent_queue.specs.{declared.party.SeatPlace.SeatPlace, declared.party.SeatPlace.SeatPlace as place, Shared.QueueId, Shared.QueueName, Shared.at_table, Shared.PartyView, Shared.party_view, Shared.IsHeld, Shared.Calls, Shared.party_view_of, Begun.Begun, Pending.begun_by, Pending.IsStoppedAt, Pending.StopsHere}
+use Rattle.shared_calls.{specs.declared.left.Left.Left, specs.Pausing.IsStep, proofs.Steps.at_step, proofs.Steps.at_its}
+use Rattle.concurrent_queue.specs.{declared.party.SeatPlace.SeatPlace, declared.party.SeatPlace.SeatPlace as place, Begun.Begun, Pending.begun_by, Pending.IsStoppedAt, Pending.StopsHere}
+use Rattle.concurrent_queue.specs.Shared.{QueueId, QueueName, at_table, PartyView, party_view, IsHeld, Calls, party_view_of}
 use Rattle.concurrent_queue.proofs.TableCalls.{table_ends}
-use Rattle.shared_calls.proofs.Steps.{at_step, at_its}
 
 module _ {T : Type 0} where
   -- the call that a seat is at, seen as contracts see it

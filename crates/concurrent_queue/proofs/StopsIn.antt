@@ -6,10 +6,9 @@ use Rattle.shared_parties.specs.{declared.known.CallState.CallState, declared.kn
 use Rattle.shared_chain.specs.{Names.link_of, Names.next_map, Turning.SitsAt, Turning.ChainStands, Turning.ChainEnded, declared.web.ChainWeb.ChainWeb}
 use Rattle.shared_chain.specs.Steps as chain
 use Rattle.shared_chain.proofs.Frames.Renamed.{next_of_map}
-use Rattle.shared_calls.specs.{declared.chain.Asking.Asking, declared.left.Left.Left, InWeb.EndedAt, Pausing.IsStep}
+use Rattle.shared_calls.{specs.declared.chain.Asking.Asking, specs.declared.left.Left.Left, specs.InWeb.EndedAt, specs.Pausing.IsStep, proofs.Steps.in_step, proofs.Steps.step_named}
 use Rattle.concurrent_queue.specs.{declared.party.SeatPlace.SeatPlace, declared.party.SeatPlace.SeatPlace as place, Shared.QueueId, Shared.in_web, Shared.PartyView, Shared.party_view, Shared.IsHeld, Shared.Calls, Shared.party_view_of, Begun.Begun, Pending.IsStoppedIn, Pending.StopsInside}
 use Rattle.concurrent_queue.proofs.{Stops.begun_is, WebParties.web_ends}
-use Rattle.shared_calls.proofs.Steps.{in_step, step_named}
 
 module _ {T A Q : Type 0} (w : ChainWeb T A) where
   -- the seat with which the call of this seat began

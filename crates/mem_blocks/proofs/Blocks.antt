@@ -1,12 +1,14 @@
 -- A block among the others, its words, its link and its slots, and what acts do to them. Assumes `Logic`.
-use Rattle.mem_blocks.proofs.Walks.{puts_back, ◌≡◌, ℕ, zero, suc, ◌+◌, ◌*◌, ◌<◌, ◌≤◌, Bool, true, List, [], ◌∷◌, ◌++◌, length, get_or, set, sym, refl, ap, ◌∙◌, subst, arith, length-set, true≢false, Option, Some, cell, get_elem?, Ura, Ty, SProp, ent, sep, wand, all, guard, id⊢, Fml, ftrue, Logic, sem, ‵, raw, ◌⊛◌, given, ◌$◌, ◌∵◌, !, qed, by, move, keep, drop, use1, use2, split, fsplit, fsplit3, fjoin, fjoin3, fpick, fpack, learn, check, frame, each, assume, rewrite, done, RattleType, mem, Ptr, block_of, count_of, InBlock, nothing, word, row, Content, Home, Hand, Block, Sitter, Act, away, block, Lives, Rests, word_of, gone, with_word, with_next, with_home, without, blocks_after, sitter_after, Small, slots_at, content_owns, slot_owns, slots_own, Sized, hand_owns, edge, block_owns, laid_owns, chain_owns, spare_owns, SLOTS}
+use Rattle.mem_blocks.proofs.Walks.{puts_back, ◌≡◌, ℕ, zero, suc, ◌+◌, ◌*◌, ◌<◌, ◌≤◌, Bool, true, List, [], ◌∷◌, ◌++◌, length, get_or, set, sym, refl, ap, ◌∙◌, subst, arith, length-set, true≢false, Option, Some, cell, get_elem?, Ura, Ty}
+use Rattle.mem_blocks.proofs.Walks.{SProp, ent, sep, wand, all, guard, id⊢, Fml, ftrue, Logic, sem, ‵, raw, ◌⊛◌, given, ◌$◌, ◌∵◌, !, qed, by, move, keep, drop, use1, use2, split, fsplit, fsplit3, fjoin, fjoin3, fpick, fpack, learn, check}
+use Rattle.mem_blocks.proofs.Walks.{frame, each, assume, rewrite, done, RattleType, mem, Ptr, block_of, count_of, InBlock, nothing, word, row, Content, Home, Hand, Block, Sitter, Act, away, block, Lives, Rests, word_of, gone, with_word}
+use Rattle.mem_blocks.proofs.Walks.{with_next, with_home, without, blocks_after, sitter_after, Small, slots_at, content_owns, slot_owns, slots_own, Sized, hand_owns, edge, block_owns, laid_owns, chain_owns, spare_owns, SLOTS}
 use Rattle.std.proofs.Common.{suc-mul, zero-mul}
 use mathlib.Core.Option as maybe
 use lib.ListN as lists
 use lib.Seq.{set-get_or}
 use Rattle.atomic_table.proofs.Roster.{row_at, Reset}
-use Rattle.mem_blocks.specs.Web.{takes, gives, lays, lifts, worded, linked, homed, acted, sitter_acted, May, Mays}
-use Rattle.mem_blocks.specs.Laid.{if_alive}
+use Rattle.mem_blocks.specs.{Web.takes, Web.gives, Web.lays, Web.lifts, Web.worded, Web.linked, Web.homed, Web.acted, Web.sitter_acted, Web.May, Web.Mays, Laid.if_alive}
 
 -- where a list has an entry
 pub found_there : {X : Type 0} (xs : List X) (j : ℕ) (x y : X) → get_elem? xs j ≡ maybe.some x → (j < length xs) × (get_or xs j y ≡ x)

@@ -1,18 +1,17 @@
 -- What a step of a seat does to the web, while the invariant is open for that step; and the web's first and last moments. Assumes `Logic`.
-use Rattle.mem_blocks.proofs.Walks.{puts_back, id⊢, ◌≡◌, ℕ, ◌+◌, ◌*◌, ◌<◌, List, [], ◌∷◌, ◌++◌, set, sym, refl, subst, arith, w64, None, asks, always, cell, alike, Bool, cond, get_elem?, Ura, Ty, ty_int, vint, vnull, ptr_same, has_ty, WT, full_share, Coded, SProp, ent, sep, wand, ex, all, guard, upd, emp, via, apply∗, all_e, upd_i, Lft, Share, Fml, ftrue, fsep, fex, fbor, finv, flft, Logic, sem, ‵, raw, ◌⊛◌, some, given, later, ◌$◌, ◌∵◌, !, qed, by, move, keep, drop, use0, use1, use2, use3, split, split3, fsplit, fsplit3, fjoin, fjoin3, fpick, fpack, pick, learn, check, show, frame, each, assume, suffices, await, rewrite, settle, done, RattleType, Ptr, block_ptr, null_ptr, ptr_val, block_of, count_of, Testable, nothing, word, Block, Sitter, Act, sitter, block, Lives, word_of, with_word, with_next, blocks_after, sitter_after, if_unset, StaysIn, Allows, AllowsLink, CanFork, CanMerge, LastBlocks, LastBlocksBy, WebId, age, hand_owns, chain_owns, spare_owns, seat_owns, inside_owns, web_owns, SLOTS}
-use Rattle.std.proofs.Common.{T}
-use Rattle.std.specs.Sync.RawAtomic.Pointer.{asks_ptr}
+use Rattle.mem_blocks.proofs.Walks.{puts_back, id⊢, ◌≡◌, ℕ, ◌+◌, ◌*◌, ◌<◌, List, [], ◌∷◌, ◌++◌, set, sym, refl, subst, arith, w64, None, asks, always, cell, alike, Bool, cond, get_elem?, Ura, Ty, ty_int, vint, vnull, ptr_same, has_ty, WT, full_share, Coded, SProp, ent, sep, wand}
+use Rattle.mem_blocks.proofs.Walks.{ex, all, guard, upd, emp, via, apply∗, all_e, upd_i, Lft, Share, Fml, ftrue, fsep, fex, fbor, finv, flft, Logic, sem, ‵, raw, ◌⊛◌, some, given, later, ◌$◌, ◌∵◌, !, qed, by, move, keep, drop, use0, use1, use2, use3, split, split3, fsplit, fsplit3}
+use Rattle.mem_blocks.proofs.Walks.{fjoin, fjoin3, fpick, fpack, pick, learn, check, show, frame, each, assume, suffices, await, rewrite, settle, done, RattleType, Ptr, block_ptr, null_ptr, ptr_val, block_of, count_of, Testable, nothing, word, Block, Sitter, Act, sitter, block}
+use Rattle.mem_blocks.proofs.Walks.{Lives, word_of, with_word, with_next, blocks_after, sitter_after, if_unset, StaysIn, Allows, AllowsLink, CanFork, CanMerge, LastBlocks, LastBlocksBy, WebId, age, hand_owns, chain_owns, spare_owns, seat_owns, inside_owns, web_owns, SLOTS}
+use Rattle.std.{proofs.Common.T, specs.Sync.RawAtomic.Pointer.asks_ptr}
 use mathlib.Core.Option as maybe
-use base.Share.{quarter, three_quarters}
-use base.Fml.{flent}
-use types.Kit.{Item, Seq, Step, step, Goal, prop, updating, now}
-use types.Owned.{basic}
-use types.Keyed.{entries_new, entries_take}
-use types.Tokens.{lft_new, lft_end, bor_new, lent_back}
+use base.{Share.quarter, Share.three_quarters, Fml.flent}
+use types.{Kit.Item, Kit.Seq, Kit.Step, Kit.step, Kit.Goal, Kit.prop, Kit.updating, Kit.now, Owned.basic, Keyed.entries_new, Keyed.entries_take, Tokens.lft_new, Tokens.lft_end, Tokens.bor_new, Tokens.lent_back}
 use Rattle.atomic_table.specs.Seated.{fact, seen, roster, halved, unused}
 use Rattle.atomic_table.proofs.Roster.{Moved, moves, Joined, joins, apart, resets}
 use Rattle.mem_blocks.specs.{Web.State, Web.viewed, Web.KeepsRule, Laid.state_owns, Laid.known_to_all, Links.leads_to, Links.told_place, Links.IsToldPlace, declared.operation.LinkOperation.LinkOperation, declared.operation.LinkOperation.LinkOperation as does}
-use Rattle.mem_blocks.proofs.{LinkOperations.link_tag, LinkOperations.asks_link, Borrowed.word_step, Borrowed.Word-found, Borrowed.link_step, Borrowed.BlockPtr-found, Borrowed.null_step, Borrowed.null_tested, Blocks.acts, Blocks.Reworded, Blocks.word_at, Blocks.Relinked, Blocks.link_at, Blocks.same_word}
+use Rattle.mem_blocks.proofs.{LinkOperations.link_tag, LinkOperations.asks_link, Blocks.acts, Blocks.Reworded, Blocks.word_at, Blocks.Relinked, Blocks.link_at, Blocks.same_word}
+use Rattle.mem_blocks.proofs.Borrowed.{word_step, Word-found, link_step, BlockPtr-found, null_step, null_tested}
 
 module _ {M : Type 1} {𝓤 : Ura M} (𝓛 : Logic 𝓤) (R : RattleType) (token : Ty → Ptr → Fml) {V : Type 0} (cv : Coded V) (holds : State R.Denot V → Type 0) where
   open 𝓛 use {H, A}

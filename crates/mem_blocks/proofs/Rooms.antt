@@ -1,5 +1,7 @@
 -- How the room of a block becomes its parts, and the parts a room again. Assumes `Logic`.
-use Rattle.mem_blocks.proofs.Walks.{◌≡◌, ℕ, zero, suc, ◌+◌, ◌*◌, List, [], ◌∷◌, length, replicate, sym, refl, ap, subst, arith, lit<, w64, Ura, Ty, ty_ptr, ty_int, ty_array, vint, vstruct, of_list, has_ty, WT, bare, full_share, SProp, ent, sep, wand, via, apply∗, id⊢, Fml, ftrue, fsep, fwand, froom, size, align, size-raw, align-raw, Logic, sem, ‵, raw, ◌⊛◌, ◌$◌, ◌∵◌, !, qed, move, keep, drop, use1, use2, split, fsplit, fsplit3, fjoin, fjoin3, fpick, frame, assume, rewrite, done, RattleType, mem, lone, Ptr, ptr_val, block_of, count_of, nothing, word, row, Home, Block, alive_at, vacant, AllVacant, hub_ty, hub_rooms, hub_rim, head_of, block_ty, slots_at, slot_owns, slots_own, rooms, rim, edge, block_owns, SLOTS}
+use Rattle.mem_blocks.proofs.Walks.{◌≡◌, ℕ, zero, suc, ◌+◌, ◌*◌, List, [], ◌∷◌, length, replicate, sym, refl, ap, subst, arith, lit<, w64, Ura, Ty, ty_ptr, ty_int, ty_array, vint, vstruct, of_list, has_ty, WT, bare, full_share, SProp, ent, sep, wand, via, apply∗, id⊢}
+use Rattle.mem_blocks.proofs.Walks.{Fml, ftrue, fsep, fwand, froom, size, align, size-raw, align-raw, Logic, sem, ‵, raw, ◌⊛◌, ◌$◌, ◌∵◌, !, qed, move, keep, drop, use1, use2, split, fsplit, fsplit3, fjoin, fjoin3, fpick, frame, assume, rewrite, done, RattleType, mem}
+use Rattle.mem_blocks.proofs.Walks.{lone, Ptr, ptr_val, block_of, count_of, nothing, word, row, Home, Block, alive_at, vacant, AllVacant, hub_ty, hub_rooms, hub_rim, head_of, block_ty, slots_at, slot_owns, slots_own, rooms, rim, edge, block_owns, SLOTS}
 use Rattle.std.proofs.Common.{T}
 use mir.Syntax.{tcons, tnil}
 use base.Logic.{mono∗, mono_r}

@@ -3,16 +3,12 @@
 -- What is lent lies in an invariant: each block that joined and did not leave, with its slots at home, the rule, and one part in four of each view. The seat has the other three.
 use Rattle.std.specs.Prelude.{◌≡◌, ℕ, ◌+◌, ◌*◌, ◌^◌, ◌<◌, ◌≤◌, Bool, true, false, List, [], ◌∷◌, length, Option, Some, None}
 use Rattle.std.specs.Sync.RawAtomic.Pointer.{cell}
-use base.Fraction.{full_share}
-use base.Share.{three_quarters}
-use base.Stored.{Gv}
+use base.{Fraction.full_share, Stored.Gv, Share.three_quarters}
 use base.Fml.{Lft, Fml, ftrue, fsep, fex, fwand, froom, fbor, flent, flft, fshr_bor, finv}
 use mir.Syntax.{Ty, w64, ty_ptr, ty_int, ty_array, ty_struct, tcons, tnil}
 use mir.Raw.{raw}
 use prog.Memory.{size, up, align}
-use denote.RattleType.{RattleType}
-use denote.Memory.{mem, lone, part_at}
-use denote.RawPtr.{Ptr, block_ptr, block_of, count_of, InBlock}
+use denote.{RattleType.RattleType, Memory.mem, Memory.lone, Memory.part_at, RawPtr.Ptr, RawPtr.block_ptr, RawPtr.block_of, RawPtr.count_of, RawPtr.InBlock}
 use Rattle.atomic_table.specs.Seated.{fact, row, seen, roster}
 use Rattle.mem_blocks.specs.{Web.Content, Web.Home, Web.Hand, Web.Block, Web.State, Web.Sitter, declared.sizes.TheConstants.SLOTS}
 

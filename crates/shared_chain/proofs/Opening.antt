@@ -3,8 +3,7 @@ use Rattle.std.proofs.Common.{◌≡◌, ◌∙◌, false, None, List, [], ◌�
 use denote.RawPtr.{Ptr, null_ptr}
 use Rattle.mem_blocks.specs.{Web.Block, Web.alive_at, Web.with_word, declared.sizes.TheConstants.SLOTS, declared.hub.TheConstants.PARTIES}
 use Rattle.queue_laws.proofs.Chain.ChainFirst.{first, first_ok, first_idle, first_spares}
-use Rattle.shared_parties.specs.{CallStates.is_busy, CallsAt.CallsAt}
-use Rattle.shared_parties.proofs.FirstParty.{first_rests, first_kept}
+use Rattle.shared_parties.{specs.CallStates.is_busy, specs.CallsAt.CallsAt, proofs.FirstParty.first_rests, proofs.FirstParty.first_kept}
 use Rattle.shared_chain.specs.{ChainCalls.OutChain, ChainCalls.chain_calls, Rule.Codes, Rule.Rule, Rule.first_seat}
 
 -- an end whose link is unset and whose words are 0

@@ -3,7 +3,8 @@ use Rattle.std.specs.Prelude.{◌≡◌, ◌≢◌, ◌⊎◌, ℕ, ◌+◌, ◌
 use mathlib.Core.Option.{some}
 use lib.ListN.{get_elem?}
 use denote.RawPtr.{Ptr, null_ptr, Testable}
-use Rattle.queue_laws.specs.{Common.Vocabulary.Effect, Common.Vocabulary.BLOCK_SLOTS, Common.Vocabulary.WRITE, Common.Vocabulary.READ, Chain.ChainAnswers.tail_word, Chain.ChainAnswers.head_word, Chain.ChainAnswers.last_of, Chain.ChainAnswers.shown_of, Chain.ChainAnswers.linked_of, Chain.ChainAnswers.IsState}
+use Rattle.queue_laws.specs.Common.Vocabulary.{Effect, BLOCK_SLOTS, WRITE, READ}
+use Rattle.queue_laws.specs.Chain.ChainAnswers.{tail_word, head_word, last_of, shown_of, linked_of, IsState}
 use Rattle.queue_steps.specs.Shares.{entire}
 use Rattle.queue_laws.specs.Chain.ChainCells.{Writer, Free, Writing, Wrote, Reader, Unread, Reading, Done, Before, GivenUp, Use, Unused, Spare, Chained, item_at, LAST}
 use Rattle.mem_blocks.specs.Web.{Block, State, Home, block, Lives, word_of, away, vacant, full}

@@ -1,16 +1,13 @@
 -- Each step of a party keeps the rule of the one history.
 use Rattle.std.proofs.Common.{◌≡◌, ◌≢◌, ℕ, zero, suc, ◌<◌, ◌⊎◌, inl, inr, ⊎_elim, true, List, [], ◌∷◌, ◌++◌, length, set, sym, refl, ap, ◌∙◌, subst, arith, length-set, get_or, get_or-set_same, append-nil, replicate, lit<}
-use Rattle.std.specs.Prelude.{bit_or}
-use Rattle.std.proofs.lemmas.List.{append_assoc}
+use Rattle.std.{specs.Prelude.bit_or, proofs.lemmas.List.append_assoc}
 use mathlib.Core.Option.{some, some-injective, some-ne-none}
-use lib.ListN.{get_elem?}
-use lib.Seq.{set-get_or}
+use lib.{ListN.get_elem?, Seq.set-get_or}
 use denote.RawPtr.{Ptr}
 use Rattle.atomic_table.proofs.Lists.{at_set, at_snoc}
-use Rattle.mem_blocks.specs.Web.{Block, State, Sitter, block, Lives, word_of, with_word, KeepsRule, Allows, CanFork, CanMerge}
+use Rattle.mem_blocks.specs.{Web.Block, Web.State, Web.Sitter, Web.block, Web.Lives, Web.word_of, Web.with_word, Web.KeepsRule, Web.Allows, Web.CanFork, Web.CanMerge, declared.sizes.TheConstants.SLOTS}
 use Rattle.test_support.specs.ClosingRule as told
 use Rattle.test_support.specs.{ClosingRule.mark, ClosingRule.Begins, ClosingRule.view, ClosingRule.IsViewOf, ClosingRule.ClosingHolds, declared.closing_rule.View.View, declared.closing_rule.QueueEnds.QueueEnds}
-use Rattle.mem_blocks.specs.declared.sizes.TheConstants.{SLOTS}
 
 mark_is : (log : List ℕ) → (mark log ≡ 0) ⊎ (mark log ≡ 1)
 mark_is [] = inl refl

@@ -4,9 +4,11 @@ use Rattle.std.proofs.lemmas.List.{get_or-set_other, length-set, get_or_append_l
 use denote.RawPtr.{Ptr, null_ptr, InBlock}
 use Rattle.mem_blocks.specs.{Web.Block, Web.AllVacant, Web.Lives, Web.block, Web.alive_at, Web.vacant, Web.with_word, Web.without, declared.sizes.TheConstants.SLOTS, declared.chain.Chain.Chain}
 use Rattle.queue_steps.specs.{Effect.rest, declared.sizes.TheConstants.LIMIT, declared.sizes.TheConstants.BLOCK_SLOTS, declared.steps.chain.TheConstants.WRITE, declared.steps.chain.TheConstants.READ}
-use Rattle.own_cells.specs.{declared.chain.own_chain.Name.Name, declared.chain.own_chain.Spare.Spare, declared.chain.own_chain.OwnChain.TheInside.Inside, OneChain.OwnChainCells.Piece, OneChain.OwnChainCells.OwnChain, OneChain.OwnChainCells.fresh_piece, OneChain.OwnChainCells.laid, OneChain.OwnChainCells.piece_of, OneChain.OwnChainCells.IsEmptied, OneChain.OwnChainOwned.IsIdle}
+use Rattle.own_cells.specs.declared.chain.own_chain.{Name.Name, Spare.Spare, OwnChain.TheInside.Inside}
+use Rattle.own_cells.specs.OneChain.{OwnChainCells.Piece, OwnChainCells.OwnChain, OwnChainCells.fresh_piece, OwnChainCells.laid, OwnChainCells.piece_of, OwnChainCells.IsEmptied, OwnChainOwned.IsIdle}
 use Rattle.own_cells.specs.OneChain.OwnChain.{IsHeld, IsLinked, IsFresh, spare_name, own_chain_view, name_at, piece, pieces_of, contents}
-use Rattle.own_cells.proofs.OneChain.{Pieces.append-pieces_of, Pieces.rest-pieces_of, Pieces.vacant-at_home, Linked.oldest, Linked.block_of, Linked.Knows, OwnChainBegins.HasRead, OwnChainBegins.HasRead-none, OwnChainBegins.HasRead-more, OwnChainBegins.unread, OwnChainBegins.begun, OwnChainBegins.begun_piece, OwnChainBegins.begun-idle}
+use Rattle.own_cells.proofs.OneChain.{Pieces.append-pieces_of, Pieces.rest-pieces_of, Pieces.vacant-at_home, Linked.oldest, Linked.block_of, Linked.Knows}
+use Rattle.own_cells.proofs.OneChain.OwnChainBegins.{HasRead, HasRead-none, HasRead-more, unread, begun, begun_piece, begun-idle}
 
 module _ {T : Type 0} where
   -- a block as it is made, at p

@@ -3,7 +3,8 @@ use Rattle.std.proofs.Common.{ℕ, ◌+◌, ◌<◌, ◌≤◌, ◌≡◌, ◌�
 use Rattle.std.proofs.lemmas.List.{set-get_or}
 use mathlib.Core.Option.{some}
 use denote.RawPtr.{Ptr, Testable}
-use Rattle.queue_laws.specs.{Common.Vocabulary.Next, Common.Vocabulary.BLOCK_SLOTS, Common.Puts.put, Chain.ChainCells.GivenUp, Chain.ChainCells.Unused, Chain.ChainCells.Spare, Chain.ChainCells.Chained, Chain.ChainCells.Use, Chain.ChainCells.Chain, Chain.ChainCells.item_at, Chain.ChainAnswers.linked_of, Chain.ChainAnswers.is_wrote, Chain.ChainAnswers.is_done, Chain.ChainAnswers.waits_at, Chain.ChainTransitions.lost_of, Chain.ChainTransitions.renamed, Chain.ChainAfter.left_by}
+use Rattle.queue_laws.specs.{Common.Vocabulary.Next, Common.Vocabulary.BLOCK_SLOTS, Common.Puts.put, Chain.ChainCells.GivenUp, Chain.ChainCells.Unused, Chain.ChainCells.Spare, Chain.ChainCells.Chained, Chain.ChainCells.Use, Chain.ChainCells.Chain, Chain.ChainCells.item_at}
+use Rattle.queue_laws.specs.Chain.{ChainAnswers.linked_of, ChainAnswers.is_wrote, ChainAnswers.is_done, ChainAnswers.waits_at, ChainTransitions.lost_of, ChainTransitions.renamed, ChainAfter.left_by}
 use Rattle.queue_laws.proofs.Common.Puts.{put_ok}
 use Rattle.mem_blocks.specs.Web.{Block, block, worded, linked, homed, gone, with_word, with_next, with_home, without, word_of, Home, Lives}
 use Rattle.shared_chain.specs.{Spots.spot, ChainCalls.OutChain, Rule.home_of, Rule.plain_state, Rule.lead_of, Rule.BlockIs, Rule.IsThere, Rule.IsUsed, Rule.Codes}

@@ -5,7 +5,8 @@ use mathlib.Core.Option.{some}
 use lib.ListN.{get_elem?}
 use denote.RawPtr.{Ptr}
 use Rattle.atomic_table.proofs.Lists.{set_here, set_else}
-use Rattle.queue_laws.specs.{Common.Vocabulary.Op, Common.Vocabulary.Local, Common.Vocabulary.Next, Common.Vocabulary.BLOCK_SLOTS, Common.Vocabulary.WRITE, Common.Vocabulary.READ, Common.Stand.Stand, Chain.ChainAt.At, Chain.ChainAfter.chain_of, Chain.ChainAfter.after_of, Chain.ChainAfter.left_by, Chain.ChainPasses.spare_in, Common.Operations.op_word}
+use Rattle.queue_laws.specs.Common.{Vocabulary.Op, Vocabulary.Local, Vocabulary.Next, Vocabulary.BLOCK_SLOTS, Vocabulary.WRITE, Vocabulary.READ, Stand.Stand, Operations.op_word}
+use Rattle.queue_laws.specs.Chain.{ChainAt.At, ChainAfter.chain_of, ChainAfter.after_of, ChainAfter.left_by, ChainPasses.spare_in}
 use Rattle.queue_steps.specs.{State.State, ChainNext.chain_next}
 use Rattle.queue_laws.specs.Chain.ChainCells.{Writer, Free, Wrote, Reader, Unread, Reading, Done, Chain, Write, Read, reader_of, HoldsOnly, Nothing, item_at}
 use Rattle.queue_laws.specs.Chain.ChainAnswers.{Answers, linked_of, last_of, shown_of, tail_word, head_word, is_wrote, is_done, waits_at}

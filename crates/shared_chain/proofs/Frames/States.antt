@@ -2,7 +2,8 @@
 use Rattle.std.proofs.Common.{ℕ, ◌+◌, ◌<◌, ◌≡◌, ◌≢◌, ◌==◌, ◌∙◌, ◌⊎◌, inl, inr, Bool, Option, Ok, Some, None, List, [], ◌∷◌, length, refl, sym, ap, subst, arith, bit_and, bit_or}
 use Rattle.std.proofs.lemmas.{Bool.lt-ltb, Bool.le-ltb, Nat.and_or_apart}
 use denote.RawPtr.{Ptr}
-use Rattle.queue_laws.specs.{Common.Puts.put, Common.Stand.Stand, Common.Stand.stand, Chain.ChainTransitions.walk_after, Chain.ChainFacts.IsNamed, Chain.ChainAt.At, Chain.ChainAt.Only, Chain.ChainAnswers.StateAnswers, Chain.ChainAnswers.IsState, Chain.ChainAnswers.Answers, Chain.ChainAfter.chain_of, Chain.ChainAfter.after_of, Chain.ChainAfter.left_by, Common.Operations.op_word}
+use Rattle.queue_laws.specs.Common.{Puts.put, Stand.Stand, Stand.stand, Operations.op_word}
+use Rattle.queue_laws.specs.Chain.{ChainTransitions.walk_after, ChainFacts.IsNamed, ChainAt.At, ChainAt.Only, ChainAnswers.StateAnswers, ChainAnswers.IsState, ChainAnswers.Answers, ChainAfter.chain_of, ChainAfter.after_of, ChainAfter.left_by}
 use Rattle.queue_laws.proofs.{Common.Puts.put_other, Chain.ChainWalk.after_walker}
 use Rattle.queue_laws.specs.Common.Vocabulary.{Call, Reply, Effect, Word, Op, Touch, Answer, Local, Next, BLOCK_SLOTS}
 use Rattle.queue_steps.specs.{State.State, declared.steps.chain.ChainLocal.ChainLocal as chain, ChainNext.chain_next, ChainNext.walks_on}

@@ -3,7 +3,8 @@ use Rattle.std.proofs.Common.{ℕ, ◌+◌, ◌%◌, ◌^◌, ◌<◌, ◌≡◌
 use mathlib.Core.Option.{some}
 use lib.ListN.{get_elem?}
 use denote.RawPtr.{Ptr, Testable}
-use Rattle.queue_laws.specs.{Common.Vocabulary.Word, Common.Vocabulary.Link, Common.Vocabulary.Op, Common.Vocabulary.Answer, Chain.ChainCells.Chain, Chain.ChainAnswers.Answers, Chain.ChainAnswers.last_of, Common.Operations.OnWord, Common.Operations.op_word, Common.Operations.op_makes, Common.Operations.answer_for}
+use Rattle.queue_laws.specs.Common.{Vocabulary.Word, Vocabulary.Link, Vocabulary.Op, Vocabulary.Answer, Operations.OnWord, Operations.op_word, Operations.op_makes, Operations.answer_for}
+use Rattle.queue_laws.specs.Chain.{ChainCells.Chain, ChainAnswers.Answers, ChainAnswers.last_of}
 use Rattle.mem_blocks.specs.Web.{Block, State, Sitter, Lives, viewed, block, word_of, with_word, with_next, blocks_after, sitter_after, KeepsRule, Allows, AllowsLink}
 use Rattle.mem_blocks.specs.declared.hub.TheConstants.{PARTIES}
 use Rattle.shared_parties.specs.{declared.known.CallState.CallState, declared.known.InCall.InCall, Calling.Standing, Calling.touched_list, CallsAt.Ready}

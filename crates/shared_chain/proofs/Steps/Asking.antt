@@ -6,8 +6,7 @@ use denote.RawPtr.{Ptr, block_ptr, null_ptr, InBlock, Testable}
 use Rattle.queue_laws.specs.{Common.Vocabulary.Op, Common.Vocabulary.Answer, Common.Stand.Stand, Chain.ChainAt.At, Chain.ChainAt.asking}
 use Rattle.queue_steps.specs.State.{State as Queue}
 use Rattle.mem_blocks.specs.{Web.Block, Web.State, Web.Sitter, Web.word_of, Web.KeepsRule, Web.Allows, declared.hub.TheConstants.TAIL, declared.hub.TheConstants.PARTIES}
-use Rattle.shared_parties.specs.{declared.known.CallState.CallState, declared.known.InCall.InCall, Calling.Standing, CallsAt.Ready}
-use Rattle.shared_parties.proofs.CallSteps.{stands_at}
+use Rattle.shared_parties.{specs.declared.known.CallState.CallState, specs.declared.known.InCall.InCall, specs.Calling.Standing, specs.CallsAt.Ready, proofs.CallSteps.stands_at}
 use Rattle.shared_chain.specs.{ChainCalls.OutChain, ChainCalls.SlotsAs, ChainCalls.ChainLent, ChainCalls.chain_calls, Rule.Codes, Rule.Rule, Spots.spot, Steps.fresh_at, Steps.hand_by, Steps.Follows, Steps.FollowsGrant}
 use Rattle.shared_chain.proofs.{CallLaws.chain_call_laws, CallLaws.OnBlocks, CallLaws.chain_opens, Steps.Allowing.Found, Steps.Allowing.follows, Frames.Blocks.word_same, Frames.Links.nothing_lent, Steps.Granting.granted_at, Steps.Granting.refused_codes}
 

@@ -3,11 +3,13 @@ use Rattle.std.proofs.Common.{ℕ, Option, List}
 use denote.RawPtr.{Ptr}
 use Rattle.queue_steps.specs.State.{State}
 use Rattle.queue_laws.specs.{Common.Stand.Stand, Chain.ChainCells.ChainOk}
-use Rattle.queue_laws.specs.Chain.ChainAt.{At, push_tail, push_block, asking, installing, showing, claiming, laying, opening, chaining, writing, spending, pop_head, pop_block, pop_tail, taking, following, peeking, passing, entering, awaiting, reading, beginning, walking, destroying, count_tail, count_head, count_again, empty_head, empty_tail, closing, closed_tail}
+use Rattle.queue_laws.specs.Chain.ChainAt.{At, push_tail, push_block, asking, installing, showing, claiming, laying, opening, chaining, writing, spending, pop_head, pop_block, pop_tail, taking, following, peeking}
+use Rattle.queue_laws.specs.Chain.ChainAt.{passing, entering, awaiting, reading, beginning, walking, destroying, count_tail, count_head, count_again, empty_head, empty_tail, closing, closed_tail}
 use Rattle.mem_blocks.specs.Web.{Block, Sitter}
 use Rattle.shared_parties.specs.{declared.known.CallState.CallState, Calling.touched_list}
-use Rattle.shared_chain.specs.{ChainCalls.OutChain, ChainCalls.SlotsAs, ChainCalls.ChainLent, Rule.Codes, Steps.HoldsBy, Steps.BlockStep}
-use Rattle.shared_chain.proofs.{CallLaws.OnBlocks, Steps.Marking.step_opening, Steps.Marking.step_spending, Steps.Marking.step_closing, Steps.Taking.step_taking, Steps.Claiming.step_claiming, Steps.Follows.step_push_block, Steps.Follows.step_pop_block, Steps.Follows.step_following, Steps.Follows.step_peeking, Steps.Laying.step_installing, Steps.Laying.step_laying, Steps.Linking.step_showing, Steps.Linking.step_passing, Steps.Linking.step_chaining, Steps.Linking.step_entering, Steps.Writing.OutWrote, Steps.Writing.step_writing, Steps.Awaiting.step_awaiting, Steps.Reading.step_reading, Steps.Reading.step_beginning, Steps.Walking.step_walking, Steps.Walking.step_destroying}
+use Rattle.shared_chain.{specs.ChainCalls.OutChain, specs.ChainCalls.SlotsAs, specs.ChainCalls.ChainLent, specs.Rule.Codes, specs.Steps.HoldsBy, specs.Steps.BlockStep, proofs.CallLaws.OnBlocks}
+use Rattle.shared_chain.proofs.Steps.{Marking.step_opening, Marking.step_spending, Marking.step_closing, Linking.step_showing, Linking.step_passing, Linking.step_chaining, Linking.step_entering, Follows.step_push_block, Follows.step_pop_block, Follows.step_following, Follows.step_peeking}
+use Rattle.shared_chain.proofs.Steps.{Taking.step_taking, Claiming.step_claiming, Awaiting.step_awaiting, Laying.step_installing, Laying.step_laying, Writing.OutWrote, Writing.step_writing, Reading.step_reading, Reading.step_beginning, Walking.step_walking, Walking.step_destroying}
 use Rattle.shared_chain.proofs.Steps.Loads.{step_push_tail, step_closed_tail, step_pop_tail, step_empty_tail, step_count_tail, step_count_again, step_pop_head, step_count_head, step_empty_head}
 
 pub block_steps : {A : Type 0} (te he : Ptr) (g : OutChain A) (who : ℕ) (bs : List (Block A)) (m : Sitter A (CallState A)) {ms : List (State A)} {k : Stand A} (here : At g.chain who ms k)

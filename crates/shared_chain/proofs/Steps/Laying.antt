@@ -6,7 +6,8 @@ use mathlib.Core.Option.{some}
 use denote.RawPtr.{Ptr, Testable}
 use Rattle.queue_laws.specs.Common.Vocabulary.{Word, Link, Op, Touch, Answer, Local, PushKind, BLOCK_SLOTS, TAIL_STEP}
 use Rattle.queue_steps.specs.{declared.steps.chain.ChainLocal.ChainLocal as chain, Words.tail_of, State.State, ChainNext.chain_next}
-use Rattle.queue_laws.specs.{Common.Puts.put, Chain.ChainFacts.open_tail_of, Chain.ChainFacts.SawTail, Chain.ChainFacts.Claimed, Chain.ChainAt.Either, Chain.ChainAt.installing, Chain.ChainAt.laying, Chain.ChainAfter.if_installed, Chain.ChainAnswers.tail_place, Chain.ChainAnswers.last_of, Chain.ChainAnswers.shown_of, Chain.ChainAnswers.linked_of, Chain.ChainAnswers.is_wrote, Chain.ChainAnswers.is_done, Chain.ChainAnswers.waits_at, Chain.ChainAnswers.IsState}
+use Rattle.queue_laws.specs.{Common.Puts.put, Chain.ChainFacts.open_tail_of, Chain.ChainFacts.SawTail, Chain.ChainFacts.Claimed, Chain.ChainAt.Either, Chain.ChainAt.installing, Chain.ChainAt.laying, Chain.ChainAfter.if_installed}
+use Rattle.queue_laws.specs.Chain.ChainAnswers.{tail_place, last_of, shown_of, linked_of, is_wrote, is_done, waits_at, IsState}
 use Rattle.queue_laws.proofs.{Common.Puts.put_ok, Common.Puts.put_same, Common.Puts.put_other, Chain.ChainTransitions.item_free, Chain.ChainTransitions.no_block, Chain.ChainTransitions.no_front}
 use Rattle.queue_laws.specs.Chain.ChainCells.{Free, Unread, Done, Mover, Laying, Opening, Passer, LinkState, Linking, Linked, Shown, Showing, Seen, Walk, Before, GivenUp, Unused, Spare, Chained, Chain, BlocksOk, LinkOk, ShownOk, WalkOk, item_at, LAST, ChainOk, Write, Tail, HoldsOnly, Nothing}
 use Rattle.queue_laws.specs.Chain.ChainTransitions as moves

@@ -5,7 +5,9 @@ use denote.RawPtr.{Ptr}
 use Rattle.queue_laws.specs.Common.Vocabulary.{Word, Link, Op, Touch, Local, PushKind, BLOCK_SLOTS, TAIL_STEP, WRITE}
 use Rattle.queue_steps.specs.{declared.steps.chain.ChainLocal.ChainLocal as chain, ChainWords.offset_of, Words.position_of, Words.tail_of, State.State}
 use Rattle.queue_laws.proofs.{Common.Puts.put_same, Common.Puts.put_other, Common.Tails.position_tail, Chain.ChainReads.passer_sees, Chain.ChainReads.not_given_up}
-use Rattle.queue_laws.specs.Chain.{ChainFacts.place, ChainFacts.head_of, ChainFacts.open_tail_of, ChainFacts.IsNamed, ChainFacts.SawTail, ChainFacts.Claimed, ChainFacts.Got, ChainTransitions.displayed, ChainTransitions.chained, ChainTransitions.passed, ChainTransitions.entered, ChainAt.Only, ChainAt.Either, ChainAt.IsBehind, ChainAt.IsFurther, ChainAt.showing, ChainAt.chaining, ChainAt.passing, ChainAt.entering, ChainAnswers.head_place, ChainAnswers.head_word, ChainAnswers.shown_of, ChainAnswers.linked_of}
+use Rattle.queue_laws.specs.Chain.ChainFacts.{place, head_of, open_tail_of, IsNamed, SawTail, Claimed, Got}
+use Rattle.queue_laws.specs.Chain.{ChainTransitions.displayed, ChainTransitions.chained, ChainTransitions.passed, ChainTransitions.entered, ChainAnswers.head_place, ChainAnswers.head_word, ChainAnswers.shown_of, ChainAnswers.linked_of}
+use Rattle.queue_laws.specs.Chain.ChainAt.{Only, Either, IsBehind, IsFurther, showing, chaining, passing, entering}
 use Rattle.queue_laws.specs.Chain.ChainCells.{Writer, Writing, Reader, Done, Passer, Stands, Passing, Entering, Linking, Linked, Shown, Showing, Seen, ItemOk, FrontOk, ShownOk, ChainOk, Write, Read, Head, Next, First, HoldsOnly}
 use Rattle.mem_blocks.specs.Web.{Block, Sitter, block, linked, worded, with_word, with_next}
 use Rattle.shared_parties.specs.declared.known.CallState.{CallState}

@@ -1,6 +1,6 @@
 -- The operation of a ready call's step may be done on the chain, and what it answered at run time is what it answered with names.
 use Rattle.std.proofs.Common.{ℕ, ◌+◌, ◌%◌, ◌^◌, ◌≡◌, ◌∙◌, true, Option, Some, None, List, [], refl, sym, ap, subst}
-use denote.RawPtr.{Ptr, InBlock, Testable, null_ptr}
+use denote.RawPtr.{Ptr, InBlock, Testable}
 use Rattle.queue_laws.specs.Common.{Vocabulary.Word, Vocabulary.Link, Vocabulary.Op, Vocabulary.Touch, Vocabulary.Answer, Vocabulary.Local, Operations.op_word, Operations.op_makes, Operations.answer_for}
 use Rattle.mem_blocks.specs.{Web.State, Web.Block, Web.Sitter, Web.Allows, Web.AllowsLink, Web.sitter, declared.block.BlockPtr.BlockPtr as Place, declared.hub.TheConstants.TAIL}
 use Rattle.shared_parties.specs.{declared.known.CallState.CallState, declared.known.InCall.InCall, Calling.touched_list}

@@ -4,7 +4,8 @@ use Rattle.std.proofs.lemmas.{Bool.Decides.eqb_tells, Nat.and_or_self}
 use mathlib.Core.Option.{some}
 use lib.ListN.{get_elem?}
 use denote.RawPtr.{Ptr}
-use Rattle.queue_laws.specs.{Common.Puts.put, Chain.ChainTransitions.reads, Chain.ChainTransitions.walk_after, Chain.ChainFacts.head_of, Chain.ChainFacts.Got, Chain.ChainAt.Only, Chain.ChainAt.IsLast, Chain.ChainAt.reading, Chain.ChainAt.beginning, Chain.ChainAnswers.IsState, Chain.ChainAnswers.is_done, Chain.ChainAnswers.waits_at, Chain.ChainPasses.spare_in}
+use Rattle.queue_laws.specs.Common.Puts.{put}
+use Rattle.queue_laws.specs.Chain.{ChainTransitions.reads, ChainTransitions.walk_after, ChainFacts.head_of, ChainFacts.Got, ChainAt.Only, ChainAt.IsLast, ChainAt.reading, ChainAt.beginning, ChainAnswers.IsState, ChainAnswers.is_done, ChainAnswers.waits_at, ChainPasses.spare_in}
 use Rattle.queue_laws.proofs.{Common.Puts.put_same, Common.Puts.put_other, Chain.ChainReads.own_item, Chain.ChainRead.waits_is, Chain.ChainAnswers.head_offset, Chain.ChainHolds.after_read, Chain.ChainHolds.after_read_on}
 use Rattle.queue_laws.specs.Common.Vocabulary.{Reply, Word, Op, Touch, Local, Next, BLOCK_SLOTS, WRITE, READ, DESTROY}
 use Rattle.queue_steps.specs.{State.State, ChainWords.offset_of, ChainNext.at, ChainNext.ends, ChainNext.walks_on, declared.steps.chain.ChainLocal.ChainLocal as chain}

@@ -4,7 +4,8 @@ use Rattle.std.proofs.lemmas.{Bool.Decides.eqb_tells, Nat.and_or_self}
 use mathlib.Core.Option.{some}
 use lib.ListN.{get_elem?}
 use denote.RawPtr.{Ptr}
-use Rattle.queue_laws.specs.{Common.Puts.put, Common.Vocabulary.Reply, Common.Vocabulary.Word, Common.Vocabulary.Op, Common.Vocabulary.Touch, Common.Vocabulary.Local, Common.Vocabulary.WRITE, Common.Vocabulary.READ, Common.Vocabulary.DESTROY, Chain.ChainTransitions.walked, Chain.ChainTransitions.walk_after, Chain.ChainFacts.IsNamed, Chain.ChainAt.Only, Chain.ChainAt.walking, Chain.ChainAt.destroying, Chain.ChainAnswers.IsState, Chain.ChainAnswers.is_wrote, Chain.ChainAnswers.is_done, Chain.ChainAnswers.waits_at}
+use Rattle.queue_laws.specs.Common.{Puts.put, Vocabulary.Reply, Vocabulary.Word, Vocabulary.Op, Vocabulary.Touch, Vocabulary.Local, Vocabulary.WRITE, Vocabulary.READ, Vocabulary.DESTROY}
+use Rattle.queue_laws.specs.Chain.{ChainTransitions.walked, ChainTransitions.walk_after, ChainFacts.IsNamed, ChainAt.Only, ChainAt.walking, ChainAt.destroying, ChainAnswers.IsState, ChainAnswers.is_wrote, ChainAnswers.is_done, ChainAnswers.waits_at}
 use Rattle.queue_laws.proofs.{Common.Puts.put_same, Common.Puts.put_other, Chain.ChainAnswers.done_is, Chain.ChainHolds.after_walk_on}
 use Rattle.queue_steps.specs.{State.State, ChainNext.at, ChainNext.ends, ChainNext.walks_on, declared.steps.chain.ChainLocal.ChainLocal as chain}
 use Rattle.queue_laws.specs.Chain.ChainCells.{Reader, Reading, Done, Walk, Before, Walker, Waits, GivenUp, Chain, ChainOk, WalkOk, IsWalked, Read, Passed, HoldsOnly, reader_of, item_at, LAST}

@@ -1,7 +1,6 @@
 use Rattle.std.proofs.Common.{◌≡◌, true, sym, ap, subst, rules, tests}
 use Rattle.mem_blocks.specs.Web.{block}
-use Rattle.shared_chain.specs.Leftover.{Emptied}
-use Rattle.shared_chain.proofs.{Frames.Tested.alive_within, Finishing.Leftovers.emptied_slot}
+use Rattle.shared_chain.{specs.Leftover.Emptied, proofs.Frames.Tested.alive_within, proofs.Finishing.Leftovers.emptied_slot}
 use Rattle.shared_chain.proofs.ending.empty_slot.Goals as goal
 
 pub take-requires : goal.take-requires

@@ -2,8 +2,7 @@ use Rattle.std.proofs.Common.{◌≡◌, ◌∙◌, ℕ, ◌+◌, List, sym, ap,
 use Rattle.mem_blocks.specs.Web.{Block, block, Lives}
 use Rattle.queue_steps.specs.{Words.position_of, ChainWords.offset_of, ChainWords.items_before}
 use Rattle.own_cells.specs.OneChain.ChainMemory.{block_of}
-use Rattle.shared_chain.specs.{Ending.LeadsTo, Ending.IntoBlock, Leftover.BlocksLeft}
-use Rattle.shared_chain.proofs.Finishing.Abandoned.{blocks_left, front_left}
+use Rattle.shared_chain.{specs.Ending.LeadsTo, specs.Ending.IntoBlock, specs.Leftover.BlocksLeft, proofs.Finishing.Abandoned.blocks_left, proofs.Finishing.Abandoned.front_left}
 use Rattle.shared_chain.proofs.ending.give_up.Goals as goal
 
 pub give_up_blocks-requires-clause-left : goal.give_up_blocks-requires-clause-left

@@ -1,8 +1,7 @@
 use Rattle.std.proofs.Common.{◌≡◌, Option, Some, None, IfSome, refl, sym, ap, subst, ◌∙◌, arith}
 use denote.RawPtr.{Ptr, null_ptr, InBlock, Testable}
 use Rattle.mem_blocks.specs.{Web.block, Web.Lives, Web.without, Web.word_of, declared.block.BlockPtr.BlockPtr, declared.hub.TheConstants.TAIL}
-use Rattle.shared_chain.specs.Ending.{LeadsTo, IntoBlock}
-use Rattle.shared_chain.proofs.Frames.Blocks.{gone_else}
+use Rattle.shared_chain.{specs.Ending.LeadsTo, specs.Ending.IntoBlock, proofs.Frames.Blocks.gone_else}
 use Rattle.shared_chain.proofs.ending.take_ends.Goals as goal
 
 -- a link that was read leads to where the block's word does

@@ -1,10 +1,12 @@
 -- `word` reads a word of a block.
-use Rattle.mem_blocks.proofs.Walks.{◌≡◌, ℕ, ◌+◌, ◌*◌, ◌^◌, ◌<◌, List, [], ◌∷◌, refl, arith, w64, Ty, a_type, dcons, dnil, named, ty_int, Val, vint, vptr, has_ty, WT, inst_fn, full_share, SProp, all, Fml, ftrue, fsep, flft, ‵, raw, ◌⊛◌, given, at_ret, ◌$◌, ◌∵◌, !, qed, by, keep, use1, split, learn, rewrite, stop, from, fld, hop, load, addr, lit, of_opd, bin, first, blocks, exec, returns, look, alloc_all, pass_all, free_all, look_at, look_in_at, get, through, sets, sets_last, env, sub, all_of_it, tables, fact, yes, no, RattleType, owns, types_at, plain, Ptr, block_of, count_of, InBlock, heard, param, bounded, u64, usize, mut_vals, mut_Tells, uint_vals, uint_Tells, Stays, stay_dropped, stay_ref, walk_of, Goes-dropped, Goes-ref, word, proved, leaves, Block, Lives, word_of, with_word, chain_owns, SLOTS, after, place_val, place_told, tells, numbers, takes_ref, puts_back, opens_ref, shuts_ref, enters_at}
+use Rattle.mem_blocks.proofs.Walks.{◌≡◌, ℕ, ◌+◌, ◌*◌, ◌^◌, ◌<◌, List, [], ◌∷◌, refl, arith, w64, Ty, a_type, dcons, dnil, named, ty_int, Val, vint, vptr, has_ty, WT, inst_fn, full_share, SProp, all, Fml, ftrue, fsep, flft, ‵, raw, ◌⊛◌, given, at_ret, ◌$◌}
+use Rattle.mem_blocks.proofs.Walks.{◌∵◌, !, qed, by, keep, use1, split, learn, rewrite, stop, from, fld, hop, load, addr, lit, of_opd, bin, first, blocks, exec, returns, look, alloc_all, pass_all, free_all, look_at, look_in_at, get, through, sets, sets_last}
+use Rattle.mem_blocks.proofs.Walks.{env, sub, all_of_it, tables, fact, yes, no, RattleType, owns, types_at, plain, Ptr, block_of, count_of, InBlock, heard, param, bounded, u64, usize, mut_vals, mut_Tells, uint_vals, uint_Tells, Stays, stay_dropped, stay_ref}
+use Rattle.mem_blocks.proofs.Walks.{walk_of, Goes-dropped, Goes-ref, word, proved, leaves, Block, Lives, word_of, with_word, chain_owns, SLOTS, after, place_val, place_told, tells, numbers, takes_ref, puts_back, opens_ref, shuts_ref, enters_at}
 use Rattle.mem_blocks.specs.contracts.block.BlockPtr as link
 use Rattle.mem_blocks.specs.contracts.chain.Chain as chain
 use Rattle.mem_blocks.proofs.Blocks as blocks
-use Rattle.mem_blocks.specs.contracts.chain.Chain.word.{ended, clauses}
-use Rattle.mem_blocks.specs.contracts.chain.Chain.word.Key.{name as #self}
+use Rattle.mem_blocks.specs.contracts.chain.Chain.word.{ended, clauses, Key.name as #self}
 use Rattle.mem_blocks.proofs.chain.Chain.word.Statement.{statement}
 use Rattle.mem_blocks.proofs.chain.Chain.word.Code as code
 
@@ -22,7 +24,8 @@ word_spec 𝓤 𝓛 𝓜 𝓡 wired S A L _ ga da dd _ _ =
     let n : ℕ = word_of bs k i in let e : ℕ = i * 8 + (count_of p + 8) in let b : ℕ = block_of p in let Told : Type 0 = (h ≡ h) × (n ≡ n) in let Again = blocks.Reworded 𝓛 R token bs k p i in
     qed 𝓛 (((‵ (flft κs.0 qs.0) ⊛ ‵ others) ⊛ ‵ (owns (types_at goal.signature.params κs) a y.0.4)) ∷ raw (fact 𝓤 _) ∷ raw (fact 𝓤 _) ∷ raw (fact 𝓤 Asked) ∷ []) ∵
     keep ! (3 ∷ 0 ∷ []) $ heard ! Asked (λ asked. takes_ref ! $
-    enters_at ! p asked.0 𝓣.C 𝓣.Λ mir (λ u. vptr a.0.ref_ptr.0 a.0.ref_ptr.1 ∷ vint w64 a.1.0 ∷ place_val u ∷ vint w64 a.1.1.1.0 ∷ []) Post $ alloc_all ! (λ l. pass_all ! refl ((tt, tt), ((tt, record { fits = are.1.0.1 }), ((tt, (tt, tt)), ((tt, record { fits = are.1.1.1.0.1 }), tt)))) $ let locals = env mir.locals l in
+    enters_at ! p asked.0 𝓣.C 𝓣.Λ mir (λ u. vptr a.0.ref_ptr.0 a.0.ref_ptr.1 ∷ vint w64 a.1.0 ∷ place_val u ∷ vint w64 a.1.1.1.0 ∷ []) Post $ alloc_all ! (λ l.
+    pass_all ! refl ((tt, tt), ((tt, record { fits = are.1.0.1 }), ((tt, (tt, tt)), ((tt, record { fits = are.1.1.1.0.1 }), tt)))) $ let locals = env mir.locals l in
     opens_ref ! tt Chain h b' o' (λ ts. refl) (λ ts. use1 𝓛 (‵ (word b e n) ⊛ raw (all 𝓤 Again)) (blocks.word_at 𝓛 R token bs k p i asked.1 asked.2) $ split ! $
     use1 𝓛 (given (lib.Dec.T (has_ty (ty_int w64) (vint w64 n)) × WT (vint w64 n)) (‵ (word b e n))) (𝓛.laws.at_wt full_share (ty_int w64) b e (vint w64 n)) $ learn ! (λ typed.
     let small : i * 8 < 2 ^ 64 = (let near = asked.1 in omega arith) in first ! $ blocks ! $ sets ! (addr ! (from ! (fld ! refl (hop ! (look_in_at ! 3 (sub ! 0 refl (all_of_it !))) (fld ! refl (stop !)))))) refl (tt, tt) $

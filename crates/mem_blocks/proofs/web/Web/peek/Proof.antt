@@ -1,10 +1,12 @@
 -- `peek` is one load, which leaves the web as it is.
-use Rattle.mem_blocks.proofs.Walks.{ℕ, ◌+◌, ◌*◌, ◌^◌, ◌<◌, [], ◌∷◌, refl, arith, lit<, w64, Ty, a_type, dcons, dnil, named, Val, vint, vptr, inst_fn, Coded, SProp, via, Lft, Fml, ftrue, fsep, flft, mean, ‵, raw, ◌⊛◌, given, at_ret, ◌$◌, ◌∵◌, !, qed, by, move, keep, drop, use3, split, join, fsplit, fsplit3, fjoin, learn, stop, from, fld, hop, addr, lit, of_opd, bin, no_more, and_then, first, blocks, exec, Calls-last, returns, alloc_all, pass_all, free_all, look_at, look_in_at, get, sets, lands_last, env, agg, sub, all_of_it, shr_bor-open, obor_close, tokens_halve, tables, fact, yes, no, RattleType, owns, types_at, plain, Ptr, block_ptr, block_of, count_of, InBlock, nothing, unhide, param, bounded, RefOf, usize, shr_vals, shr_Tells, uint_vals, uint_Tells, Stays, stay_dropped, walk_of, Goes-dropped, proved, leaves, fm, seq_cst, found, finds, loads, StaysIn, WebId, age, SLOTS, after, place_val, place_told, numbers, enters_at}
+use Rattle.mem_blocks.proofs.Walks.{ℕ, ◌+◌, ◌*◌, ◌^◌, ◌<◌, [], ◌∷◌, refl, arith, lit<, w64, Ty, a_type, dcons, dnil, named, Val, vint, vptr, inst_fn, Coded, SProp, via, Lft, Fml, ftrue, fsep, flft, mean, ‵, raw, ◌⊛◌, given, at_ret, ◌$◌, ◌∵◌, !, qed, by, move}
+use Rattle.mem_blocks.proofs.Walks.{keep, drop, use3, split, join, fsplit, fsplit3, fjoin, learn, stop, from, fld, hop, addr, lit, of_opd, bin, no_more, and_then, first, blocks, exec, Calls-last, returns, alloc_all, pass_all, free_all, look_at, look_in_at, get}
+use Rattle.mem_blocks.proofs.Walks.{sets, lands_last, env, agg, sub, all_of_it, shr_bor-open, obor_close, tokens_halve, tables, fact, yes, no, RattleType, owns, types_at, plain, Ptr, block_ptr, block_of, count_of, InBlock, nothing, unhide, param, bounded, RefOf}
+use Rattle.mem_blocks.proofs.Walks.{usize, shr_vals, shr_Tells, uint_vals, uint_Tells, Stays, stay_dropped, walk_of, Goes-dropped, proved, leaves, fm, seq_cst, found, finds, loads, StaysIn, WebId, age, SLOTS, after, place_val, place_told, numbers, enters_at}
 use Rattle.mem_blocks.specs.contracts.block.BlockPtr as link
 use Rattle.mem_blocks.specs.contracts.web.Web as web
 use Rattle.mem_blocks.proofs.Moves as moves
-use Rattle.mem_blocks.specs.contracts.web.Web.peek.{ended, clauses}
-use Rattle.mem_blocks.specs.contracts.web.Web.peek.Key.{name as #self}
+use Rattle.mem_blocks.specs.contracts.web.Web.peek.{ended, clauses, Key.name as #self}
 use Rattle.mem_blocks.proofs.web.Web.peek.Statement.{statement}
 use Rattle.mem_blocks.proofs.web.Web.peek.Code as code
 
