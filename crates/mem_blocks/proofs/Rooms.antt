@@ -125,7 +125,7 @@ module _ {M : Type 1} {𝓤 : Ura M} (𝓛 : Logic 𝓤) where
 
     pub spreads : (b o : ℕ) → block_room b o ⊢ ⟦ rooms R b o ⟧ ∗ ⟦ fwand (rooms R b o) (froom (bare (block_ty R)) b o) ⟧
     spreads b o = let fields : ℕ → Fml = λ a. fsep (froom (node_ty SLOTS) b (o + 0)) (fsep (froom (ty_array τ SLOTS) b (o + up a (8 + SLOTS * 8))) ftrue) in
-      let both : ℕ → Fml = λ a. fsep (node_rooms SLOTS b o) (fsep (froom (ty_array τ SLOTS) b (o + up a (8 + SLOTS * 8))) ftrue) in let X : Pr = block_room b o in
+        let both : ℕ → Fml = λ a. fsep (node_rooms SLOTS b o) (fsep (froom (ty_array τ SLOTS) b (o + up a (8 + SLOTS * 8))) ftrue) in let X : Pr = block_room b o in
         subst (λ (a : ℕ). X ⊢ ⟦ both a ⟧ ∗ (⟦ both a ⟧ -∗ X)) (align-raw (ty_array (lone R.mir) SLOTS)) (let a : ℕ = align (bare (ty_array (lone R.mir) SLOTS)) in let Slots : Fml = fsep (froom (ty_array τ SLOTS) b (o + up a (8 + SLOTS * 8))) ftrue in let flat : o + 0 ≡ o = omega arith in
         qed 𝓛 (raw X ∷ []) ∵ use1 𝓛 (‵ (fields a) ⊛ raw (⟦ fields a ⟧ -∗ X)) (𝓛.laws.room_fields [] (tcons (node_ty SLOTS) (tcons (ty_array τ SLOTS) tnil)) b o) $ split ! $ fsplit ! $ rewrite ! 0 (λ (i : ℕ). ‵ (froom (node_ty SLOTS) b i)) flat refl $
         use1 𝓛 (‵ (node_rooms SLOTS b o) ⊛ raw (⟦ node_rooms SLOTS b o ⟧ -∗ H.room (node_ty SLOTS) b o)) (node_spreads SLOTS b o) $ split ! $ move ! (0 ∷ 2 ∷ []) $ fjoin ! $ frame ! $ assume ! (‵ (both a)) $ fsplit ! $ move ! (0 ∷ 2 ∷ []) $

@@ -32,7 +32,7 @@ set_word_spec 𝓤 𝓛 𝓜 𝓡 wired S A L _ ga da dd _ _ =
     keep ! (3 ∷ 0 ∷ []) $ heard ! Asked (λ asked. takes_ref ! $
     enters_at ! p asked.0 𝓣.C 𝓣.Λ mir (λ u. vptr a.0.ref_ptr.0 a.0.ref_ptr.1 ∷ vint w64 a.1.0 ∷ place_val u ∷ vint w64 a.1.1.1.0 ∷ vint w64 a.1.1.1.1.0 ∷ []) Post $
     alloc_all ! (λ l. pass_all ! refl
-      ((tt, tt), ((tt, record { fits = are.1.0.1 }), ((tt, (tt, tt)), ((tt, record { fits = are.1.1.1.0.1 }), ((tt, record { fits = are.1.1.1.1.0.1 }), tt))))) $
+    ((tt, tt), ((tt, record { fits = are.1.0.1 }), ((tt, (tt, tt)), ((tt, record { fits = are.1.1.1.0.1 }), ((tt, record { fits = are.1.1.1.1.0.1 }), tt))))) $
     let locals = env mir.locals l in
     opens_ref ! tt Chain h b' o' (λ ts. refl) (λ ts. use1 𝓛 (given (i < SLOTS) (‵ (word b e (word_of bs k i)) ⊛ raw (all 𝓤 Again))) (blocks.word_at 𝓛 R token bs k p i (λ so. asked.1.1) asked.1.0) $ learn ! (λ near. split ! $
     let small : i * 8 < 2 ^ 64 = omega (arith, near) in first ! $ blocks ! $ sets ! (addr ! (from ! (fld ! refl (hop ! (look_in_at ! 3 (sub ! 0 refl (all_of_it !))) (fld ! refl (stop !)))))) refl (tt, tt) $
