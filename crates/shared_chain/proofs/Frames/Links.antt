@@ -1,5 +1,5 @@
 -- What the steps on links share: what a step leaves for the next one, which blocks are alive, and what another link of an end or of a block leaves of the blocks.
-use Rattle.std.proofs.Common.{ℕ, ◌+◌, ◌≡◌, ◌≢◌, ◌∙◌, inl, inr, Option, List, [], refl, sym, ap, subst}
+use Rattle.std.proofs.Common.{◌<◌, ℕ, ◌+◌, ◌≡◌, ◌≢◌, ◌∙◌, inl, inr, Option, List, [], refl, sym, ap, subst}
 use denote.RawPtr.{Ptr}
 use Rattle.queue_laws.specs.{Common.Vocabulary.Op, Common.Vocabulary.Touch, Common.Vocabulary.Local, Common.Vocabulary.Next, Common.Stand.Stand, Chain.ChainFacts.IsNamed, Chain.ChainAt.At, Chain.ChainAnswers.Answers, Chain.ChainAfter.left_by, Chain.ChainAfter.chain_of, Chain.ChainAfter.after_of, Common.Operations.op_word}
 use Rattle.queue_steps.specs.{State.State, ChainNext.chain_next}
