@@ -1,5 +1,5 @@
 -- What the steps on links share: what a step leaves for the next one, which blocks are alive, and what another link of an end or of a block leaves of the blocks.
-use Rattle.std.proofs.Common.{ℕ, ◌+◌, ◌≡◌, ◌≢◌, ◌∙◌, inl, inr, Option, List, [], refl, sym, ap, subst}
+use Rattle.std.proofs.Common.{◌<◌, ℕ, ◌+◌, ◌≡◌, ◌≢◌, ◌∙◌, inl, inr, Option, List, [], refl, sym, ap, subst}
 use denote.RawPtr.{Ptr}
 use Rattle.queue_laws.specs.Common.{Vocabulary.Op, Vocabulary.Touch, Vocabulary.Local, Vocabulary.Next, Stand.Stand, Operations.op_word}
 use Rattle.queue_laws.specs.Chain.{ChainFacts.IsNamed, ChainAt.At, ChainAnswers.Answers, ChainAfter.left_by, ChainAfter.chain_of, ChainAfter.after_of}
