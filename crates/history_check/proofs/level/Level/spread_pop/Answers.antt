@@ -1,0 +1,20 @@
+use Rattle.std.proofs.Common.{◌≡◌, ℕ, List, ◌∷◌, Ok}
+use Rattle.queue_steps.specs.declared.model.Call.TheVariants as call
+use Rattle.queue_steps.specs.declared.model.Reply.{Reply}
+use Rattle.queue_steps.specs.declared.model.Reply.TheVariants as reply
+use Rattle.history_check.specs.declared.recorded.Move.TheVariants as move
+use Rattle.history_check.specs.Legal.{Stage as SpecStage}
+use Rattle.history_check.specs.Levels.{Has}
+use Rattle.history_check.proofs.Spreading.{unended, of_pop, no_part}
+use Rattle.history_check.proofs.level.Level.spread_pop.Goals as goal
+
+pub returns-clause-has : goal.returns-clause-has
+returns-clause-has g c =
+    let s : SpecStage = c.args.stage.now in
+    let p : ℕ = c.args.party in
+    let f : ℕ = c.front.result in
+    let first : (x : ℕ) (others : List ℕ) → s.queue.items ≡ x ∷ others → f ≡ x = c.front.ensures in
+    let one : List SpecStage = c.follow.new.self in
+    let H : Reply ℕ → Type 0 = λ r. Has one s (move.Act p r) in
+    let taken : H (reply.Pop (Ok f)) = c.in_ok-follow.ensures.has in
+    unended one s p call.Pop c.requires.waits.0 c.requires.waits.1 (of_pop s.queue H f first taken) (λ r old w told fits. absurd (no_part call.Pop r old w (λ u is. absurd (cc)) told))
