@@ -1,13 +1,17 @@
 -- How the checker may end.
-use Rattle.std.specs.Prelude.{◌≡◌, ◌⊎◌, ℕ, List, [], ◌∷◌, ◌++◌, Option, Result, String}
+use Rattle.std.specs.Prelude.{◌≡◌, ◌≢◌, ◌⊎◌, ℕ, List, [], ◌∷◌, ◌++◌, Option, Result, String}
 use Rattle.std.specs.{Io.KnownBytes.Appends, Io.KnownBytes.Keeps, declared.io.Error.Error, declared.vec.IntoIter.IntoIter}
 use Rattle.app_text.specs.{Given.IsAskedBy, Given.MayLackMemory, KindNames.IsKindName, KindNames.kind_text, KindNames.capacity_of, Streams.IsBegun, Streams.IsInput, declared.args.KindName.KindName, declared.faults.Fault.Fault as fault}
 use Rattle.history_check.specs.declared.recorded.Event.{Event}
 use Rattle.app_check.specs.{Histories.IsRecording, Answers.IsAnswer, Answers.answer_text, Answers.answer_status, Answers.stop_status, declared.answers.Answer.Answer, declared.faults.Stop.Stop, declared.faults.Stop.Stop as stop}
 
--- the arguments name this kind of queue, and nothing else
+-- the arguments that name a kind of queue
+abbrev pub kind_words : KindName → List (List ℕ)
+kind_words k = kind_text k ∷ []
+
+-- these arguments name this kind
 abbrev pub Name : List (List ℕ) → KindName → Type 0
-Name words k = IsKindName k × (words ≡ kind_text k ∷ [])
+Name words k = IsKindName k × (kind_words k ≡ words)
 
 -- the answer is right for the history which the text is, on a queue of this capacity
 pub record IsAnswerTo (cap : Option ℕ) (bytes : List ℕ) (answer : Answer) : Type 0 where
@@ -39,7 +43,7 @@ pub record IsBegunChecked (words : List (List ℕ)) (known old new : Option (Lis
 
 -- why nothing was told. But for a failed write, nothing is written then
 abbrev pub IsStopOf : List (List ℕ) → Option (List ℕ) → Option (List ℕ) → Option (List ℕ) → Stop → Type 0
-IsStopOf words known old new stop.Usage = Keeps old new × ((k : KindName) → Name words k → ⊥)
+IsStopOf words known old new stop.Usage = Keeps old new × ((k : KindName) → IsKindName k → kind_words k ≢ words)
 IsStopOf words known old new (stop.Fault fault.Usage) = ⊥
 IsStopOf words known old new (stop.Fault fault.OutputFailed) = IsBegunChecked words known old new
 IsStopOf words known old new why = Keeps old new × ((k : KindName) × Name words k)

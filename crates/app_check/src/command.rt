@@ -1,10 +1,9 @@
 //! The whole checker as a function of its arguments, its input and its two outputs.
 ghost use Rattle.std.specs.Prelude.{◌≡◌, ◌++◌, ◌∷◌, [], IfOk, MatchResult, map, string_bytes};
-ghost use Rattle.app_text.specs.KindNames.{capacity_of};
-ghost use Rattle.app_text.specs.declared.args.KindName.{KindName as SpecKind};
-ghost use Rattle.app_check.specs.declared.faults.Stop.TheVariants as stop;
+ghost use Rattle.app_text.specs.KindNames.{capacity_of, IsKindName};
+ghost use Rattle.app_text.specs.Reading.{IsReading};
 ghost use Rattle.app_check.specs.Answers.{answer_text, IsLack, stop_status};
-ghost use Rattle.app_check.specs.Commands.{IsAnswerTo, IsChecked, IsCheckerEnd, IsStopOf, Name};
+ghost use Rattle.app_check.specs.Commands.{IsAnswerTo, IsChecked, IsCheckerEnd, IsStopOf, kind_words};
 
 use crate::answers::{Answer, answer_of};
 use crate::faults::Stop;
@@ -51,7 +50,9 @@ fn check<A: Allocator, I: Read, O: Write>(
         (IsChecked (map string_bytes args.now) (I.remaining input.old) (O.contents output.old) (O.contents output.new))
         (IsStopOf (map string_bytes args.now) (I.remaining input.old) (O.contents output.old) (O.contents output.new)) }
 {
-    let kind = kind_of(args)?;
+    let Some(kind) = kind_of(args) else {
+        return Err(Stop::Usage);
+    };
     let bytes = read_input(alloc, input)?;
     let answer = told(alloc, kind, &bytes)?;
     let text = line_of(alloc, answer)?;
@@ -59,16 +60,22 @@ fn check<A: Allocator, I: Read, O: Write>(
     Ok(answer)
 }
 
-// The kind that the arguments name.
-fn kind_of(args: &[String]) -> Result<KindName, Stop>
-    ensures { MatchResult result
-        (Name (map string_bytes args.now))
-        (λ why. (why ≡ stop.Usage) × ((k : SpecKind) → Name (map string_bytes args.now) k → ⊥)) }
+// The kind that the arguments name, if they name one.
+fn kind_of(args: &[String]) -> Option<KindName>
+    ensures { IsReading IsKindName kind_words (map string_bytes args.now) result }
 {
-    let [kind] = args else {
-        return Err(Stop::Usage);
-    };
-    parse_kind(kind.as_str()).ok_or(Stop::Usage)
+    match args {
+        [word] => kind_named(word.as_str()),
+        _ => None,
+    }
+}
+
+// The kind that this word alone names.
+fn kind_named(word: &str) -> Option<KindName>
+    ensures { IsReading IsKindName kind_words (word.now ∷ []) result }
+{
+    let kind = parse_kind(word)?;
+    Some(kind)
 }
 
 // The line that tells the answer.

@@ -23,22 +23,17 @@ module _ (cap : Option ℕ) (parties : ℕ) (events : List Event) where
 
   -- no event at all is legal, and all events are not
   pub first_bounds : (IsLegal cap parties events → ⊥) → AreBounds cap parties events 0 (length events)
-  first_bounds not = record {
-    order = omega arith;
-    within = omega arith;
-    lower = ([], refl);
-    upper = λ legal. not (subst (λ (es : List Event). IsLegal cap parties es) (take_all (length events) events (omega arith)) legal);
-  }
+  first_bounds not = (omega arith, omega arith, ([], refl), λ legal. not (subst (λ (es : List Event). IsLegal cap parties es) (take_all (length events) events (omega arith)) legal))
 
   pub raised : (legal n middle : ℕ) → AreBounds cap parties events legal n → legal < middle → middle < n → IsLegal cap parties (take middle events) → AreBounds cap parties events middle n × (n - middle < n - legal)
-  raised legal n middle b above below is = (record { order = omega (arith, below); within = b.within; lower = is; upper = b.upper }, omega (arith, above, below))
+  raised legal n middle (order, within, lower, upper) above below is = ((omega (arith, below), within, is, upper), omega (arith, above, below))
 
   pub lowered : (legal n middle : ℕ) → AreBounds cap parties events legal n → legal < middle → middle < n → (IsLegal cap parties (take middle events) → ⊥) → AreBounds cap parties events legal middle × (middle - legal < n - legal)
-  lowered legal n middle b above below not = (record { order = omega (arith, above); within = (let far = b.within in omega (arith, below, far)); lower = b.lower; upper = not }, omega (arith, above, below))
+  lowered legal n middle (order, within, lower, upper) above below not = ((omega (arith, above), omega (arith, below, within), lower, not), omega (arith, above, below))
 
   -- where nothing is between them, the longer one is the shortest that is not
   pub last_bounds : (legal n : ℕ) → AreBounds cap parties events legal n → n - legal ≤ 1 → IsShortest cap parties events n
-  last_bounds legal n b close = is_shortest legal n (let order = b.order in omega (arith, close, order)) b.lower b.upper
+  last_bounds legal n (order, within, lower, upper) close = is_shortest legal n (omega (arith, close, order)) lower upper
 
   -- the opening is in the first level
   pub opens : (level : List Stage) → Contains level (opening cap parties) → IsLegal cap parties events → Survives level events

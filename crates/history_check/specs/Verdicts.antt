@@ -25,9 +25,6 @@ IsVerdict cap parties events (verdict.Legal moves) = IsOrder cap parties events 
 IsVerdict cap parties events (verdict.NotLegal n) = IsShortest cap parties events n
 IsVerdict cap parties events verdict.TooMany = Unit {0}
 
--- a beginning that is legal, and a longer one that is not
-pub record AreBounds (cap : Option ℕ) (parties : ℕ) (events : List Event) (legal not_legal : ℕ) : Type 0 where
-  pub order : legal ≤ not_legal
-  pub within : not_legal ≤ length events
-  pub lower : IsLegal cap parties (take legal events)
-  pub upper : ¬ (IsLegal cap parties (take not_legal events))
+-- the first `legal` events are legal, and the first n, which are no fewer, are not
+abbrev pub AreBounds : Option ℕ → ℕ → List Event → ℕ → ℕ → Type 0
+AreBounds cap parties events legal n = (legal ≤ n) × (n ≤ length events) × IsLegal cap parties (take legal events) × ¬ (IsLegal cap parties (take n events))

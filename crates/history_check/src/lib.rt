@@ -10,6 +10,4 @@ pub mod recorded;
 pub mod search;
 mod show;
 mod stage;
-#[cfg(test)]
-mod tests;
 mod trail;
