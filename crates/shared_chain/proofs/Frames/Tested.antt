@@ -38,8 +38,8 @@ module _ {A : Type 0} where
 
     -- where a link of a living block leads can be compared with null
     pub next_tested : (k : ℕ) → (block bs k).alive ≡ true → Testable (block bs k).next
-    next_tested zero alive = subst Testable (sym codes.last_is) (last_tested g.chain.blocks refl)
-    next_tested (suc zero) alive = subst Testable (sym codes.front_is) (shown_tested g.chain.shown ok.seen)
+    next_tested zero alive = subst Testable (sym codes.tail.next) (last_tested g.chain.blocks refl)
+    next_tested (suc zero) alive = subst Testable (sym codes.head.next) (shown_tested g.chain.shown ok.seen)
     next_tested (suc (suc b)) alive =
         let within : b < g.chain.blocks = (let l = alive_within bs (suc (suc b)) alive in let s = codes.size in omega arith) in
         let at : b + 2 ≡ suc (suc b) = omega arith in
