@@ -8,7 +8,7 @@ use Rattle.queue_laws.specs.Chain.ChainAnswers.{tail_word, head_word, last_of, s
 use Rattle.queue_steps.specs.Shares.{entire}
 use Rattle.queue_laws.specs.Chain.ChainCells.{Writer, Free, Writing, Wrote, Reader, Unread, Reading, Done, Before, GivenUp, Use, Unused, Spare, Chained, item_at, LAST}
 use Rattle.mem_blocks.specs.Web.{Block, State, Home, block, Lives, word_of, away, vacant, full}
-use Rattle.mem_blocks.specs.declared.hub.TheConstants.{TAIL, PARTIES, HEAD}
+use Rattle.mem_blocks.specs.declared.{sizes.TheConstants.END_WORDS, hub.TheConstants.TAIL, hub.TheConstants.PARTIES, hub.TheConstants.HEAD}
 use Rattle.shared_parties.specs.{declared.known.CallState.CallState, Known.party, CallStates.idle, CallsAt.CallsAt}
 use Rattle.shared_chain.specs.{declared.ends.ChainEnds.ChainEnds, Spots.spot, ChainCalls.OutChain, ChainCalls.chain_calls}
 
@@ -55,8 +55,8 @@ IsUsed _ = ⊥
 pub record Codes {T : Type 0} (tail_end head_end : Ptr) (g : OutChain T) (bs : List (Block T)) : Type 0 where
   pub tail : Lives bs 0 tail_end
   pub head : Lives bs 1 head_end
-  pub tail_words : length (block bs 0).words ≡ BLOCK_SLOTS
-  pub head_words : length (block bs 1).words ≡ BLOCK_SLOTS
+  pub tail_words : length (block bs 0).words ≡ END_WORDS
+  pub head_words : length (block bs 1).words ≡ END_WORDS
   pub tail_is : word_of bs 0 TAIL ≡ tail_word g.chain
   pub head_is : word_of bs 1 HEAD ≡ head_word g.chain
   pub last_is : (block bs 0).next ≡ lead_of (last_of g.chain.names g.chain.blocks)

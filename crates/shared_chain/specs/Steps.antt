@@ -113,7 +113,7 @@ SlotsFor g who (Next.Reply x spare) = Unit {0}
 pub record BlockStep {T : Type 0} (tail_end head_end : Ptr) (g : OutChain T) (who : ℕ) (bs : List (Block T)) (m : Sitter T (CallState T)) {ms : List (State T)} {k : Stand T} (here : At g.chain who ms k) : Type 0 where
   pub number : ℕ
   pub lives : Lives bs number (op_place tail_end head_end k.op)
-  pub counts : number ≡ 0 → word_index (op_word k.op) ≡ 0
+  pub counts : number < 2 → word_index (op_word k.op) ≡ 0
   pub leads : LeadsThere g.chain bs k.op number
   pub found : Answers g.chain k.op (answered g.chain bs k.op number)
   pub out : ℕ → Bool

@@ -40,7 +40,7 @@ module _ (tail_end head_end : Ptr) {A : Type 0} where
 
   -- a step that takes and gives no slot
   pub step_by : (g : OutChain A) (who : ℕ) (bs : List (Block A)) (m : Sitter A (CallState A)) {ms : List (State A)} {k : Stand A}
-      (here : At g.chain who ms k) (number : ℕ) → Lives bs number (op_place tail_end head_end k.op) → (number ≡ 0 → word_index (op_word k.op) ≡ 0) → LeadsThere g.chain bs k.op number → Answers g.chain k.op (answered g.chain bs k.op number)
+      (here : At g.chain who ms k) (number : ℕ) → Lives bs number (op_place tail_end head_end k.op) → (number < 2 → word_index (op_word k.op) ≡ 0) → LeadsThere g.chain bs k.op number → Answers g.chain k.op (answered g.chain bs k.op number)
       → (acts : List (Act A)) → Mays (blocks_made k.op number bs) m acts
       → Leaves tail_end head_end (record { chain = after_of here (answered g.chain bs k.op number); out = g.out }) who (blocks_after (blocks_made k.op number bs) acts) (sitter_after (blocks_made k.op number bs) m acts)
       (chain_next (chain_of k.local) (answered g.chain bs k.op number))

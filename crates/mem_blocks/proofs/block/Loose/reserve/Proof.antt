@@ -51,7 +51,7 @@ reserve_spec 𝓤 𝓛 𝓜 𝓡 wired S A L LA ga da dd met _ =
     sets ! (agg ! (no_more !)) refl (tt, tt) $ sets ! (agg ! (and_then ! (get ! refl) (no_more !))) refl (tt, (tt, tt)) $ sets ! (agg ! (and_then ! (get ! refl) (no_more !))) refl (tt, (tt, tt)) $
     sets ! (agg ! (and_then ! (get ! refl) (and_then ! (get ! refl) (no_more !)))) refl (tt, ((tt, tt), ((tt, tt), tt))) $
     sets_last ! (agg ! (and_then ! (lit ! tt) (and_then ! (get ! refl) (no_more !)))) refl (tt, good) $ exec ! 𝓣.C 𝓣.Λ locals (after 2 mir.body) (at_ret locals Post) $ sets ! (of_opd ! (get ! refl)) refl (tt, good) $
-    move ! (2 ∷ []) $ fsplit ! $ use1 𝓛 (‵ (slots_own R hs₀ b (slots_at R o))) (parts.emptied 𝓛 R token SLOTS b (slots_at R o)) $ move ! (3 ∷ []) $ use1 𝓛 (‵ (row b (o + 8) ns)) (parts.zeroed 𝓛 b (o + 8)) $
+    move ! (2 ∷ []) $ fsplit ! $ use1 𝓛 (‵ (slots_own R hs₀ b (slots_at R o))) (parts.emptied 𝓛 R token SLOTS b (slots_at R o)) $ move ! (3 ∷ []) $ use1 𝓛 (‵ (row b (o + 8) ns)) (parts.zeroed 𝓛 SLOTS b (o + 8)) $
     move ! (0 ∷ 1 ∷ 4 ∷ []) $ fjoin3 ! $ move ! (1 ∷ []) $ fpack ! (Sized R (alive_at p null_ptr ns hs₀)) (λ _. ftrue) (tt, small, refl, omega arith) $ move ! (0 ∷ 2 ∷ 1 ∷ []) $ fjoin3 ! $ blank ! (Tuple (R ∷ Z ∷ [])) $ nothing ! $ move ! (1 ∷ 0 ∷ []) $ fjoin ! $
     use0 𝓛 (‵ (BlockPtr.own_val (record { ptr = p }) (place_val p ∷ []))) (place_made R 𝓛 p) $ fjoin ! $ feq_i ! (List Val) (pair ∷ []) (pair ∷ []) refl $ fjoin ! $
     fpack ! (Valss (BlockPtr ∷ Loose ∷ [])) (within (declared.shape (tuple_type (BlockPtr ∷ Loose ∷ []))) (record { ptr = p }, (r, tt)) (pair ∷ [])) (place_val p ∷ [], (blank_val ∷ [], tt)) $

@@ -1,8 +1,8 @@
 -- `reserve` asks the allocator for room, cuts it into the parts of both ends, and writes their links and words.
-use Rattle.mem_blocks.proofs.Walks.{◌≡◌, ℕ, ◌+◌, ◌*◌, true, dnil, named, Val, vint, Goes-dropped, Ok, Err, Home, alive_at, Small, SProp, Lft, Share, Fml, at_return, ‵, raw, ◌⊛◌, move, keep, drop, use0, fsplit, fsplit3, fjoin}
+use Rattle.mem_blocks.proofs.Walks.{◌≡◌, ℕ, ◌+◌, ◌*◌, true, dnil, named, Val, vint, Goes-dropped, Ok, Err, Home, alive_at, Small, SProp, Lft, Share, Fml, at_return, ‵, raw, ◌⊛◌, move, keep, drop, use0, fsplit, fsplit3, fjoin, END_WORDS}
 use Rattle.mem_blocks.proofs.Walks.{false, List, [], ◌∷◌, replicate, sym, refl, shr_vals, shr_Tells, hub_rooms, hub_size, ap, arith, lit<, w64, vptr, vstruct, vcons, align, Wp, after_seq, later, at_ret, any_q}
 use Rattle.mem_blocks.proofs.Walks.{Ty, Body, a_type, dcons, free_all, look_at, get, vnil, WT, inst_fn, bare, froom, flft, Incl-trans, use1, use2, split, join, and_then, first, blocks, sets_last, lands_as, is, all_of_it, tables, fact}
-use Rattle.mem_blocks.proofs.Walks.{ftrue, fsep, fwand, place_made, ok_of, null_ptr, InBlock, Tuple, tuple_type, fpack, await, feq_i, alloc_all, pass_all, SLOTS, head, after, arm_body, ptr_good}
+use Rattle.mem_blocks.proofs.Walks.{ftrue, fsep, fwand, place_made, ok_of, null_ptr, InBlock, Tuple, tuple_type, fpack, await, feq_i, alloc_all, pass_all, head, after, arm_body, ptr_good}
 use Rattle.mem_blocks.proofs.Walks.{◌$◌, ◌∵◌, !, qed, by, stop, fld, addr, lit, exec, returns, enter, in_variant, agg, rep, ◌⊑◌, yes, RattleType, makes_shadow, within, blank_val, place_val, err_of, tells, blank}
 use Rattle.mem_blocks.proofs.Walks.{of_opd, no_more, get_in, get_tag, init, switches_on, calls_at, Stays, env, live, vrt, Sized, hub_ty, row, proved, leaves, fm}
 use Rattle.mem_blocks.proofs.Walks.{assigns_last, assigns, through, sets, spends, Valss, owns, types_at, plain, Ptr, block_ptr, nothing, heard, param, bounded, RefOf, usize, uint_vals, uint_Tells, stay_dropped, walk_of}
@@ -37,7 +37,7 @@ reserve_spec 𝓤 𝓛 𝓜 𝓡 wired S A L LA ga da dd met _ =
     use2 𝓛 (raw (Takes'.pre w)) (Takes-goes handle_of 𝓛 𝓜.mem 𝓡.returns κ q place heap (Incl-trans bounds.0 inside) n al (bare τ) (sym asked.1) refl are.1.0.1 (lit< tt)) $
     calls_at ! (fm 𝓛 𝓜 𝓡) Takes' (met.allocate dd) w (and_then ! (get ! refl) (and_then ! (get ! refl) (and_then ! (lit ! tt) (no_more !)))) (λ u.
     use1 𝓛 (later (raw (Answered handle_of 𝓛 𝓜.mem 𝓡.returns heap (bare τ) u) ⊛ ‵ (flft κ q))) (Takes-gives handle_of 𝓛 𝓜.mem 𝓡.returns κ q place heap n al (bare τ) u) $ await ! tt $ split ! $ move ! (1 ∷ 2 ∷ []) $ join ! $ move ! (1 ∷ []) $ answers handle_of ! 𝓜.mem 𝓡.returns heap (bare τ) u
-    (λ b o e. let p : Ptr = block_ptr b o in let o' : ℕ = o + (8 + SLOTS * 8) in let p' : Ptr = block_ptr b o' in let ns : List ℕ = replicate SLOTS 0 in let end : Ptr → Loose.Denot = λ u. record { marker = record {}; heap = heap; at = u; next = null_ptr; words = ns; homes = [] } in
+    (λ b o e. let p : Ptr = block_ptr b o in let o' : ℕ = o + (8 + END_WORDS * 8) in let p' : Ptr = block_ptr b o' in let ns : List ℕ = replicate END_WORDS 0 in let end : Ptr → Loose.Denot = λ u. record { marker = record {}; heap = heap; at = u; next = null_ptr; words = ns; homes = [] } in
     let x : Hub.Denot = record { marker = record {}; heap = heap; at = p } in let made : Five.Denot = (x, record { ptr = p }, end p, record { ptr = p' }, end p') in let arm : Body = arm_body 0 both in
     let five : Val = vstruct (vcons blank_val (vcons (place_val p) (vcons blank_val (vcons (place_val p') (vcons blank_val vnil))))) in
     let val : Val = live 0 (vcons five vnil) in let five_good : WT five = ((tt, tt), ((tt, tt), ((tt, tt), ((tt, tt), ((tt, tt), tt))))) in
@@ -50,18 +50,19 @@ reserve_spec 𝓤 𝓛 𝓜 𝓡 wired S A L LA ga da dd met _ =
     first ! $ blocks ! $ sets_last ! (is ! (addr ! (through ! refl (fld ! refl (stop !)))) (ap (vptr b) flat)) refl (tt, tt) $ exec ! 𝓣.C 𝓣.Λ locals (after 3 arm) Then $ sets ! (of_opd ! (get ! refl)) refl (tt, tt) $
     first ! $ blocks ! $ sets_last ! (addr ! (through ! refl (fld ! refl (stop !)))) refl (tt, tt) $ exec ! 𝓣.C 𝓣.Λ locals (after 5 arm) Then $ sets ! (of_opd ! (get ! refl)) refl (tt, tt) $ first ! $ blocks ! $
     sets ! (addr ! (through ! refl (fld ! refl (stop !)))) refl (tt, tt) $ assigns ! (of_opd ! (lit ! tt)) (through ! refl (stop !)) (init ! 2 refl (ptr_good null_ptr)) $
-    sets ! (addr ! (through ! refl (fld ! refl (stop !)))) refl (tt, tt) $ sets ! (rep ! SLOTS (lit ! tt)) refl parts.zeros_good $ assigns ! (of_opd ! (get ! refl)) (through ! refl (stop !)) (init ! 3 refl parts.zeros_good) $
+    sets ! (addr ! (through ! refl (fld ! refl (stop !)))) refl (tt, tt) $ sets ! (rep ! END_WORDS (lit ! tt)) refl parts.end_zeros_good $ assigns ! (of_opd ! (get ! refl)) (through ! refl (stop !)) (init ! 3 refl parts.end_zeros_good) $
     sets ! (addr ! (through ! refl (fld ! refl (stop !)))) refl (tt, tt) $ assigns ! (of_opd ! (lit ! tt)) (through ! refl (stop !)) (init ! 0 refl (ptr_good null_ptr)) $
-    sets ! (addr ! (through ! refl (fld ! refl (stop !)))) refl (tt, tt) $ sets ! (rep ! SLOTS (lit ! tt)) refl parts.zeros_good $ assigns_last ! (of_opd ! (get ! refl)) (through ! refl (stop !)) (init ! 1 refl parts.zeros_good) $
+    sets ! (addr ! (through ! refl (fld ! refl (stop !)))) refl (tt, tt) $ sets ! (rep ! END_WORDS (lit ! tt)) refl parts.end_zeros_good $ assigns_last ! (of_opd ! (get ! refl)) (through ! refl (stop !)) (init ! 1 refl parts.end_zeros_good) $
     exec ! 𝓣.C 𝓣.Λ locals (after 7 arm) Then $ sets ! (agg ! (no_more !)) refl (tt, tt) $ sets ! (agg ! (no_more !)) refl (tt, tt) $ sets ! (agg ! (and_then ! (get ! refl) (no_more !))) refl (tt, (tt, tt)) $
-    sets ! (agg ! (and_then ! (get ! refl) (no_more !))) refl (tt, (tt, tt)) $ sets ! (agg ! (and_then ! (get ! refl) (no_more !))) refl (tt, (tt, tt)) $
-    sets ! (agg ! (and_then ! (get ! refl) (no_more !))) refl (tt, (tt, tt)) $ sets ! (agg ! (and_then ! (get ! refl) (no_more !))) refl (tt, (tt, tt)) $
+    sets ! (of_opd ! (get ! refl)) refl (tt, tt) $ sets ! (agg ! (and_then ! (get ! refl) (no_more !))) refl (tt, (tt, tt)) $ sets ! (agg ! (and_then ! (get ! refl) (no_more !))) refl (tt, (tt, tt)) $
+    sets ! (of_opd ! (get ! refl)) refl (tt, tt) $ sets ! (agg ! (and_then ! (get ! refl) (no_more !))) refl (tt, (tt, tt)) $ sets ! (agg ! (and_then ! (get ! refl) (no_more !))) refl (tt, (tt, tt)) $
     sets ! (agg ! (and_then ! (get ! refl) (and_then ! (get ! refl) (and_then ! (get ! refl) (and_then ! (get ! refl) (and_then ! (get ! refl) (no_more !))))))) refl (tt, five_good) $
     sets_last ! (agg ! (and_then ! (lit ! tt) (and_then ! (get ! refl) (no_more !)))) refl (tt, good) $ exec ! 𝓣.C 𝓣.Λ locals (after 2 mir.body) (at_ret locals Post) $ sets ! (of_opd ! (get ! refl)) refl (tt, good) $
-    move ! (1 ∷ []) $ use1 𝓛 (‵ (row b (o' + 8) ns)) (parts.zeroed 𝓛 b (o' + 8)) $ nothing ! $
-    nothing ! $ fjoin ! $ move ! (1 ∷ 0 ∷ []) $ fjoin ! $ move ! (1 ∷ 0 ∷ []) $ fjoin ! $
-    nothing ! $ fpack ! (Sized R (alive_at p' null_ptr ns [])) (λ _. ftrue) (tt, small, refl, omega arith) $ fjoin ! $ blank ! (Tuple (R ∷ Z ∷ [])) $
-    move ! (2 ∷ []) $ use1 𝓛 (‵ (row b (o + 8) ns)) (parts.zeroed 𝓛 b (o + 8)) $ nothing ! $ nothing ! $ fjoin ! $ move ! (1 ∷ 0 ∷ []) $ fjoin ! $ move ! (2 ∷ 0 ∷ []) $
+    move ! (1 ∷ []) $ use1 𝓛 (‵ (row b (o' + 8) ns)) (parts.zeroed 𝓛 END_WORDS b (o' + 8)) $
+    nothing ! $ nothing ! $ fjoin ! $ move ! (1 ∷ 0 ∷ []) $ fjoin ! $ move ! (1 ∷ 0 ∷ []) $
+    fjoin ! $ nothing ! $ fpack ! (Sized R (alive_at p' null_ptr ns [])) (λ _. ftrue) (tt, small, refl, omega arith) $ fjoin ! $ blank ! (Tuple (R ∷ Z ∷ [])) $
+    move ! (2 ∷ []) $ use1 𝓛 (‵ (row b (o + 8) ns)) (parts.zeroed 𝓛 END_WORDS b (o + 8)) $
+    nothing ! $ nothing ! $ fjoin ! $ move ! (1 ∷ 0 ∷ []) $ fjoin ! $ move ! (2 ∷ 0 ∷ []) $
     fjoin ! $ nothing ! $ fpack ! (Sized R (alive_at p null_ptr ns [])) (λ _. ftrue) (tt, small, refl, omega arith) $ fjoin ! $ blank ! (Tuple (R ∷ Z ∷ [])) $
     move ! (2 ∷ []) $ blank ! (Tuple (R ∷ Z ∷ [])) $ nothing ! $ move ! (3 ∷ 0 ∷ []) $ fjoin ! $ use0 𝓛 (‵ (BlockPtr.own_val (record { ptr = p' }) (place_val p' ∷ []))) (place_made R 𝓛 p') $ fjoin ! $ move ! (2 ∷ 0 ∷ []) $ fjoin ! $
     use0 𝓛 (‵ (BlockPtr.own_val (record { ptr = p }) (place_val p ∷ []))) (place_made R 𝓛 p) $ fjoin ! $ move ! (1 ∷ 0 ∷ []) $ fjoin ! $ feq_i ! (List Val) (five ∷ []) (five ∷ []) refl $ fjoin ! $

@@ -64,7 +64,7 @@ operate_spec 𝓤 𝓛 𝓜 𝓡 wired S V K P A M _ _ _ _ _ _ g d ga da dd g' d
     let small : i * 8 < 2 ^ 64 = (let near = there.1 in omega arith) in let e : ℕ = i * 8 + (count_of p + 8) in sets ! (addr ! (from ! (fld ! refl (hop ! (look_in_at ! 3 (sub ! 0 refl (all_of_it !))) (fld ! refl (stop !)))))) refl (tt, tt) $
     sets ! (bin ! (get ! refl) (lit ! tt) (record { fits = small })) refl (tt, record { fits = small }) $ sets ! (bin ! (get ! refl) (get ! refl) tt) refl (tt, tt) $ move ! (8 ∷ 7 ∷ 0 ∷ []) $ let out = λ (n : ℕ). fsep (flft α s) (moves.after 𝓛 R token code_of holds z id (knows n)) in
     let allowed : Allows holds id m p i f (λ n. knows (told op n₁ n)) = λ st so at. let r = allows st so at in (r.0, r.1, λ small. let go = r.2 small in (go.0, go.1, go.2, go.3, (is_told op n₁ (word_of st.blocks r.0 i), go.4))) in
-    use3 𝓛 (raw (𝓣.C _ (vptr (block_of p) e ∷ operation_val op ∷ vint w64 n₁ ∷ vint w64 n₂ ∷ []) (λ u. mean 𝓛 (found out u)))) (via 𝓤 _ (moves.steps 𝓛 R token code_of holds z s p id m i f (λ n. knows (told op n₁ n)) there.1 allowed)
+    use3 𝓛 (raw (𝓣.C _ (vptr (block_of p) e ∷ operation_val op ∷ vint w64 n₁ ∷ vint w64 n₂ ∷ []) (λ u. mean 𝓛 (found out u)))) (via 𝓤 _ (moves.steps 𝓛 R token code_of holds z s p id m i f (λ n. knows (told op n₁ n)) allowed)
     (operates 𝓛 𝓜 𝓡 (code.calls-mem_blocks::word::operate 𝓡.env wired) op (block_ptr (block_of p) e) n₁ n₂ are.1.1.1.1.1.0.1 are.1.1.1.1.1.1.0.1 out)) $
     Calls-last ! (fm 𝓛 𝓜 𝓡) (found out) (and_then ! (get ! refl) (and_then ! (get ! refl) (and_then ! (get ! refl) (and_then ! (get ! refl) (no_more !))))) (λ u. finds ! out (λ n fits.
     lands_last ! refl (tt, record { fits = fits }) $ exec ! 𝓣.C 𝓣.Λ locals (after 1 mir.body) (at_ret locals Post) $ sets ! (of_opd ! (get ! refl)) refl (tt, record { fits = fits }) $
