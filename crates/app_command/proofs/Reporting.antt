@@ -1,9 +1,9 @@
 -- What is printed of a run of the machine is a report of it.
 use Rattle.std.proofs.Common.{◌≡◌, ℕ, ◌≤◌, List, [], ◌++◌, Option, Bool, true, false, nat_lt, Result, Ok, IsErr, refl, ap, subst, ◌∙◌, arith}
-use Rattle.std.specs.Option.{IfSome}
-use Rattle.std.proofs.lemmas.Bool.{ltb-false}
+use Rattle.std.{specs.Option.IfSome, proofs.lemmas.Bool.ltb-false}
 use Rattle.queue_steps.specs.declared.{sizes.TheConstants.MAX_CAPACITY, steps.types.Kind.Kind, steps.types.Kind.Kind as kind}
-use Rattle.machine_replay.specs.{Book.Run, Book.opening, Conforms.IsPeak, Conforms.capacity_of as capacity_of_kind, MachineRuns.EndsAs, MachineRuns.IsMachineRun, Peaks.peak_of, Played.IsMade, Played.as_told, Replays.is_too_large, declared.machine_run.MachineRun.MachineRun, declared.machine_run.RunEnd.RunEnd}
+use Rattle.machine_replay.specs.{Book.Run, Book.opening, Peaks.peak_of, Replays.is_too_large, Played.IsMade, Played.as_told, Conforms.IsPeak, Conforms.capacity_of as capacity_of_kind, MachineRuns.EndsAs, MachineRuns.IsMachineRun}
+use Rattle.machine_replay.specs.declared.machine_run.{MachineRun.MachineRun, RunEnd.RunEnd}
 use Rattle.machine_memory.specs.declared.types.{Event.Event, Told.Told}
 use Rattle.app_text.specs.{KindNames.capacity_of, KindNames.queue_named, declared.actions.ReplayLine.ReplayLine, declared.args.KindName.KindName}
 use Rattle.app_command.specs.{Reports.IsReport, Reports.peak_text, Left.left_text, Takes.Takes, Turns.turns_from, Turns.events_of, Turns.turns_text}

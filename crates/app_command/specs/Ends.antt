@@ -2,7 +2,8 @@
 use Rattle.std.specs.Prelude.{◌≡◌, ◌⊎◌, ℕ, List, Option}
 use Rattle.std.specs.Io.KnownBytes.{Keeps}
 use Rattle.app_text.specs.{Actions.replay_line_text, Actions.IsReplayLine, Calls.call_text, Calls.IsCallOfWord, KindNames.mode_words, KindNames.IsMode, Faults.fault_status, declared.args.Mode.Mode, declared.args.Mode.Mode as mode, declared.faults.Fault.Fault, declared.faults.Fault.Fault as fault}
-use Rattle.app_threads.specs.{Counts.IsCounted, Counts.IsCountsLine, Counts.IsReceived, Counts.IsReceivedText, Meetings.Handshake, Meetings.IsHandshakeText, Verdicts.verdict_status, Verdicts.IsOutputFault, declared.sharing.Sharing.Sharing, declared.verdict.Verdict.Verdict, declared.verdict.Verdict.Verdict as verdict}
+use Rattle.app_threads.specs.Counts.{IsCounted, IsCountsLine, IsReceived, IsReceivedText}
+use Rattle.app_threads.specs.{Meetings.Handshake, Meetings.IsHandshakeText, Verdicts.verdict_status, Verdicts.IsOutputFault, declared.sharing.Sharing.Sharing, declared.verdict.Verdict.Verdict, declared.verdict.Verdict.Verdict as verdict}
 use Rattle.app_command.specs.{Reports.IsReport, Runs.IsRun, Runs.IsRunFault, Runs.IsPartRunFault, Scripts.IsTranscript}
 
 -- the arguments ask for this mode

@@ -1,6 +1,6 @@
 -- How the program ends, by the arguments that the system gives it.
-use Rattle.std.specs.Prelude.{◌≡◌, ◌≢◌, ◌⊎◌, ℕ, List, [], Option, Result, Ok, Err, String, ⊤, drop, map, string_bytes}
-use Rattle.std.specs.{Io.KnownBytes.Keeps, IoError.error_kind, Vec.Iter.into_iter_items, declared.io.Error.Error, declared.io.ErrorKind.TheVariants.OutOfMemory, declared.vec.IntoIter.IntoIter}
+use Rattle.std.specs.Prelude.{◌≡◌, ◌⊎◌, ℕ, List, Option, Result, String}
+use Rattle.std.specs.{Io.KnownBytes.Keeps, declared.io.Error.Error, declared.vec.IntoIter.IntoIter}
 use Rattle.app_text.specs.{Faults.fault_status, Given.IsAskedBy, Given.MayLackMemory, declared.faults.Fault.Fault as fault}
 use Rattle.app_threads.specs.declared.sharing.Sharing.{Sharing as sharing}
 use Rattle.app_command.specs.{declared.command.Exit.Exit, Ends.IsEnd}

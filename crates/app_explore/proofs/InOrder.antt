@@ -1,7 +1,6 @@
 -- Texts in order, one more.
 use Rattle.std.proofs.Common.{◌≡◌, ◌∙◌, ℕ, ◌+◌, ◌-◌, ◌<◌, Bool, false, List, Less, Equal, Greater, Ordering, is_ge, nat_cmp, inl, inr, length, map, refl, sym, ap, subst, arith}
-use Rattle.std.specs.{Prelude.slice_index_or, Cmp.Lexicographic.slice_cmp, List.AllAdjacentBelow}
-use Rattle.std.proofs.lemmas.{Bool.Decides.eqb_tells, List.get_or-map}
+use Rattle.std.{specs.Prelude.slice_index_or, specs.Cmp.Lexicographic.slice_cmp, specs.List.AllAdjacentBelow, proofs.lemmas.Bool.Decides.eqb_tells, proofs.lemmas.List.get_or-map}
 
 abbrev IsBelow : List ℕ → List ℕ → Type 0
 IsBelow x y = slice_cmp nat_cmp x y ≡ Less

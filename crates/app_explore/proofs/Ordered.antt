@@ -3,7 +3,8 @@ use Rattle.std.proofs.Common.{◌≡◌, ◌∙◌, ℕ, Bool, List, [], ◌∷�
 use Rattle.std.specs.{Prelude.Contains, Prelude.IsPermutation, List.All, List.AllByRecursion, List.AllZip}
 use Rattle.std.proofs.lemmas.List.{Elements.recursion_from_All, Sorted.All-permutation, Sorted.Contains-permutation, Sorted.IsPermutation-map}
 use Rattle.queue_steps.specs.declared.{model.Call.Call, steps.types.Kind.Kind}
-use Rattle.machine_explore.specs.{declared.shown.ShownOutcome.ShownOutcome, declared.waiting.Wait.Wait, Certified.IsOutcomeOf, Explored.outcome_of_run, Reports.AreAllOutcomes, Reports.AreAllWaits, Reports.IsShownOutcome, Reports.IsShownWait, Reports.outcome_in, Waiting.Waiting, Waiting.wait_key, Waiting.wait_of}
+use Rattle.machine_explore.specs.{declared.shown.ShownOutcome.ShownOutcome, declared.waiting.Wait.Wait, Certified.IsOutcomeOf, Explored.outcome_of_run, Waiting.Waiting, Waiting.wait_key, Waiting.wait_of}
+use Rattle.machine_explore.specs.Reports.{AreAllOutcomes, AreAllWaits, IsShownOutcome, IsShownWait, outcome_in}
 use Rattle.app_explore.specs.{Listed.AreListed, Listed.HasText, Listed.bytes_of, Listed.item_of, Listed.listed_outcome, Listed.listed_schedule, Listed.listed_wait, Listings.AreOutcomes, Outcomes.AreInOrder, Outcomes.text_of, WaitLines.wait_text, Waits.AreWaits, declared.listed.Listed.Listed}
 use Rattle.app_explore.proofs.Mapped.{mapped_twice}
 

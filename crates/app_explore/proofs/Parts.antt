@@ -1,10 +1,10 @@
 -- Texts cut at semicolons.
 use Rattle.std.proofs.Common.{◌≡◌, ◌≢◌, ℕ, ◌+◌, ◌-◌, ◌<◌, ◌≤◌, List, [], ◌∷◌, ◌++◌, length, map, take, drop, Bool, true, false, cond, if◌then◌else◌, ◌==◌, nat_lt, Some, None, refl, sym, ◌∙◌, ap, subst, arith, append_assoc, length-append, Option, MatchOption, Bor}
-use Rattle.std.proofs.lemmas.{List.take_rest, List.map-append, List.length-map, List.append-nil, List.Splits.slice_split_first, List.Splits.join_with_byte-slice_split, List.Splits.length-slice_split, Option.cond_some, Bool.ltb-true, Bool.ltb-false, Bool.ne_eqb, Fmt.digits_decimal, Str.Parse.digit_at}
+use Rattle.std.proofs.lemmas.List.{take_rest, map-append, length-map, append-nil, Splits.slice_split_first, Splits.join_with_byte-slice_split, Splits.length-slice_split}
+use Rattle.std.proofs.lemmas.{Option.cond_some, Fmt.digits_decimal, Str.Parse.digit_at, Bool.ltb-true, Bool.ltb-false, Bool.ne_eqb}
 use Rattle.std.specs.{Fmt.decimal, List.AllByRecursion, List.position, List.position_or_len, List.join_with_byte, Str.Parse.AllDigits}
 use Rattle.queue_steps.specs.declared.model.Call.{Call, Call as call}
-use Rattle.app_text.specs.Calls.{IsCallOfWord}
-use Rattle.app_text.proofs.ReadNumber.{model}
+use Rattle.app_text.{specs.Calls.IsCallOfWord, proofs.ReadNumber.model}
 use Rattle.app_explore.specs.{Programs.spaced_call, Programs.calls_text, Programs.parts_of, Programs.IsCalls, Faults.HasNoCall}
 
 abbrev first_semicolon : List ℕ → ℕ

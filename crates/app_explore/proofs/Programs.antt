@@ -1,10 +1,10 @@
 -- The lines of a program, read back.
 use Rattle.std.proofs.Common.{◌≡◌, ◌≢◌, ℕ, ◌+◌, ◌<◌, ◌≤◌, List, [], ◌∷◌, ◌++◌, codes, length, get_or, refl, sym, ◌∙◌, ap, subst, arith, append_assoc, length-append, IfOk, Result, Ok, Err}
-use Rattle.std.proofs.lemmas.{List.append-nil, Fmt.decimal_digit}
-use Rattle.std.specs.{Fmt.decimal, List.AllByRecursion}
+use Rattle.std.{proofs.lemmas.List.append-nil, proofs.lemmas.Fmt.decimal_digit, specs.Fmt.decimal, specs.List.AllByRecursion}
 use Rattle.queue_steps.specs.declared.model.Call.{Call, Call as call}
 use Rattle.app_text.specs.Lines.{lines_of}
-use Rattle.app_explore.specs.{Parsing.IsParsing, declared.limits.TheConstants.MOST_PARTIES, declared.limits.TheConstants.MOST_CALLS, declared.limits.TheConstants.MOST_CALLS_BEFORE, Faults.IsCallsFault, Faults.IsPartyFault, declared.read_faults.LineFault.LineFault, declared.read_faults.LineFault.LineFault as reason, Reads.BeginsProgram, Reads.IsFirstWrong, Reads.HasNoBefore}
+use Rattle.app_explore.specs.{Parsing.IsParsing, Faults.IsCallsFault, Faults.IsPartyFault, Reads.BeginsProgram, Reads.IsFirstWrong, Reads.HasNoBefore}
+use Rattle.app_explore.specs.declared.{limits.TheConstants.MOST_PARTIES, limits.TheConstants.MOST_CALLS, limits.TheConstants.MOST_CALLS_BEFORE, read_faults.LineFault.LineFault, read_faults.LineFault.LineFault as reason}
 use Rattle.app_explore.specs.Programs.{calls_text, before_line, before_lines, party_line, party_lines, program_lines, IsCalls, IsPartyCalls, IsBefore, IsProgram}
 
 -- why the text behind the party's number is that of no calls is why the line is not the party's
@@ -28,7 +28,8 @@ party_read n line spelled (Err why) below is fault = ((λ calls p same. fault.0 
     behind calls same = let front : (48 + n) ∷ 58 ∷ calls_text calls ≡ line = rw digit at same in let both : (48 + n) ∷ 58 ∷ calls_text calls ≡ (48 + n) ∷ 58 ∷ spelled = front ∙ is in cc
 party_read n line spelled (Ok calls) below is read = ((below, read.0), rw (decimal_digit n (omega arith)) (ap (λ t. (48 + n) ∷ 58 ∷ t) read.1 ∙ sym is))
 
-pub party_found : {E : Type 0} (n : ℕ) (line spelled : List ℕ) (r : Result (Result (List (Call ℕ)) LineFault) E) → n < MOST_PARTIES → line ≡ (48 + n) ∷ 58 ∷ spelled → IfOk r (IsParsing (IsCalls MOST_CALLS) calls_text (IsCallsFault MOST_CALLS) spelled) → IfOk r (IsParsing (IsPartyCalls n) (party_line n) (IsPartyFault n) line)
+pub party_found : {E : Type 0} (n : ℕ) (line spelled : List ℕ) (r : Result (Result (List (Call ℕ)) LineFault) E) → n < MOST_PARTIES → line ≡ (48 + n) ∷ 58 ∷ spelled
+    → IfOk r (IsParsing (IsCalls MOST_CALLS) calls_text (IsCallsFault MOST_CALLS) spelled) → IfOk r (IsParsing (IsPartyCalls n) (party_line n) (IsPartyFault n) line)
 party_found n line spelled (Ok found) below is read = party_read n line spelled found below is read
 party_found n line spelled (Err e) below is read = tt
 

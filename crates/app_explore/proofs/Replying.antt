@@ -16,7 +16,9 @@ pub listed_more : {X : Type 0} (f : X → List ℕ) (xs : List X) (i : ℕ) (d :
 listed_more {X} f xs i d within =
     let spaced : X → List ℕ = λ x. 32 ∷ f x in
     let count : length (map spaced (take i xs)) ≡ i = length-map (take i xs) spaced ∙ length-take-le i xs (omega (arith, within)) in
-    ap (join_with_byte 59) (map_more spaced xs i d within) ∙ subst {A = ℕ} (λ n. join_with_byte 59 (map spaced (take i xs) ++ spaced (get_or xs i d) ∷ []) ≡ join_with_byte 59 (map spaced (take i xs)) ++ (lead_text n ++ f (get_or xs i d))) count (joined_more (map spaced (take i xs)) (f (get_or xs i d)))
+    ap (join_with_byte 59) (map_more spaced xs i d within)
+    ∙ subst {A = ℕ} (λ n. join_with_byte 59 (map spaced (take i xs) ++ spaced (get_or xs i d) ∷ []) ≡ join_with_byte 59 (map spaced (take i xs)) ++ (lead_text n ++ f (get_or xs i d)))
+    count (joined_more (map spaced (take i xs)) (f (get_or xs i d)))
 
 parties_push : (n k : ℕ) (xs : List (List (Reply ℕ))) (x : List (Reply ℕ)) → k ≡ n + length xs → parties_text n (xs ++ x ∷ []) ≡ parties_text n xs ++ party_text k x
 parties_push n k [] x at = let same : n ≡ k = omega (arith, at) in append-nil (party_text n x) ∙ ap (λ i. party_text i x) same

@@ -1,7 +1,6 @@
 -- What is counted of outcomes, one more.
 use Rattle.std.proofs.Common.{◌≡◌, ◌∙◌, ◌+◌, ◌<◌, ◌++◌, ◌∷◌, [], ℕ, List, length, map, take, sym, ap, arith, append_assoc, Result, Ok, Err, OnOk}
-use Rattle.std.specs.Prelude.{slice_index_or}
-use Rattle.std.proofs.lemmas.List.{map_more}
+use Rattle.std.{specs.Prelude.slice_index_or, proofs.lemmas.List.map_more}
 use Rattle.app_explore.specs.Tails.{Tail, none_of, without_order}
 
 without_order-more : (ts : List Tail) (t : Tail) → without_order (ts ++ t ∷ []) ≡ without_order ts + none_of t.order

@@ -4,7 +4,8 @@ use Rattle.std.specs.List.{AllZip}
 use Rattle.queue_steps.specs.declared.{model.Call.Call, steps.types.Kind.Kind}
 use Rattle.app_text.specs.{Lines.lines_of, KindNames.queue_named, declared.faults.Fault.Fault as fault}
 use Rattle.machine_explore.specs.{Certified.IsOutcomeOf, Explored.HasNoOther, Positions.Outcome, Traces.Course, Traces.IsTraceOf, declared.schedule.Move.Move}
-use Rattle.app_explore.specs.{Lanes.lanes_text, Outcomes.AreInOrder, Outcomes.outcome_line, Outcomes.text_of, Reads.IsReadAs, Reads.IsFirstWrong, Schedules.MakeAll, Schedules.move_lines, Schedules.schedule_text, Waits.HasFewerWaits, Waits.IsWaitList, Waits.IsWaitSchedule, Tails.Tail, Tails.tail_line, Tails.last_text, Tails.without_order, declared.args.Request.Request, declared.args.Wanted.Wanted, declared.args.Wanted.Wanted as wanted, declared.faults.Stop.Stop, declared.faults.Stop.Stop as stop}
+use Rattle.app_explore.specs.{Lanes.lanes_text, Reads.IsReadAs, Reads.IsFirstWrong, Waits.HasFewerWaits, Waits.IsWaitList, Waits.IsWaitSchedule, Outcomes.AreInOrder, Outcomes.outcome_line, Outcomes.text_of, Tails.Tail, Tails.tail_line, Tails.last_text, Tails.without_order}
+use Rattle.app_explore.specs.{Schedules.MakeAll, Schedules.move_lines, Schedules.schedule_text, declared.args.Request.Request, declared.args.Wanted.Wanted, declared.args.Wanted.Wanted as wanted, declared.faults.Stop.Stop, declared.faults.Stop.Stop as stop}
 
 -- the lines of these outcomes, by their texts, of which the first has the number n, each with its tail
 abbrev pub outcome_lines : ℕ → List (List ℕ) → List (List ℕ) → List ℕ

@@ -6,7 +6,9 @@ use Rattle.app_explore.specs.{Faults.line_fault_text, Usage.usage_text, declared
 use Rattle.machine_explore.specs.declared.search.faults.SearchFault.{SearchFault, SearchFault as sought}
 
 abbrev pub stop_text : Stop → List ℕ
-stop_text (stop.Usage why) = codes "usage: queue_explore KIND [refuse] [schedule N | lanes N | waits [N]]" ++ 10 ∷ codes "reads: [before: CALLS] 0: CALLS 1: CALLS .., a line each; CALLS is CALL; CALL ..; CALL is push N, force N, pop, close, is_closed, is_empty, is_full, len or capacity" ++ 10 ∷ usage_text why
+stop_text (stop.Usage why) = codes "usage: queue_explore KIND [refuse] [schedule N | lanes N | waits [N]]" ++ 10 ∷
+    codes "reads: [before: CALLS] 0: CALLS 1: CALLS .., a line each; CALLS is CALL; CALL ..; CALL is push N, force N, pop, close, is_closed, is_empty, is_full, len or capacity"
+    ++ 10 ∷ usage_text why
 stop_text (stop.Fault f) = fault_text f
 stop_text (stop.Line n why) = fault_text (fault.Unreadable n) ++ 10 ∷ line_fault_text why
 stop_text stop.TooManyStates = codes "too many states"

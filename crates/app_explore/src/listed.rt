@@ -20,7 +20,7 @@ pub trait Told: Drop {
 /// What has a line in a list, with its text.
 #[derive(Drop)]
 pub struct Listed<X, A: Allocator> {
-    /// Its text, by which it is told apart and sorted.
+    /// Its text, by which it is kept apart and sorted.
     pub text: String<A>,
     /// What it is.
     pub item: X,

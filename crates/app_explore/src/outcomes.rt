@@ -13,7 +13,7 @@ use machine_explore::shown::ShownOutcome;
 use queue_steps::model::Reply;
 use std::alloc::{AllocError, Allocator};
 
-/// Appends the text of an outcome, by which outcomes are told apart and sorted: the replies of each party, and the items that are left.
+/// Appends the text of an outcome, by which outcomes are kept apart and sorted: the replies of each party, and the items that are left.
 pub fn write_outcome<A: Allocator, B: Allocator>(
     replies: &[Sequence<Reply<u64>, A>],
     left: &[u64],

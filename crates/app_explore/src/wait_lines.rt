@@ -39,7 +39,7 @@ pub fn write_wait<A: Allocator>(
     text.push_str("\n")
 }
 
-/// Appends that line without its number, by which waits are told apart and sorted.
+/// Appends that line without its number, by which waits are kept apart and sorted.
 pub fn write_sides<A: Allocator>(
     waiter: Side,
     other: Side,

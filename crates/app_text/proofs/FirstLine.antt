@@ -1,7 +1,6 @@
 -- Where the first line of a text ends.
 use Rattle.std.proofs.Common.{◌≡◌, ℕ, ◌+◌, ◌-◌, ◌<◌, ◌≤◌, List, [], ◌∷◌, length, take, drop, length-drop, Bool, true, false, cond, ◌==◌, nat_lt, Some, None, refl, sym, subst, arith, add-one, one-add}
-use Rattle.std.proofs.{Math.Seq.take-length, lemmas.Option.cond_some, lemmas.Bool.ltb-true, lemmas.Bool.ltb-false}
-use Rattle.std.specs.List.{position, position_or_len}
+use Rattle.std.{proofs.Math.Seq.take-length, proofs.lemmas.Option.cond_some, proofs.lemmas.Bool.ltb-true, proofs.lemmas.Bool.ltb-false, specs.List.position, specs.List.position_or_len}
 use Rattle.app_text.specs.Lines.{lines_of, with_byte}
 
 pub all_left : (bs : List ℕ) (k : ℕ) → take (length bs - k) (drop k bs) ≡ drop k bs

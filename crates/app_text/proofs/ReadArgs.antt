@@ -1,7 +1,6 @@
 -- The arguments are read back.
 use Rattle.std.proofs.Common.{◌≡◌, ◌≢◌, ℕ, List, [], ◌∷◌, length, get_or, ◌∙◌, sym, arith, ◌<◌, ◌⊎◌, inl, inr}
-use Rattle.std.specs.Fmt.{decimal}
-use Rattle.std.proofs.lemmas.Fmt.{decimal_injective}
+use Rattle.std.{specs.Fmt.decimal, proofs.lemmas.Fmt.decimal_injective}
 use Rattle.app_text.specs.{declared.args.TheConstants.MOST_PARTIES, Reading.IsWord, KindNames.IsCapacity, KindNames.IsPartyCount}
 
 pub capacity_word : (n : ℕ) → IsCapacity n → IsWord n

@@ -1,7 +1,6 @@
 -- A load of threads is read back.
 use Rattle.std.proofs.Common.{◌≡◌, ◌≢◌, ℕ, ◌*◌, ◌%◌, List, [], get_or, ap, subst, sym, ◌∙◌, arith}
-use Rattle.std.specs.Fmt.{decimal}
-use Rattle.std.proofs.lemmas.Fmt.{decimal_injective}
+use Rattle.std.{specs.Fmt.decimal, proofs.lemmas.Fmt.decimal_injective}
 use Rattle.app_text.specs.{Reading.IsWord, KindNames.IsThreadCount, KindNames.IsItemCount, KindNames.IsLoad, KindNames.IsEvenLoad, KindNames.load_words, declared.load.Load.Load}
 
 -- digits spell no number of this sort if the number that they spell is not of it

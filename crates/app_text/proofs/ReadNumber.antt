@@ -1,7 +1,8 @@
 -- The digits of a number, read back.
 use Rattle.std.proofs.Common.{◌≡◌, ◌≢◌, ℕ, zero, suc, ◌+◌, ◌*◌, ◌^◌, ◌<◌, ◌≤◌, ◌⊎◌, List, [], ◌∷◌, length, get_or, take, Some, refl, subst, arith, inl, inr}
 use Rattle.std.specs.{Char.digit_value, Fmt.decimal, Str.Parse.AllDigits, Str.Parse.digits_value}
-use Rattle.std.proofs.lemmas.{Str.Parse.IsNumeralModel, Str.Parse.numerals_by_value, Str.Parse.tells_digits, Str.Parse.digits_value-take-le, Int.Digits.digits_value_more, Int.Digits.digits_more, Fmt.decimal_digit, Fmt.first_decimal, Fmt.decimal_nonempty, Fmt.decimal_is_IsNumeral, Fmt.decimal-digits_value}
+use Rattle.std.proofs.lemmas.Str.Parse.{IsNumeralModel, numerals_by_value, tells_digits, digits_value-take-le}
+use Rattle.std.proofs.lemmas.{Int.Digits.digits_value_more, Int.Digits.digits_more, Fmt.decimal_digit, Fmt.first_decimal, Fmt.decimal_nonempty, Fmt.decimal_is_IsNumeral, Fmt.decimal-digits_value}
 use Rattle.app_text.specs.Reading.{IsReading, IsWord}
 
 pub model : IsNumeralModel (AllDigits 10) (digits_value 10)

@@ -2,7 +2,8 @@
 use Rattle.std.specs.Prelude.{◌≡◌, ℕ, ◌<◌, ◌≤◌, ◌*◌, ◌%◌, ◌==◌, if◌then◌else◌, List, [], ◌∷◌, ◌++◌, codes, Option}
 use Rattle.std.specs.Fmt.{decimal}
 use Rattle.queue_steps.specs.{Next.capacity_of as capacity_of_kind, declared.steps.types.Kind.Kind, declared.steps.types.Kind.Kind as queue}
-use Rattle.app_text.specs.{Reading.IsWord, declared.args.TheConstants.MOST_PARTIES, declared.args.KindName.KindName, declared.args.KindName.KindName as kind, declared.args.Mode.Mode, declared.args.Mode.Mode as mode, declared.load.Load.Load, declared.load.TheConstants.MOST_THREADS, declared.load.TheConstants.MOST_ITEMS}
+use Rattle.app_text.specs.Reading.{IsWord}
+use Rattle.app_text.specs.declared.{args.TheConstants.MOST_PARTIES, args.KindName.KindName, args.KindName.KindName as kind, args.Mode.Mode, args.Mode.Mode as mode, load.Load.Load, load.TheConstants.MOST_THREADS, load.TheConstants.MOST_ITEMS}
 
 abbrev pub kind_text : KindName → List ℕ
 kind_text kind.Single = codes "single"

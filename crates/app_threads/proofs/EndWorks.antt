@@ -1,15 +1,16 @@
 -- What ends of a channel have taken, and the works of a crew that is given them.
 use Rattle.std.proofs.Common.{◌≡◌, ℕ, ◌+◌, ◌≤◌, ◌&&◌, Bool, true, false, Option, Result, Ok, Err, List, [], ◌∷◌, length, get_or, replicate, refl, ap, sym, subst, ◌∙◌, ⊎_elim, arith, add-zero, append-nil, ◌++◌}
-use Rattle.std.specs.{List.All, List.count_by, Option.IfSome}
-use Rattle.std.proofs.lemmas.List.Elements.{All-weaker}
-use Rattle.queue_steps.specs.{declared.model.Effect.Effect, declared.model.Call.Call as call, declared.model.Effect.Effect as effect, declared.model.Reply.Reply as reply, Effect.after, Shares.Share, Shares.entire, Shares.half, Shares.plus, Shares.IsEntire, Shares.SamePart, Parties.IsView, declared.sizes.TheConstants.MAX_CAPACITY}
+use Rattle.std.{specs.List.All, specs.List.count_by, specs.Option.IfSome, proofs.lemmas.List.Elements.All-weaker}
+use Rattle.queue_steps.specs.declared.{model.Effect.Effect, model.Call.Call as call, model.Effect.Effect as effect, model.Reply.Reply as reply, sizes.TheConstants.MAX_CAPACITY}
+use Rattle.queue_steps.specs.{Effect.after, Parties.IsView, Shares.Share, Shares.entire, Shares.half, Shares.plus, Shares.IsEntire, Shares.SamePart}
 use Rattle.counted_channel.specs.{declared.calls.errors.SendError.SendError, declared.calls.errors.SendError.SendError as send, declared.calls.errors.Disconnected.Disconnected, Channel.End, Channel.EndParts, Channel.Ends, Channel.GivenBack, Channel.sent, Channel.received}
 use Rattle.queue_steps.proofs.ShareLaws.{same_refl, same_sym, same_trans, entire_same, plus_comm, plus_assoc, plus_same, halves_same}
 use Rattle.concurrent_queue.specs.Shared.{QueueId, PartyView, Calls, Parts, Joins}
 use Rattle.law_parties.specs.Doings.{is_take, takes, Acts, SawClosed}
 use Rattle.law_parties.proofs.Doings.{acts, acts_none, still_closed, unchanged}
 use Rattle.app_text.specs.{KindNames.capacity_of, declared.load.Load.Load}
-use Rattle.app_threads.specs.{Counts.counted, Counts.AreSums, Counts.IsTally, Sharing.IsEnded, Sharing.SeesLeft, declared.sharing.EndedChannel.EndedChannel, Works.IsWorkOf, Works.PartsRole, Works.TookNothing, Works.ends_share, Works.ends_taken, Works.role_party, declared.crew.WorkResult.WorkResult, declared.ends.Role.Role}
+use Rattle.app_threads.specs.{Counts.counted, Counts.AreSums, Counts.IsTally, Sharing.IsEnded, Sharing.SeesLeft, declared.sharing.EndedChannel.EndedChannel, declared.crew.WorkResult.WorkResult, declared.ends.Role.Role}
+use Rattle.app_threads.specs.Works.{IsWorkOf, PartsRole, TookNothing, ends_share, ends_taken, role_party}
 use Rattle.app_threads.proofs.Works.{none_at, none_few, none_own, taken_more, few_more, close_quits, none_parted, all_parted, work_of_same, joined_works}
 
 -- a party that is given back by its end has taken nothing

@@ -1,13 +1,15 @@
 -- What calls of a crew's threads come to, and two works that are joined.
 use Rattle.std.proofs.Common.{◌≡◌, ⊎_elim, ℕ, zero, suc, ◌+◌, ◌*◌, ◌<◌, ◌≤◌, ◌^◌, ◌&&◌, Bool, true, false, cond, inl, inr, Option, List, [], ◌∷◌, length, get_or, set, replicate, Err, refl, ap, sym, subst, ◌∙◌, arith, add-zero}
-use Rattle.std.proofs.{Math.Nat.add-mul, lemmas.Bool.true≢false, lemmas.Bool.false≢true, lemmas.Bool.Decides.eqb_tells, lemmas.List.get_or-set_other, lemmas.Grind.get_or-set_at, lemmas.List.Elements.All-head, lemmas.List.Elements.All-tail, lemmas.List.Elements.All-replicate, lemmas.List.Elements.All-set, lemmas.List.Elements.All-weaker, lemmas.List.Elements.All-from_get_or}
-use Rattle.std.specs.List.{All, count_by}
+use Rattle.std.{proofs.Math.Nat.add-mul, specs.List.All, specs.List.count_by}
+use Rattle.std.proofs.lemmas.{Bool.true≢false, Bool.false≢true, Bool.Decides.eqb_tells, List.get_or-set_other, Grind.get_or-set_at, List.Elements.All-head, List.Elements.All-tail, List.Elements.All-replicate, List.Elements.All-set, List.Elements.All-weaker, List.Elements.All-from_get_or}
 use mathlib.Core.Option.{some, some-injective, some-ne-none}
 use lib.ListN.{get_elem?}
-use Rattle.queue_steps.specs.{declared.model.Call.Call as call, declared.model.Reply.Reply as reply, declared.model.Call.Call, declared.model.Reply.Reply, declared.model.Effect.Effect, declared.model.Effect.Effect as effect, declared.errors.PopError.PopError as pop, declared.errors.PushError.PushError as push, State.State, State.start, Effect.Runs, Effect.IsHistory, Effect.made, Effect.after_from, Effect.after, Replies.Allows, Shares.Share, Shares.entire, Shares.half, Shares.plus, Shares.SamePart, Shares.IsEntire, Parties.IsView, Parties.StandAt, Parties.Between}
+use Rattle.queue_steps.specs.declared.{model.Call.Call as call, model.Reply.Reply as reply, model.Call.Call, model.Reply.Reply, model.Effect.Effect, model.Effect.Effect as effect, errors.PopError.PopError as pop, errors.PushError.PushError as push}
+use Rattle.queue_steps.specs.{State.State, State.start, Replies.Allows, Parties.IsView, Parties.StandAt, Parties.Between, Effect.Runs, Effect.IsHistory, Effect.made, Effect.after_from, Effect.after, Shares.Share, Shares.entire, Shares.half, Shares.plus, Shares.SamePart, Shares.IsEntire}
 use Rattle.queue_steps.proofs.{ShareLaws.same_refl, ShareLaws.same_trans, ShareLaws.plus_same, ShareLaws.halves_joined, Keeping.stays_closed}
 use Rattle.concurrent_queue.specs.Shared.{QueueId, PartyView, Calls, Parts, Joins}
-use Rattle.app_threads.specs.{Counts.counted, Counts.EachSumFits, Counts.AreSums, Works.Quits, Works.IsWork, Works.IsWorkOf, Meetings.AreHandsOf, Meetings.AreThreeParts, Meetings.Unites, Meetings.IsShaken, Meetings.IsMeeting, declared.handshake.Hands.Hands, declared.handshake.Shaken.Shaken, declared.crew.WorkResult.WorkResult}
+use Rattle.app_threads.specs.{Counts.counted, Counts.EachSumFits, Counts.AreSums, Works.Quits, Works.IsWork, Works.IsWorkOf, declared.handshake.Hands.Hands, declared.handshake.Shaken.Shaken, declared.crew.WorkResult.WorkResult}
+use Rattle.app_threads.specs.Meetings.{AreHandsOf, AreThreeParts, Unites, IsShaken, IsMeeting}
 use Rattle.law_parties.specs.Doings.{passes, is_take, takes, Acts, SawClosed}
 use Rattle.law_parties.proofs.Doings.{acts, acts_on, single, unchanged, did_both, still_closed}
 

@@ -4,7 +4,8 @@ use Rattle.std.specs.{Fmt.decimal, Io.KnownBytes.Appends, Option.IfSome}
 use Rattle.queue_steps.specs.{declared.sizes.TheConstants.MAX_CAPACITY, Parties.View}
 use Rattle.app_text.specs.{KindNames.capacity_of, declared.load.Load.Load}
 use Rattle.law_parties.specs.Doings.{takes}
-use Rattle.app_threads.specs.{Sharing.HasWholeParty, Sharing.IsEnded, Sharing.left_in, declared.counts.Finding.Finding, declared.counts.Finding.Finding as finding, declared.sharing.Sharing.Sharing, declared.sharing.Sharing.Sharing as sharing, declared.verdict.Verdict.Verdict, declared.verdict.Verdict.Verdict as verdict}
+use Rattle.app_threads.specs.Sharing.{HasWholeParty, IsEnded, left_in}
+use Rattle.app_threads.specs.declared.{counts.Finding.Finding, counts.Finding.Finding as finding, sharing.Sharing.Sharing, sharing.Sharing.Sharing as sharing, verdict.Verdict.Verdict, verdict.Verdict.Verdict as verdict}
 
 -- the value has come once more
 abbrev pub counted : ℕ → List ℕ → List ℕ

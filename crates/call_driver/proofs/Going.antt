@@ -1,6 +1,8 @@
 -- How a call that is on its way goes on.
 use Rattle.std.proofs.Common.{◌≡◌, ℕ, zero, suc, ◌+◌, ◌-◌, ◌<◌, Option, Some, refl, arith, sym, ap, subst, ◌∙◌}
-use Rattle.queue_steps.specs.{declared.sizes.TheConstants.SOLO_STEPS, declared.sizes.TheConstants.WAIT_FREE_STEPS, declared.model.Call.Call, declared.model.Reply.Reply, declared.steps.types.Kind.Kind, declared.steps.types.Answer.Answer, declared.steps.types.Answer.Answer as answer, declared.steps.types.Next.Next, declared.steps.types.Next.Next as next, declared.steps.types.Op.Op, declared.steps.types.Touch.Touch, declared.steps.types.Local.Local, Next.CanNext, Next.next_of, Next.first_local, Kinds.call_kind, Kinds.call_value, Kinds.filled, WaitFree.EndsBefore, WaitFree.EndsWaitFree}
+use Rattle.queue_steps.specs.declared.{sizes.TheConstants.SOLO_STEPS, sizes.TheConstants.WAIT_FREE_STEPS, model.Call.Call, model.Reply.Reply}
+use Rattle.queue_steps.specs.declared.steps.types.{Kind.Kind, Answer.Answer, Answer.Answer as answer, Next.Next, Next.Next as next, Op.Op, Touch.Touch, Local.Local}
+use Rattle.queue_steps.specs.{Next.CanNext, Next.next_of, Next.first_local, WaitFree.EndsBefore, WaitFree.EndsWaitFree, Kinds.call_kind, Kinds.call_value, Kinds.filled}
 use Rattle.call_driver.specs.{Leads.MayGive, Leads.Gave, Leads.Leads, Leads.GoesOn, Leads.Begins, OnWay.OnWay, OnWay.Before, OnWay.Stood, declared.site.Site.Ghosts, declared.progress.Progress.Progress}
 
 module _ {O M T B S K : Type 0} (m : Ghosts O M T B S K) where

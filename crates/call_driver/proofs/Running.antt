@@ -1,6 +1,7 @@
 -- How a run that ends begins, goes on, and ends.
 use Rattle.std.proofs.Common.{◌≡◌, ℕ, suc, ◌+◌, ◌-◌, ◌<◌, Option, arith, sym, subst, ◌∙◌}
-use Rattle.queue_steps.specs.{declared.model.Call.Call, declared.model.Reply.Reply, declared.steps.types.Kind.Kind, declared.steps.types.Answer.Answer, declared.steps.types.Answer.Answer as answer, declared.steps.types.Next.Next, declared.steps.types.Next.Next as next, declared.steps.types.Op.Op, declared.steps.types.Touch.Touch, declared.steps.types.Local.Local, Next.CanNext, Next.next_of, Next.first_local, Kinds.call_kind, Kinds.call_value, declared.sizes.TheConstants.SOLO_STEPS, Sequential.Owned}
+use Rattle.queue_steps.specs.{declared.model.Call.Call, declared.model.Reply.Reply, declared.sizes.TheConstants.SOLO_STEPS, Next.CanNext, Next.next_of, Next.first_local, Kinds.call_kind, Kinds.call_value, Sequential.Owned}
+use Rattle.queue_steps.specs.declared.steps.types.{Kind.Kind, Answer.Answer, Answer.Answer as answer, Next.Next, Next.Next as next, Op.Op, Touch.Touch, Local.Local}
 use Rattle.call_driver.specs.EndsIn.{EndsIn, EndsRight, Answered}
 
 module _ {T B M : Type 0} (can_touch : M → Touch → Op B → Type 0) (touches : M → Touch → Op B → Option T → M → Option T → Type 0)

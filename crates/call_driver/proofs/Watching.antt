@@ -1,7 +1,8 @@
 -- Calls that change nothing.
 use Rattle.std.specs.Prelude.{◌≡◌, Option, Some, None, refl, Ok, Err}
 use Rattle.std.proofs.Common.{inl, inr, ap, ◌∙◌, subst}
-use Rattle.queue_steps.specs.{declared.model.Call.Call, declared.model.Call.Call as call, declared.model.Reply.Reply, declared.model.Reply.Reply as reply, declared.errors.PushError.PushError as push, declared.errors.ForcePushError.ForcePushError as force, Kinds.call_kind, Kinds.call_value, Kinds.with_value, Kinds.reply_kind, Kinds.filled, Looks.IsLook, Looks.look_reply, Sequential.Owned, Sequential.Sequential}
+use Rattle.queue_steps.specs.declared.{model.Call.Call, model.Call.Call as call, model.Reply.Reply, model.Reply.Reply as reply, errors.PushError.PushError as push, errors.ForcePushError.ForcePushError as force}
+use Rattle.queue_steps.specs.{Kinds.call_kind, Kinds.call_value, Kinds.with_value, Kinds.reply_kind, Kinds.filled, Looks.IsLook, Looks.look_reply, Sequential.Owned, Sequential.Sequential}
 
 -- the same call, of a queue of T
 abbrev pub as_call : {T : Type 0} → Call Unit → Call T

@@ -1,6 +1,7 @@
 -- A call that is run by one owner on some cells: it ends within so many steps, whatever the operations answer.
 use Rattle.std.specs.Prelude.{ℕ, zero, suc, Option, Some, None}
-use Rattle.queue_steps.specs.{declared.sizes.TheConstants.SOLO_STEPS, declared.model.Call.Call, declared.model.Reply.Reply, declared.steps.types.Kind.Kind, declared.steps.types.Answer.Answer, declared.steps.types.Answer.Answer as answer, declared.steps.types.Next.Next, declared.steps.types.Next.Next as next, declared.steps.types.Op.Op, declared.steps.types.Touch.Touch, Next.CanNext, Next.next_of, Next.first_local, Kinds.call_kind, Kinds.call_value, Sequential.Owned}
+use Rattle.queue_steps.specs.declared.{sizes.TheConstants.SOLO_STEPS, model.Call.Call, model.Reply.Reply, steps.types.Kind.Kind, steps.types.Answer.Answer, steps.types.Answer.Answer as answer, steps.types.Next.Next, steps.types.Next.Next as next, steps.types.Op.Op, steps.types.Touch.Touch}
+use Rattle.queue_steps.specs.{Next.CanNext, Next.next_of, Next.first_local, Kinds.call_kind, Kinds.call_value, Sequential.Owned}
 use Rattle.call_driver.specs.Apart.{AnswersApart}
 
 module _ {T B M : Type 0} (can_touch : M → Touch → Op B → Type 0) (touches : M → Touch → Op B → Option T → M → Option T → Type 0)

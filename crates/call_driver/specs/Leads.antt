@@ -1,6 +1,7 @@
 -- A call that is on its way: each of its steps may be done, and whatever the step answers, the call goes on or ends right.
 use Rattle.std.specs.Prelude.{◌≡◌, ℕ, suc, Option, Some, None}
-use Rattle.queue_steps.specs.{declared.sizes.TheConstants.SOLO_STEPS, declared.model.Call.Call, declared.model.Reply.Reply, declared.steps.types.Kind.Kind, declared.steps.types.Answer.Answer, declared.steps.types.Answer.Answer as answer, declared.steps.types.Next.Next, declared.steps.types.Next.Next as next, declared.steps.types.Op.Op, declared.steps.types.Touch.Touch, declared.steps.types.Local.Local, Next.CanNext, Next.next_of, Next.first_local, Kinds.call_kind, Kinds.call_value, Kinds.filled}
+use Rattle.queue_steps.specs.{declared.sizes.TheConstants.SOLO_STEPS, declared.model.Call.Call, declared.model.Reply.Reply, Next.CanNext, Next.next_of, Next.first_local, Kinds.call_kind, Kinds.call_value, Kinds.filled}
+use Rattle.queue_steps.specs.declared.steps.types.{Kind.Kind, Answer.Answer, Answer.Answer as answer, Next.Next, Next.Next as next, Op.Op, Touch.Touch, Local.Local}
 
 -- the block that a reply hands out may be given up
 abbrev pub MayGive : {B M S : Type 0} → (M → S → B → Type 0) → M → S → Option B → Type 0

@@ -1,6 +1,7 @@
 -- One owner's cells as a site: what a step of the driver is on them, and where a call stands that ends right.
 use Rattle.std.specs.Prelude.{ℕ, Option}
-use Rattle.queue_steps.specs.{declared.model.Call.Call, declared.model.Reply.Reply, declared.steps.types.Kind.Kind, declared.steps.types.Answer.Answer, declared.steps.types.Op.Op, declared.steps.types.Touch.Touch, declared.steps.types.Local.Local, Next.CanNext, Next.next_of, Sequential.Owned, Sequential.Sequential}
+use Rattle.queue_steps.specs.declared.{model.Call.Call, model.Reply.Reply, steps.types.Kind.Kind, steps.types.Answer.Answer, steps.types.Op.Op, steps.types.Touch.Touch, steps.types.Local.Local}
+use Rattle.queue_steps.specs.{Next.CanNext, Next.next_of, Sequential.Owned, Sequential.Sequential}
 use Rattle.call_driver.specs.EndsIn.{EndsIn, Answered}
 
 module _ {T B C : Type 0} (can_touch : C → Touch → Op B → Type 0) (touches : C → Touch → Op B → Option T → C → Option T → Type 0)

@@ -1,14 +1,11 @@
 -- What calls, partings and joinings add to what a party has sent and received.
 use Rattle.std.proofs.Common.{◌≡◌, ℕ, zero, suc, ◌+◌, ◌<◌, Bool, true, false, List, [], ◌∷◌, ◌++◌, length, Option, Result, Ok, Err, MatchResult, refl, ap, sym, subst, ◌∙◌, ⊎_elim, append-nil, arith}
-use Rattle.std.specs.List.{All}
-use Rattle.std.proofs.lemmas.List.Elements.{All-head, All-tail}
-use mathlib.Core.List.{IsPrefix}
-use mathlib.Core.Option.{none, some}
+use Rattle.std.{specs.List.All, proofs.lemmas.List.Elements.All-head, proofs.lemmas.List.Elements.All-tail}
+use mathlib.Core.{List.IsPrefix, Option.none, Option.some}
 use lib.ListN.{get_elem?}
 use Rattle.queue_laws.specs.{Common.Vocabulary.Effect, History.Histories.handed_in, History.Histories.handed_out}
 use Rattle.queue_steps.specs.{declared.model.Call.Call, declared.model.Reply.Reply, declared.model.Call.Call as call, declared.model.Reply.Reply as reply, Shares.entire, Parties.View, Parties.IsView, Parties.StandAt}
-use Rattle.law_parties.proofs.Drained.{saw_drained, still_drained}
-use Rattle.law_parties.specs.Doings.{SawDrained}
+use Rattle.law_parties.{proofs.Drained.saw_drained, proofs.Drained.still_drained, specs.Doings.SawDrained}
 use Rattle.concurrent_queue.specs.Shared.{PartyView, Calls, Parts, Joins}
 use Rattle.counted_channel.specs.{declared.calls.errors.SendError.SendError, declared.calls.errors.SendError.SendError as send, declared.calls.errors.Disconnected.Disconnected, Channel.End, Channel.ChannelCall, Channel.EndParts, Channel.GivenBack, Channel.Ends, Channel.sent, Channel.received}
 use Rattle.channel_handle.specs.Ends.{AreEnds, IsPair}

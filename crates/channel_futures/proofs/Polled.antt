@@ -1,9 +1,8 @@
 -- What a poll's answer says of its end, where it was ready or pending.
-use Rattle.std.proofs.Common.{◌≡◌, Option, Some, Result, IsSomeAnd, refl, sym, ◌∙◌, subst}
+use Rattle.std.proofs.Common.{◌≡◌, Option, Some, Result, IsSomeAnd, sym, subst}
 use Rattle.queue_steps.specs.declared.model.Call.{Call as call}
 use Rattle.futures.specs.{declared.task.Poll.Poll, declared.task.Poll.TheVariants.Ready, declared.task.Poll.TheVariants.Pending, Poll.IfReady, Poll.OnPending}
-use Rattle.counted_channel.specs.{declared.calls.errors.SendError.SendError, Channel.End, Channel.ChannelCall, Channel.sent, Polling.EndWaited}
-use Rattle.counted_channel.proofs.Polls.{call_then}
+use Rattle.counted_channel.{specs.declared.calls.errors.SendError.SendError, specs.Channel.End, specs.Channel.ChannelCall, specs.Channel.sent, specs.Polling.EndWaited, proofs.Polls.call_then}
 
 pub on_pending : {A P Q : Type 0} (r : Poll A) → (P → Q) → OnPending r P → OnPending r Q
 on_pending (Ready x) f h = h

@@ -1,10 +1,10 @@
 -- What calls, parting, joining, meeting and the end of the sharing are to the parties that contracts see.
 use Rattle.std.proofs.Common.{◌≡◌, ◌≢◌, ℕ, [], Option, None, refl, ap, sym, ◌∙◌, subst}
 use Rattle.atomic_table.specs.Seated.{TableId}
-use Rattle.queue_steps.specs.{declared.model.Call.Call, declared.model.Call.Call as call, declared.model.Reply.Reply, declared.model.Reply.Reply as reply, Effect.after, Legal.IsShown, Shares.IsEntire, Sequential.Owned, Parties.View, Parties.IsView, Parties.IsWhole, Parties.SharedCall, SequentialCalls.SequentialCall}
+use Rattle.queue_steps.specs.declared.model.{Call.Call, Call.Call as call, Reply.Reply, Reply.Reply as reply}
+use Rattle.queue_steps.specs.{Effect.after, Legal.IsShown, SequentialCalls.SequentialCall, Shares.IsEntire, Sequential.Owned, Parties.View, Parties.IsView, Parties.IsWhole, Parties.SharedCall}
 use Rattle.queue_steps.proofs.WholeCalls.{whole_calls}
-use Rattle.shared_parties.specs.{declared.known.CallState.CallState, Known.view_of, CallStates.IsResting, CallStates.HasAll, Parting.IsParty}
-use Rattle.shared_parties.proofs.Views.{ended_party}
+use Rattle.shared_parties.{specs.declared.known.CallState.CallState, specs.Known.view_of, specs.CallStates.IsResting, specs.CallStates.HasAll, specs.Parting.IsParty, proofs.Views.ended_party}
 use Rattle.concurrent_queue.specs.Shared.{QueueName, at_table, QueueId, PartyView, party_view, Calls, Finishes}
 use Rattle.shared_tables.specs.AtTable.{TableSeat, Ended}
 

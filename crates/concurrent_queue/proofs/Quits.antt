@@ -4,8 +4,7 @@ use Rattle.std.proofs.lemmas.List.{append-nil}
 use Rattle.atomic_table.specs.{Seated.TableId, declared.shared.Seat.Seat}
 use Rattle.mem_blocks.specs.{Seats.Same, declared.block.BlockPtr.BlockPtr as Link, declared.web.Rested.Rested}
 use Rattle.queue_steps.specs.{declared.model.Call.Call as call, declared.model.Effect.Effect, declared.model.Reply.Reply, declared.model.Reply.Reply as reply, Replies.Tells, SequentialCalls.SequentialCall}
-use Rattle.shared_parties.specs.{declared.known.CallState.CallState, Known.view_of, Calling.cap_of, Quitting.its_call}
-use Rattle.shared_parties.proofs.Quits.{places_none, quit_looks}
+use Rattle.shared_parties.{specs.declared.known.CallState.CallState, specs.Known.view_of, specs.Calling.cap_of, specs.Quitting.its_call, proofs.Quits.places_none, proofs.Quits.quit_looks}
 use Rattle.shared_tables.specs.{Quitting.HasQuit, Seats.view_at, TableRule.TableOf}
 use Rattle.shared_chain.specs.{declared.web.ChainWeb.ChainWeb, ChainCalls.chain_calls, Quitting.HasQuit as HasQuitIn}
 use Rattle.shared_calls.specs.declared.{chain.Asking.Asking, left.Left.Left}

@@ -7,7 +7,7 @@ use Rattle.shared_tables.specs.{AtTable.TableSeat, AtTable.IsAt, AtTable.Ended, 
 use Rattle.concurrent_queue.specs.{declared.party.SeatPlace.SeatPlace, declared.party.SeatPlace.SeatPlace as place, Calling.IsHeldAt, Shared.QueueId, Shared.at_table, Shared.PartyView, Shared.IsHeld, Shared.Calls, Shared.party_view_of}
 use Rattle.concurrent_queue.proofs.PartyViews.{ended_party_view, ended_calls}
 
--- a table is told by its name
+-- a table is known by its name
 pub same_table : (a b : TableId) → at_table a ≡ at_table b → a ≡ b
 same_table a b e = let h : at_table a ≡ at_table b = e in cc
 

@@ -2,8 +2,7 @@
 use Rattle.std.proofs.Common.{◌≡◌, true, None, sym, ap, subst}
 use Rattle.mem_blocks.specs.declared.web.Rested.{Rested}
 use Rattle.queue_steps.specs.declared.model.{Call.Call, Reply.Reply}
-use Rattle.shared_parties.specs.{declared.known.CallState.CallState, Parting.IsParty}
-use Rattle.shared_parties.proofs.Views.{ended_party}
+use Rattle.shared_parties.{specs.declared.known.CallState.CallState, specs.Parting.IsParty, proofs.Views.ended_party}
 use Rattle.shared_calls.specs.InWeb.{EndedAt}
 use Rattle.concurrent_queue.specs.{declared.party.SeatPlace.SeatPlace, declared.party.SeatPlace.SeatPlace as place, Shared.PartyView, Shared.party_view, Shared.party_view_of, Shared.in_web, Shared.IsHeld, Shared.Calls}
 use Rattle.concurrent_queue.proofs.PartyViews.{calls_party_view}

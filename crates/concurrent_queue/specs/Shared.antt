@@ -7,7 +7,7 @@ use Rattle.concurrent_queue.specs.declared.{shared.Form.Form, shared.Form.Form a
 use Rattle.mem_blocks.specs.Laid.{WebId}
 use Rattle.shared_parties.specs.{declared.known.CallState.CallState, Known.view_of, CallStates.empty_seat, Parting.IsParty}
 
--- by what a queue is told from others: its table, or its web. A seat that is away is of none
+-- by what a queue is known from others: its table, or its web. A seat that is away is of none
 pub data QueueName : Type 0 where
   at_table : TableId → QueueName
   in_web : WebId → QueueName

@@ -1,7 +1,8 @@
 -- A party's seat, and a call on its way, beside what its queue is made of.
 use Rattle.std.specs.Prelude.{◌≡◌}
 use Rattle.shared_tables.specs.{SlotTable.slot_table, RingTable.ring_table}
-use Rattle.concurrent_queue.specs.{declared.party.SeatPlace.SeatPlace, declared.party.SeatPlace.SeatPlace as place, declared.shared.Form.Form, declared.shared.Form.Form as form, declared.shared.standing.Seated.Seated, declared.shared.standing.Seated.Seated as seated, declared.shared.standing.Standing.Standing, declared.shared.standing.Standing.Standing as standing, Begun.Begun, Pending.StopsHere, Pending.StopsInside}
+use Rattle.concurrent_queue.specs.{declared.party.SeatPlace.SeatPlace, declared.party.SeatPlace.SeatPlace as place, Begun.Begun, Pending.StopsHere, Pending.StopsInside}
+use Rattle.concurrent_queue.specs.declared.shared.{Form.Form, Form.Form as form, standing.Seated.Seated, standing.Seated.Seated as seated, standing.Standing.Standing, standing.Standing.Standing as standing}
 
 -- the call of v stands there
 abbrev pub StandsAs : {T A : Type 0} → Standing T A → Begun T → Type 0

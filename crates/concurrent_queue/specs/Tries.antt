@@ -1,8 +1,10 @@
 -- What a call that gives up in the place of waiting adds to its party's view: what the call does that waits, or nothing.
 use Rattle.std.specs.Prelude.{◌≡◌, Option, Ok, Err, Result}
 use Rattle.std.specs.{ControlFlow.MatchControlFlow, declared.ops.ControlFlow.ControlFlow}
-use Rattle.queue_steps.specs.{declared.model.Call.Call, declared.model.Call.Call as call, declared.model.Reply.Reply, declared.model.Reply.Reply as reply, declared.errors.PushError.PushError as push, declared.errors.ForcePushError.ForcePushError as force, declared.errors.PopError.PopError as pop, Kinds.call_value}
-use Rattle.concurrent_queue.specs.{declared.try_errors.TryPushError.TryPushError, declared.try_errors.TryPushError.TryPushError as try_push, declared.try_errors.TryForcePushError.TryForcePushError, declared.try_errors.TryForcePushError.TryForcePushError as try_force, declared.try_errors.TryPopError.TryPopError, declared.try_errors.TryPopError.TryPopError as try_pop, SawMore.SawMore, Shared.PartyView, Shared.Calls}
+use Rattle.queue_steps.specs.declared.{model.Call.Call, model.Call.Call as call, model.Reply.Reply, model.Reply.Reply as reply, errors.PushError.PushError as push, errors.ForcePushError.ForcePushError as force, errors.PopError.PopError as pop}
+use Rattle.queue_steps.specs.Kinds.{call_value}
+use Rattle.concurrent_queue.specs.declared.try_errors.{TryPushError.TryPushError, TryPushError.TryPushError as try_push, TryForcePushError.TryForcePushError, TryForcePushError.TryForcePushError as try_force, TryPopError.TryPopError, TryPopError.TryPopError as try_pop}
+use Rattle.concurrent_queue.specs.{SawMore.SawMore, Shared.PartyView, Shared.Calls}
 
 module _ {T : Type 0} where
   -- the call c was made, or has done nothing and its value comes back

@@ -1,10 +1,8 @@
 -- Each step on a channel's words keeps their rule.
 use Rattle.std.proofs.Common.{◌≡◌, ◌⊎◌, ℕ, zero, suc, ◌+◌, ◌-◌, ◌*◌, ◌%◌, ◌^◌, ◌<◌, ◌≤◌, List, [], ◌∷◌, ◌++◌, set, slice_index, slice_set, refl, ap, sym, ◌∙◌, subst, inl, inr, ⊎_elim, arith, mod-eq_of_lt}
-use mathlib.Core.Logic.{dite}
-use mathlib.Core.Option.{none, some, some-injective, some-ne-none}
+use mathlib.Core.{Logic.dite, Option.none, Option.some, Option.some-injective, Option.some-ne-none}
 use lib.ListN.{get_elem?}
-use native.Mathlib.Decide.{dec_le}
-use native.Mathlib.Nat.{add-mod_right}
+use native.Mathlib.{Decide.dec_le, Nat.add-mod_right}
 use Rattle.atomic_table.specs.Table.{Act, keeps, step, stepped, carried_after, Valid, Allows, Splits, Joins}
 use Rattle.queue_steps.specs.Shares.{Share, entire, nothing, half, plus, IsEntire, IsPart, IsSome, weight}
 use Rattle.queue_steps.proofs.ShareLaws.{part_weight, weight_halves, weight_none}

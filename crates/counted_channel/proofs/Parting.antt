@@ -1,10 +1,8 @@
 -- A party that was parted and joined again has its places and its share.
 use Rattle.std.proofs.Common.{◌≡◌, ◌++◌, sym, ◌∙◌, subst, append-nil}
-use Rattle.queue_steps.specs.{Effect.IsHistory, Shares.Share, Shares.SamePart, Shares.half}
-use Rattle.queue_steps.proofs.ShareLaws.{same_refl, halves_joined}
+use Rattle.queue_steps.{specs.Effect.IsHistory, specs.Shares.Share, specs.Shares.SamePart, specs.Shares.half, proofs.ShareLaws.same_refl, proofs.ShareLaws.halves_joined}
 use Rattle.concurrent_queue.specs.Shared.{QueueId, PartyView, Parts, Joins}
-use Rattle.counted_channel.specs.Channel.{End, GivenBack}
-use Rattle.counted_channel.proofs.Trying.{prefix_on}
+use Rattle.counted_channel.{specs.Channel.End, specs.Channel.GivenBack, proofs.Trying.prefix_on}
 
 module _ {T : Type 0} where
   pub rejoined : (d e : End T) (a b : PartyView T) → e.counts ≡ d.counts → e.stake ≡ d.stake → Parts d.party a b → Joins a b e.party → GivenBack d e

@@ -3,7 +3,8 @@ use Rattle.std.proofs.Common.{◌≡◌, ℕ, Option, Err, Result, List, [], ◌
 use Rattle.std.specs.Result.{result_ok}
 use Rattle.queue_steps.specs.{declared.model.Call.Call, declared.model.Call.Call as call, declared.model.Reply.Reply, declared.model.Reply.Reply as reply, declared.errors.PopError.PopError as pop, declared.errors.PushError.PushError as push, Shares.Share, Shares.IsEntire, Parties.View}
 use Rattle.concurrent_queue.specs.{SawMore.SawMore, Shared.PartyView, Shared.Calls}
-use Rattle.counted_channel.specs.{declared.calls.polled.At.At, declared.calls.polled.At.At as at, QueueCalls.Polled.party_at, QueueCalls.Polled.IsBetween, QueueCalls.Polled.IsPopping, declared.calls.errors.Disconnected.Disconnected, declared.counting.SeatCounts.SeatCounts, Channel.End, Channel.ChannelCall, Channel.end_at, Channel.received, Polling.EndWaited, Polling.HasReceived}
+use Rattle.counted_channel.specs.declared.{calls.polled.PollState.PollState, calls.polled.PollState.PollState as poll, calls.errors.Disconnected.Disconnected, counting.SeatCounts.SeatCounts}
+use Rattle.counted_channel.specs.{Channel.End, Channel.ChannelCall, Channel.end_at, Channel.received, Polling.EndWaited, Polling.HasReceived, QueueCalls.Polled.party_at, QueueCalls.Polled.IsBetween, QueueCalls.Polled.IsPopping}
 use Rattle.atomic_table.specs.Seated.{TableId}
 use Rattle.counted_channel.proofs.Trying.{Tried, untried, prefix_on, tried_more, conforms_then, empty_is_refused, full_is_refused}
 
@@ -63,18 +64,18 @@ module _ {T : Type 0} where
   end_waits i d v w t s is h = subst {A = End T} (λ e. EndWaited e (end_at i w t s)) is (h, refl, refl)
 
 module _ {T A : Type 0} (d : End T) (v : PartyView T) (t : TableId) (s : SeatCounts) (is : end_at 1 v t s ≡ d) where
-  pub recv_answered : (a : At T A) (r : Reply T) → IsBetween a (λ w. Calls v call.Pop r w) → ChannelCall d call.Pop r (end_at 1 (party_at a) t s)
-  recv_answered (at.Between p) r h = end_calls 1 d v p t s call.Pop r is h
-  recv_answered (at.Popping p) r h = absurd h
+  pub recv_answered : (a : PollState T A) (r : Reply T) → IsBetween a (λ w. Calls v call.Pop r w) → ChannelCall d call.Pop r (end_at 1 (party_at a) t s)
+  recv_answered (poll.Between p) r h = end_calls 1 d v p t s call.Pop r is h
+  recv_answered (poll.Popping p) r h = absurd h
 
-  pub recv_empty : (a : At T A) → IsBetween a (λ w. Calls v call.Pop (reply.Pop (Err pop.Empty)) w) → EndWaited d (end_at 1 (party_at a) t s)
-  recv_empty (at.Between p) h = end_waits 1 d v p t s is (saw_empty v p h)
-  recv_empty (at.Popping p) h = absurd h
+  pub recv_empty : (a : PollState T A) → IsBetween a (λ w. Calls v call.Pop (reply.Pop (Err pop.Empty)) w) → EndWaited d (end_at 1 (party_at a) t s)
+  recv_empty (poll.Between p) h = end_waits 1 d v p t s is (saw_empty v p h)
+  recv_empty (poll.Popping p) h = absurd h
 
-  pub recv_busy : (a : At T A) → IsBetween a (λ w. SawMore v w) → EndWaited d (end_at 1 (party_at a) t s)
-  recv_busy (at.Between p) h = end_waits 1 d v p t s is h
-  recv_busy (at.Popping p) h = absurd h
+  pub recv_busy : (a : PollState T A) → IsBetween a (λ w. SawMore v w) → EndWaited d (end_at 1 (party_at a) t s)
+  recv_busy (poll.Between p) h = end_waits 1 d v p t s is h
+  recv_busy (poll.Popping p) h = absurd h
 
-  pub recv_taken : (a : At T A) → IsPopping v a → EndWaited d (end_at 1 (party_at a) t s)
-  recv_taken (at.Between p) h = absurd h
-  recv_taken (at.Popping p) h = end_waits 1 d v p.party t s is (saw_none v p.party h)
+  pub recv_taken : (a : PollState T A) → IsPopping v a → EndWaited d (end_at 1 (party_at a) t s)
+  recv_taken (poll.Between p) h = absurd h
+  recv_taken (poll.Popping p) h = end_waits 1 d v p.party t s is (saw_none v p.party h)

@@ -1,8 +1,8 @@
 -- A try that was refused, and then a call that conforms, are one call that conforms: the failed try adds no place, and what its party has seen only grows.
-use Rattle.std.proofs.Common.{◌≡◌, ◌⊎◌, ℕ, ◌+◌, ◌≤◌, Option, None, Err, List, [], ◌∷◌, ◌++◌, length, refl, ap, sym, ◌∙◌, subst, append_assoc, append-nil, arith}
+use Rattle.std.proofs.Common.{◌≡◌, ◌⊎◌, ℕ, ◌+◌, ◌≤◌, Option, None, Err, List, [], ◌∷◌, ◌++◌, length, refl, ap, sym, ◌∙◌, subst, append_assoc, append-nil, arith, length-append}
 use mathlib.Core.List.{IsPrefix}
-use Rattle.std.proofs.Common.{length-append}
-use Rattle.queue_steps.specs.{declared.model.Call.Call, declared.model.Call.Call as call, declared.model.Reply.Reply, declared.model.Reply.Reply as reply, declared.model.Effect.Effect, declared.errors.PopError.PopError as pop, declared.errors.PushError.PushError as push, Effect.after, Replies.LacksMemory, Replies.Tells, Shares.Share, Shares.IsEntire, Parties.View, Parties.StandAt, Parties.Displaces, Parties.SharedCall, Sequential.sequential_reply, Sequential.sequential_state, Legal.IsShown, SequentialCalls.SequentialCall}
+use Rattle.queue_steps.specs.declared.{model.Call.Call, model.Call.Call as call, model.Reply.Reply, model.Reply.Reply as reply, model.Effect.Effect, errors.PopError.PopError as pop, errors.PushError.PushError as push}
+use Rattle.queue_steps.specs.{Effect.after, Legal.IsShown, SequentialCalls.SequentialCall, Shares.Share, Shares.IsEntire, Replies.LacksMemory, Replies.Tells, Sequential.sequential_reply, Sequential.sequential_state, Parties.View, Parties.StandAt, Parties.Displaces, Parties.SharedCall}
 use Rattle.concurrent_queue.specs.Shared.{QueueId, PartyView, Calls}
 
 module _ {T : Type 0} where

@@ -1,10 +1,11 @@
 -- What one call of an end in futures comes to.
 use Rattle.std.specs.Prelude.{◌≡◌, Option, Result, Ok, List, [], ◌∷◌}
 use Rattle.std.specs.Result.{result_ok}
-use Rattle.queue_steps.specs.declared.model.{Call.Call as call}
+use Rattle.queue_steps.specs.declared.model.Call.{Call as call}
 use Rattle.concurrent_queue.specs.SawMore.{SawMore}
 use Rattle.waker_list.specs.declared.place.Look.{Look}
-use Rattle.counted_channel.specs.{declared.calls.errors.Disconnected.Disconnected, declared.calls.waited.Items.Items, declared.calls.waited.Room.Room, QueueCalls.Polled.Misses, QueueCalls.Polled.IsAtList, declared.polling.PolledRecv.PolledRecv, declared.polling.PolledRecv.PolledRecv as polled, declared.polling.PolledSend.PolledSend, declared.polling.PolledSend.PolledSend as put, Channel.End, Channel.ChannelCall, Channel.sent, Channel.received}
+use Rattle.counted_channel.specs.declared.{calls.errors.Disconnected.Disconnected, calls.waited.Items.Items, calls.waited.Room.Room, polling.PolledRecv.PolledRecv, polling.PolledRecv.PolledRecv as polled, polling.PolledSend.PolledSend, polling.PolledSend.PolledSend as put}
+use Rattle.counted_channel.specs.{QueueCalls.Polled.Misses, QueueCalls.Polled.IsAtList, Channel.End, Channel.ChannelCall, Channel.sent, Channel.received}
 
 module _ {T : Type 0} where
   -- the end has done nothing, and may have seen more

@@ -6,6 +6,6 @@ mod waited;
 mod waiters;
 
 pub use errors::{Disconnected, SendError};
-pub use polled::{At, PolledPop, PolledPush};
+pub use polled::{PollState, PolledPop, PolledPush};
 pub use waited::{ForcePushed, Items, OwesEnd, Popped, Pushed, Room, WaitedQueue};
 pub use waiters::{OwesAll, OwesFuture, OwesOne, Waiters};

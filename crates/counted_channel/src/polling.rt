@@ -3,7 +3,7 @@ ghost use Rattle.std.specs.Prelude.{◌≡◌, MatchResult};
 ghost use Rattle.counted_channel.specs.Channel.{IsEndOf};
 ghost use Rattle.counted_channel.specs.Polling.{PollsRecv, PollsSend, RecvKeeps, SendKeeps};
 
-use crate::calls::{At, Disconnected, Items, PolledPop, PolledPush, Room, SendError};
+use crate::calls::{Disconnected, Items, PollState, PolledPop, PolledPush, Room, SendError};
 use crate::counting::EndSeat;
 use crate::ends::Channel;
 use crate::sides::{Receiver, Sender};
@@ -20,7 +20,7 @@ use waker_list::{Look, Missed, Place, WakerList};
 /// A contract sees the end, as it was before that pop. One that is dropped was not ended.
 #[derive(Drop)]
 pub struct PollingReceiver<T, A: Allocator = Global> {
-    at: At<T, A>,
+    at: PollState<T, A>,
     place: EndSeat,
 }
 
@@ -66,7 +66,7 @@ impl<T> Receiver<T> {
         ensures { result ≡ self }
     {
         PollingReceiver {
-            at: At::Between(self.party),
+            at: PollState::Between(self.party),
             place: self.place,
         }
     }
@@ -83,7 +83,7 @@ impl<T, A: Allocator> PollingReceiver<T, A> {
     {
         let PollingReceiver { at, place } = self;
         match at {
-            At::Between(party) => Ok(Receiver::of(party, place)),
+            PollState::Between(party) => Ok(Receiver::of(party, place)),
             popping => Err(PollingReceiver { at: popping, place }),
         }
     }

@@ -1,4 +1,4 @@
-//! The sides of a channel, and the ends of a side. A side is told by the word of the channel's table that counts its ends.
+//! The sides of a channel, and the ends of a side. A side is known by the word of the channel's table that counts its ends.
 ghost use Rattle.std.specs.Prelude.{◌≡◌, ℕ, ◌<◌};
 ghost use Rattle.std.proofs.Math.Nat.{zero-lt-suc, lt-suc_self};
 ghost use Rattle.queue_steps.specs.Parties.{IsView};

@@ -1,6 +1,7 @@
 -- Where a call on the two words may begin, stop and end.
 use Rattle.std.specs.Prelude.{◌≡◌, ℕ, Bool, true, false}
-use Rattle.event_count.specs.declared.wakes.steps.{Phase.Phase, Phase.TheVariants.Idle, Phase.TheVariants.Starting, Phase.TheVariants.Prepared, Phase.TheVariants.Missed, Phase.TheVariants.Returned, Phase.TheVariants.Given, Phase.TheVariants.Taking, Phase.TheVariants.Clearing, Step.Step, Step.TheVariants.Rest, Step.TheVariants.Park}
+use Rattle.event_count.specs.declared.wakes.steps.Phase.{Phase, TheVariants.Idle, TheVariants.Starting, TheVariants.Prepared, TheVariants.Missed, TheVariants.Returned, TheVariants.Given, TheVariants.Taking, TheVariants.Clearing}
+use Rattle.event_count.specs.declared.wakes.steps.Step.{Step, TheVariants.Rest, TheVariants.Park}
 
 -- a call of `prepare` or of a notify
 abbrev pub Begins : Phase → Type 0

@@ -1,7 +1,8 @@
 -- Which call a reply answers.
 use Rattle.std.specs.Prelude.{◌≡◌, Bool, true, false, Option, Some, None, Ok, Err, refl, if◌then◌else◌}
 use Rattle.std.proofs.Common.{inl, inr, ap, sym, ◌∙◌, subst}
-use Rattle.queue_steps.specs.{State.State, State.is_full, declared.model.Call.Call, declared.model.Call.Call as call, declared.model.Reply.Reply, declared.model.Reply.Reply as reply, declared.errors.PushError.PushError as push, declared.errors.ForcePushError.ForcePushError as force, Kinds.call_kind, Kinds.call_of_reply, Kinds.filled, Sequential.Owned, Sequential.Sequential, Sequential.is_spent}
+use Rattle.queue_steps.specs.{State.State, State.is_full, Kinds.call_kind, Kinds.call_of_reply, Kinds.filled, Sequential.Owned, Sequential.Sequential, Sequential.is_spent}
+use Rattle.queue_steps.specs.declared.{model.Call.Call, model.Call.Call as call, model.Reply.Reply, model.Reply.Reply as reply, errors.PushError.PushError as push, errors.ForcePushError.ForcePushError as force}
 use Rattle.call_driver.specs.Apart.{AnswersApart}
 
 -- a reply that is filled, if it is, answers the call that its kind answers

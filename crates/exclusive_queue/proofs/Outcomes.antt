@@ -1,7 +1,8 @@
 -- What a call that may change the queue answers and leaves, in std's words.
 use Rattle.std.proofs.Common.{◌≡◌, ◌⊎◌, ℕ, Bool, true, false, not, ◌&&◌, ◌==◌, List, [], ◌∷◌, ◌++◌, length, Option, Some, None, Result, Ok, Err, refl, ap, sym, subst, inl, inr, arith}
 use Rattle.std.specs.{Prelude.OnOk, Prelude.IfOk, Prelude.IfErr, Prelude.IfSome, Option.option_to_list}
-use Rattle.queue_steps.specs.{declared.sizes.TheConstants.LIMIT, State.is_full, State.fills, State.is_slot_cap, Effect.rest, Errors.push_error_value, Errors.force_push_error_value, declared.errors.PopError.PopError, declared.errors.PushError.PushError, declared.errors.ForcePushError.ForcePushError, declared.errors.PopError.PopError as pop, declared.errors.PushError.PushError as push, declared.errors.ForcePushError.ForcePushError as force, declared.model.Call.Call as call, declared.model.Reply.Reply, declared.model.Reply.Reply as reply}
+use Rattle.queue_steps.specs.{declared.sizes.TheConstants.LIMIT, declared.model.Call.Call as call, declared.model.Reply.Reply, declared.model.Reply.Reply as reply, State.is_full, State.fills, State.is_slot_cap, Effect.rest, Errors.push_error_value, Errors.force_push_error_value}
+use Rattle.queue_steps.specs.declared.errors.{PopError.PopError, PushError.PushError, ForcePushError.ForcePushError, PopError.PopError as pop, PushError.PushError as push, ForcePushError.ForcePushError as force}
 use Rattle.queue_steps.specs.Sequential.{Owned, Sequential, is_spent, shut, displaced, counted, front, moved, pop_result}
 use Rattle.queue_steps.proofs.TableCases.{table_cases}
 

@@ -4,9 +4,9 @@ use denote.Param.Send.{IsSend, IsSync, Frees, view_send, view_sync, sendable}
 use denote.Param.SendFields.{variants_send, variants_sync, declared_send, declared_sync}
 use Rattle.std.specs.declared.alloc.Allocator as Allocator
 use Rattle.std.specs.contracts.alloc.Global as global
-use Rattle.std.specs.contracts.impls.GlobalAllocator.TheImpl.{ghosts}
-use Rattle.std.proofs.Crossing.{frees, send, sync}
-use Rattle.own_cells.proofs.{OneRing.Sent.ring_send, OneRing.Sent.ring_sync, chain.own_chain.OwnChain.TheSendSync.the_send as blocks_send, chain.own_chain.OwnChain.TheSendSync.the_sync as blocks_sync, slot.own_slot.OwnSlot.TheSendSync.the_send as slot_send, slot.own_slot.OwnSlot.TheSendSync.the_sync as slot_sync}
+use Rattle.std.{specs.contracts.impls.GlobalAllocator.TheImpl.ghosts, proofs.Crossing.frees, proofs.Crossing.send, proofs.Crossing.sync}
+use Rattle.own_cells.proofs.{OneRing.Sent.ring_send, OneRing.Sent.ring_sync, slot.own_slot.OwnSlot.TheSendSync.the_send as slot_send, slot.own_slot.OwnSlot.TheSendSync.the_sync as slot_sync}
+use Rattle.own_cells.proofs.chain.own_chain.OwnChain.TheSendSync.{the_send as blocks_send, the_sync as blocks_sync}
 use Rattle.exclusive_queue.specs.contracts.exclusive.{form.Form.the_row as form_row, form.Form.enum as form_enum, Exclusive.the_row as exclusive_row, Exclusive.TheInside.the_type as exclusive_type}
 
 form_send : (T A : RattleType) (g : Allocator.Ghosts A.Denot) → IsSend T → IsSend A → Frees g g.dealloc_token → IsSend (form_row T A g)

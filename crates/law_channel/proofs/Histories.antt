@@ -2,10 +2,10 @@
 use Rattle.std.proofs.Common.{◌≡◌, ◌≢◌, ℕ, zero, suc, ◌+◌, ◌-◌, ◌<◌, ◌≤◌, ◌==◌, Bool, true, false, if◌then◌else◌, Option, Some, None, List, [], ◌∷◌, length, replicate, slice_get, refl, ap, ◌∙◌, arith}
 use Rattle.queue_steps.specs.Effect as history
 use Rattle.queue_laws.specs.Common.Vocabulary.{Effect}
-use Rattle.event_count.specs.{declared.wakes.steps.Phase.Phase, declared.wakes.steps.Phase.TheVariants.Idle, declared.wakes.steps.Phase.TheVariants.Prepared, declared.wakes.steps.Phase.TheVariants.Given, declared.wakes.steps.Phase.TheVariants.Clearing, declared.wakes.steps.Step.Step, declared.wakes.steps.Step.TheVariants.Rest, Sleep.Steps.step_of, Sleep.Steps.looked_of}
-use Rattle.event_count.specs.Sleep.World.{Party, Awake, World, Looks, Leaves, Gives, Tells, put, looks, leaves, gives, tells, run}
+use Rattle.event_count.specs.declared.wakes.steps.{Phase.Phase, Phase.TheVariants.Idle, Phase.TheVariants.Prepared, Phase.TheVariants.Given, Phase.TheVariants.Clearing, Step.Step, Step.TheVariants.Rest}
+use Rattle.event_count.{specs.Sleep.Steps.step_of, specs.Sleep.Steps.looked_of, proofs.Sleep.Counts.set_other, proofs.Sleep.Telling.acts_keeps}
+use Rattle.event_count.specs.Sleep.World.{Awake, World, Looks, Leaves, Gives, Tells, put, looks, leaves, gives, tells, run}
 use Rattle.event_count.specs.Sleep.World as wakes
-use Rattle.event_count.proofs.Sleep.{Counts.set_other, Telling.acts_keeps}
 use Rattle.law_channel.specs.Machine.{Channel, MayAct, takes_place, acts_on_items, acts_on_room, open_channel, Event, Acts, happens, Runs}
 use Rattle.law_channel.specs.Laws.{effects_of, EachHistoryRuns}
 

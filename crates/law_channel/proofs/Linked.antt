@@ -6,8 +6,7 @@ use Rattle.queue_laws.specs.Common.Vocabulary.{Effect}
 use Rattle.event_count.specs.Sleep.World.{World, run}
 use Rattle.event_count.specs.Sleep.World as wakes
 use Rattle.law_channel.specs.Machine.{Items, Room, Channel, places, open_channel, Event, Steps, Rises, Prepares, Leaves, Fails, FindsClosed, Acts, TellsAgain, IsAt, is_free, MayAct, takes_place, MayHappen, happens, Runs, after_from}
-use Rattle.law_channel.specs.Laws.{on_way, taken}
-use Rattle.law_channel.proofs.{Marks.Marked, Marks.start_marked, Marks.marked_on, Sides.Became}
+use Rattle.law_channel.{specs.Laws.on_way, specs.Laws.taken, proofs.Marks.Marked, proofs.Marks.start_marked, proofs.Marks.marked_on, proofs.Sides.Became}
 use Rattle.law_channel.proofs.Sides as sides
 
 -- all are notified for the first time by whoever closes the queue

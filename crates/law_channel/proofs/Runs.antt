@@ -1,7 +1,8 @@
 -- The laws of every run of a channel, from those of its two eventcounts.
 use Rattle.std.proofs.Common.{◌≡◌, ◌⊎◌, inl, inr, ℕ, ◌-◌, Bool, true, false, Option, Some, None, List, [], ◌∷◌, ◌++◌, refl, sym, ap, ◌∙◌, subst, arith}
 use Rattle.queue_steps.specs.Effect as history
-use Rattle.event_count.specs.{Sleep.World.Party, Sleep.World.Awake, Sleep.World.Asleep, Sleep.World.World, Sleep.World.run, Sleep.Laws.is_rousing, Sleep.Laws.Sleeps, Sleep.Laws.AreHeeded, Sleep.Laws.AreRoused, Sleep.Laws.IsTelling, Sleep.Laws.HasMissedNothing, declared.wakes.steps.Phase.TheVariants.Moving, declared.wakes.steps.Phase.TheVariants.Waking, declared.wakes.steps.Whom.TheVariants.All}
+use Rattle.event_count.specs.Sleep.{World.Party, World.Awake, World.Asleep, World.World, World.run, Laws.is_rousing, Laws.Sleeps, Laws.AreHeeded, Laws.AreRoused, Laws.IsTelling, Laws.HasMissedNothing}
+use Rattle.event_count.specs.declared.wakes.steps.{Phase.TheVariants.Moving, Phase.TheVariants.Waking, Whom.TheVariants.All}
 use Rattle.event_count.specs.Sleep.World as wakes
 use Rattle.event_count.proofs.Sleep.Counts.{some_counted}
 use Rattle.event_count.proofs.Sleep.Runs as waking

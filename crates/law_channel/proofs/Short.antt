@@ -18,7 +18,10 @@ examples = record {
     room = refl;
   };
   sender_sends = record {
-    runs = (((refl, refl, refl, inl refl), ((Awake Idle 0, refl, refl), (Awake Idle 0, refl, refl))), (tt, (tt, (tt, (tt, ((0, (refl, refl, refl, inl refl)), (tt, ((([], refl), ((Awake Idle 0, refl, refl), (Awake Idle 0, refl, refl))), (tt, (tt, (tt, (tt, (((refl, refl, refl, inl refl), ((Awake Idle 0, refl, refl), (Awake Returned 0, refl, refl))), (tt, tt))))))))))))));
+    runs = (
+      ((refl, refl, refl, inl refl), ((Awake Idle 0, refl, refl), (Awake Idle 0, refl, refl))),
+      (tt, (tt, (tt, (tt, ((0, (refl, refl, refl, inl refl)), (tt, ((([], refl), ((Awake Idle 0, refl, refl), (Awake Idle 0, refl, refl))), (tt, (tt, (tt, (tt, (((refl, refl, refl, inl refl), ((Awake Idle 0, refl, refl), (Awake Returned 0, refl, refl))), (tt, tt))))))))))))),
+    );
     queue = refl;
     items = refl;
     room = refl;

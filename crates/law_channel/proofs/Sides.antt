@@ -1,9 +1,10 @@
 -- What events make of an eventcount's numbers.
 use Rattle.std.proofs.Common.{◌≡◌, ℕ, zero, suc, ◌+◌, ◌-◌, ◌≤◌, ◌==◌, Bool, true, false, if◌then◌else◌, Option, Some, None, List, [], ◌∷◌, count_by, slice_get, slice_set, refl, sym, ap, ◌∙◌, subst, arith}
 use Rattle.std.proofs.lemmas.Bool.{ne_eqb}
-use Rattle.event_count.specs.{declared.wakes.steps.Phase.Phase, declared.wakes.steps.Phase.TheVariants.Idle, declared.wakes.steps.Phase.TheVariants.Prepared, declared.wakes.steps.Phase.TheVariants.Missed, declared.wakes.steps.Phase.TheVariants.Returned, declared.wakes.steps.Step.Step, declared.wakes.steps.Step.TheVariants.Rest, declared.wakes.steps.Step.TheVariants.Load, declared.wakes.steps.Step.TheVariants.Add, declared.wakes.steps.Step.TheVariants.Take, declared.wakes.steps.Step.TheVariants.Clear, declared.wakes.steps.Step.TheVariants.Park, declared.wakes.steps.Step.TheVariants.Wake, declared.wakes.steps.Whom.TheVariants.One, declared.wakes.steps.Whom.TheVariants.All, declared.wakes.steps.Word.Word as word, Sleep.Steps.low, Sleep.Steps.step_of, Sleep.Steps.looked_of}
+use Rattle.event_count.specs.declared.wakes.steps.{Phase.Phase, Phase.TheVariants.Idle, Phase.TheVariants.Prepared, Phase.TheVariants.Missed, Phase.TheVariants.Returned, Whom.TheVariants.One, Whom.TheVariants.All, Word.Word as word}
+use Rattle.event_count.specs.declared.wakes.steps.Step.{Step, TheVariants.Rest, TheVariants.Load, TheVariants.Add, TheVariants.Take, TheVariants.Clear, TheVariants.Park, TheVariants.Wake}
+use Rattle.event_count.{specs.Sleep.Steps.low, specs.Sleep.Steps.step_of, specs.Sleep.Steps.looked_of, proofs.Sleep.Telling.acts_keeps}
 use Rattle.event_count.specs.Sleep.World.{Party, Awake, Asleep, World, Steps, Rises, Prepares, Looks, Leaves, Gives, Tells, is_asleep, put, goes_on, counts_late, wakes_one, takes, ticket_of, rises, looks, leaves, prepares, gives, tells, acts, happens, run}
-use Rattle.event_count.proofs.Sleep.Telling.{acts_keeps}
 use Rattle.law_channel.specs.Machine.{is_free, may_try, IsAt}
 use Rattle.law_channel.proofs.Marks.{Marked, happens_marked, set_marked, looks_on}
 

@@ -1,7 +1,8 @@
 -- Short runs of a channel of numbers, whose queue has one place. The first party waits, and the second wakes it.
 use Rattle.std.specs.Prelude.{◌≡◌, ℕ, List, [], ◌∷◌, ◌++◌, Some}
 use Rattle.queue_laws.specs.Common.Vocabulary.{Effect}
-use Rattle.event_count.specs.{declared.wakes.steps.Phase.TheVariants.Idle, declared.wakes.steps.Phase.TheVariants.Returned, declared.wakes.steps.Phase.TheVariants.Given, declared.wakes.steps.Phase.TheVariants.Clearing, declared.wakes.steps.Phase.TheVariants.Waking, declared.wakes.steps.Whom.TheVariants.All, Sleep.World.Party, Sleep.World.Awake, Sleep.World.Asleep}
+use Rattle.event_count.specs.declared.wakes.steps.{Phase.TheVariants.Idle, Phase.TheVariants.Returned, Phase.TheVariants.Given, Phase.TheVariants.Clearing, Phase.TheVariants.Waking, Whom.TheVariants.All}
+use Rattle.event_count.specs.Sleep.World.{Party, Awake, Asleep}
 use Rattle.law_channel.specs.Machine.{Side, Items, Room, open_channel, Event, Steps, Prepares, Fails, FindsClosed, Acts, Runs, after_from}
 
 -- the first party takes a ticket

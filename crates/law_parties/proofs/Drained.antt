@@ -3,8 +3,7 @@ use Rattle.std.proofs.Common.{◌≡◌, ℕ, Option, Err, List, ◌++◌, ap, s
 use mathlib.Core.List.{IsPrefix}
 use Rattle.queue_steps.specs.{declared.model.Effect.Effect, declared.model.Call.Call as call, declared.model.Reply.Reply as reply, declared.errors.PopError.PopError as pop, Effect.IsHistory, Effect.after}
 use Rattle.concurrent_queue.specs.Shared.{QueueId, PartyView, Calls}
-use Rattle.queue_laws.specs.History.Histories.{IsDrained}
-use Rattle.queue_laws.proofs.History.Closing.{ends_at}
+use Rattle.queue_laws.{specs.History.Histories.IsDrained, proofs.History.Closing.ends_at}
 use Rattle.law_parties.specs.Doings.{SawDrained}
 
 module _ {T : Type 0} where

@@ -1,7 +1,6 @@
 -- What a party has done to whom every place of the history belongs: all that was ever done.
 use Rattle.std.proofs.Common.{◌≡◌, ℕ, ◌+◌, Bool, cond, Option, None, List, [], ◌∷◌, ◌++◌, length, ◌==◌, refl, ap, sym, ◌∙◌, arith}
-use Rattle.std.specs.List.{count_by}
-use Rattle.std.proofs.lemmas.List.Sums.{sum_by-cons, sum_by-append}
+use Rattle.std.{specs.List.count_by, proofs.lemmas.List.Sums.sum_by-cons, proofs.lemmas.List.Sums.sum_by-append}
 use lib.ListN.{get_elem?}
 use Rattle.queue_steps.specs.{declared.model.Effect.Effect, declared.model.Effect.Effect as effect, Effect.after, Effect.with_coming, Parties.View, Parties.IsView, Parties.IsWhole}
 use Rattle.queue_laws.specs.History.Histories.{handed_in, handed_out}

@@ -1,8 +1,7 @@
 -- What a party has done, as the effects at its own places tell.
 use Rattle.std.specs.Prelude.{◌≡◌, ℕ, ◌+◌, ◌==◌, Bool, true, false, List}
 use Rattle.std.specs.List.{count_by}
-use mathlib.Core.Option.{Option, none, some}
-use mathlib.Core.List.{IsPrefix}
+use mathlib.Core.{Option.Option, Option.none, Option.some, List.IsPrefix}
 use lib.ListN.{get_elem?}
 use Rattle.queue_steps.specs.{declared.model.Effect.Effect, declared.model.Effect.Effect as effect, Effect.after, Parties.View}
 use Rattle.queue_laws.specs.History.Histories.{IsDrained}

@@ -2,7 +2,8 @@
 use Rattle.std.specs.Prelude.{◌≡◌, ℕ, ◌+◌, ◌==◌, Bool, Option, None, List, [], ◌++◌, Err}
 use Rattle.std.specs.List.{count_by}
 use mathlib.Core.List.{IsPrefix}
-use Rattle.queue_steps.specs.{declared.model.Call.Call, declared.model.Reply.Reply, declared.model.Effect.Effect, declared.model.Call.Call as call, declared.model.Reply.Reply as reply, declared.errors.PopError.PopError as pop, Effect.IsHistory, Effect.after, Parties.View, Parties.IsView, Parties.IsWhole, Parties.Split, Parties.Join, Parties.Meet}
+use Rattle.queue_steps.specs.declared.{model.Call.Call, model.Reply.Reply, model.Effect.Effect, model.Call.Call as call, model.Reply.Reply as reply, errors.PopError.PopError as pop}
+use Rattle.queue_steps.specs.{Effect.IsHistory, Effect.after, Parties.View, Parties.IsView, Parties.IsWhole, Parties.Split, Parties.Join, Parties.Meet}
 use Rattle.queue_laws.specs.History.Histories.{IsDrained}
 use Rattle.concurrent_queue.specs.{SawMore.SawMore, Shared.PartyView, Shared.Calls}
 use Rattle.law_parties.specs.Doings.{done_by, hands_in_such, hands_out_such, hands_in, hands_out, Did, Acts, SawClosed, SawDrained}

@@ -74,7 +74,7 @@ module _ (k : Kind) (rules : Rules ℕ k) (tells : HalfTold k rules) (parties : 
       let h = reach ℕ k rules parties (opening_world k parties) (λ j. Between) past (first ℕ k rules parties) in
       by_call h.b.busy w.shared h.b.queue h.sim.g q (standing k parties q past) (call_at w q) (h.b.open_call q) (h.sim.each q) (h.agrees q)
 
--- in a run, who is half done is told by where the calls stand
+-- in a run, who is half done is known by where the calls stand
 pub half_told : (k : Kind) (parties q : ℕ) (past : List (Event ℕ)) → CanReplay k → is_too_large k ≡ false → is_half_done (standing k parties q past) ≡ is_half_done_at (local_in (call_at (world_after k (opening_world k parties) past) q))
 half_told kind.Single parties q past can small = half_by kind.Single (slot_rules ℕ) (λ busy s Q g p r o f. slot_half f.here) parties q past
 half_told (kind.Bounded n) parties q past can small =

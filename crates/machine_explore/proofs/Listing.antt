@@ -1,12 +1,10 @@
 -- What a replay of a run ends with is the outcome of that run.
 use Rattle.std.proofs.Common.{◌≡◌, ◌∙◌, ◌+◌, ◌<◌, ◌≤◌, ◌==◌, ◌&&◌, ◌++◌, ◌∷◌, [], ℕ, nat_lt, not, if◌then◌else◌, List, Some, None, length, map, refl, subst, sym, ap, arith, append_assoc, append-nil}
-use Rattle.std.specs.{Prelude.Contains, List.range_with_len}
-use Rattle.std.proofs.lemmas.Bool.{le-ltb, lt-ltb}
+use Rattle.std.{specs.Prelude.Contains, specs.List.range_with_len, proofs.lemmas.Bool.le-ltb, proofs.lemmas.Bool.lt-ltb}
 use Rattle.queue_steps.specs.declared.model.Reply.{Reply}
 use Rattle.machine_steps.specs.{Left.left_of, Left.opening_world, Steps.start_of, Steps.step_of, World.World}
 use Rattle.machine_memory.specs.{SharedMemory.MemoryState, declared.calls.Running.Running, declared.types.Event.Event, declared.types.Told.Told, declared.types.Told.TheVariants.Skipped, declared.types.Told.TheVariants.Ran}
-use Rattle.machine_replay.specs.{Conforms.entries_from, Conforms.party_of, Conforms.reply_entry, Played.told_of, Played.world_after}
-use Rattle.machine_replay.proofs.Replays.Serving.{served_is_exact}
+use Rattle.machine_replay.{specs.Conforms.entries_from, specs.Conforms.party_of, specs.Conforms.reply_entry, specs.Played.told_of, specs.Played.world_after, proofs.Replays.Serving.served_is_exact}
 use Rattle.machine_explore.specs.{Explored.outcome_of_run, Explored.replies_by, Listed.ReplaysAreListed, Listed.outcome_from, Listed.replies_from, Moves.reply_in, Positions.Outcome}
 use Rattle.machine_explore.proofs.{Reaching.if-nothing, Showing.told_by-length, Starting.told_by-append, Starting.world_by-append}
 

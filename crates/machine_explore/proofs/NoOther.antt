@@ -5,7 +5,8 @@ use Rattle.std.proofs.lemmas.List.{get_or-map, get_or-replicate, length-map, sam
 use Rattle.queue_steps.specs.declared.{model.Call.Call, model.Reply.Reply, steps.types.Kind.Kind}
 use Rattle.machine_steps.specs.{Left.left_of, Left.opening_world, Steps.start_of, Steps.step_of, World.World}
 use Rattle.machine_memory.specs.{SharedMemory.MemoryState, declared.calls.Running.Running, declared.types.Event.Event}
-use Rattle.machine_explore.specs.{Explored.HasNoOther, Explored.IsGranted, Explored.Prepares, Explored.begun_by, Explored.outcome_of, Explored.replies_by, Moves.led, Positions.IsFinal, Positions.Outcome, Positions.Progress, Positions.Standing, Positions.calls_of, Positions.no_progress, Positions.outcome_at, Positions.progress_of, Starts.IsStart, Tables.EndsAmong, Tables.IsClosed, Tables.IsInside, Tables.StaysForAll}
+use Rattle.machine_explore.specs.{Explored.HasNoOther, Explored.IsGranted, Explored.Prepares, Explored.begun_by, Explored.outcome_of, Explored.replies_by, Moves.led, Starts.IsStart, Tables.EndsAmong, Tables.IsClosed, Tables.IsInside, Tables.StaysForAll}
+use Rattle.machine_explore.specs.Positions.{IsFinal, Outcome, Progress, Standing, calls_of, no_progress, outcome_at, progress_of}
 use Rattle.machine_replay.specs.Played.{told_of, world_after}
 use Rattle.machine_explore.proofs.{Preparing.PreparesBy, Preparing.prepared_once, Reaching.Arrives, Reaching.Begins, Reaching.reaches}
 
@@ -22,7 +23,7 @@ starts_there k before parties s first start all =
 pub none_begun : (k : Kind) (before : List (Call ℕ)) (parties p : ℕ) (s : Standing) → IsStart k before parties s → p < parties → progress_of s p ≡ no_progress
 none_begun k before parties p s start h = ap (λ l. slice_index_or l p no_progress) start.none_begun ∙ get_or-replicate parties p no_progress no_progress h
 
--- what a standing ends with, told by the events that led there
+-- what a standing ends with, known by the events that led there
 pub ends_with : (k : Kind) (calls : List (List (Call ℕ))) (w : World (MemoryState ℕ) (Running ℕ)) (rest : List (Event ℕ)) (end : Standing) → end.kind ≡ k → end.world ≡ world_after k w rest → length end.parties ≡ length calls
     → ((p : ℕ) → p < length calls → (progress_of end p).replies ≡ replies_by p rest (told_of k w rest)) → outcome_at end ≡ outcome_of k (length calls) w rest
 ends_with k calls w rest end kind world parties replies =

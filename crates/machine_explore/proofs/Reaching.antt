@@ -6,7 +6,8 @@ use Rattle.queue_steps.specs.declared.model.Call.{Call}
 use Rattle.machine_replay.specs.{Conforms.party_of, Played.told_by, Played.world_by}
 use Rattle.machine_steps.specs.World.{Begun, StepOutcome, World, call_at, world_event}
 use Rattle.machine_memory.specs.declared.types.{Event.Event, Event.TheVariants.Begin, Event.TheVariants.Step, Told.Told, Told.TheVariants.Skipped}
-use Rattle.machine_explore.specs.{Explored.begun_by, Explored.replies_by, Explored.IsGranted, Moves.advanced, Moves.call_in, Moves.event_at, Moves.event_for, Moves.led_by, Moves.reply_in, Positions.Configuration, Positions.Progress, Positions.calls_of, Positions.no_progress, Positions.progress_of, Tables.StaysForAll}
+use Rattle.machine_explore.specs.{Explored.begun_by, Explored.replies_by, Explored.IsGranted, Tables.StaysForAll, Moves.advanced, Moves.call_in, Moves.event_at, Moves.event_for, Moves.led_by, Moves.reply_in}
+use Rattle.machine_explore.specs.Positions.{Configuration, Progress, calls_of, no_progress, progress_of}
 use Rattle.machine_explore.proofs.Walks.{CanTake, WentOn, granted_of, left_over, next_call, went_on}
 
 -- the run of these events from s ends there

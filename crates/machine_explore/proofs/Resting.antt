@@ -7,8 +7,7 @@ use Rattle.machine_memory.specs.declared.types.{Event.Event, Told.Told}
 use Rattle.machine_steps.specs.{Left.opening_world, Steps.start_of, Steps.step_of, World.call_at}
 use Rattle.machine_replay.specs.{Book.Open, Conforms.party_of, Played.told_of, Played.world_after, Progress.Standing as CallStanding, Progress.Between, Progress.Undone, Progress.HalfDone, Progress.standing, Progress.stands_by, Progress.stands_then, Replays.CanReplay, Replays.is_too_large}
 use Rattle.machine_replay.proofs.{Chain.Stretch.chain_rules, Ring.Stretch.ring_rules, Slot.Stretch.slot_rules, Progress.Standings.Agrees, Progress.Stretch.Rules, Progress.Stretch.call-there, Progress.Stretch.first, Progress.Stretch.reach}
-use Rattle.machine_explore.specs.{Explored.IsPreparing, Positions.Standing, Starts.IsStart}
-use Rattle.machine_explore.proofs.{Showing.told_by-length, Starting.told_by-append}
+use Rattle.machine_explore.{specs.Explored.IsPreparing, specs.Positions.Standing, specs.Starts.IsStart, proofs.Showing.told_by-length, proofs.Starting.told_by-append}
 
 -- an event of another party
 pub other_stands : (p : ℕ) (x : CallStanding) (e : Event ℕ) (t : Told ℕ) → party_of e ≢ p → stands_then p x e t ≡ x
@@ -55,7 +54,7 @@ first-between k before parties q s can start =
       | inr other ↦ others-between q past (told_of k (opening_world k parties) past) Between other.1 start.prepared.1.alone
     ]
 
--- where a party stands is told by the events since then
+-- where a party stands is known by the events since then
 pub standing_since : (k : Kind) (before : List (Call ℕ)) (parties q : ℕ) (s : Standing) (rest : List (Event ℕ)) → CanReplay k → (start : IsStart k before parties s)
     → standing k parties q (start.prepared.0 ++ rest) ≡ stands_by q Between rest (told_of k s.world rest)
 standing_since k before parties q s rest can start =

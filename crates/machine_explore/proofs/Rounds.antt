@@ -5,8 +5,7 @@ use Rattle.queue_steps.specs.declared.{sizes.TheConstants.SOLO_STEPS, steps.type
 use Rattle.machine_memory.specs.{declared.calls.Running.Running, declared.types.Event.Event, declared.types.Event.TheVariants.Step, declared.types.Told.Told, declared.types.Told.TheVariants.Ran, declared.types.Told.TheVariants.Skipped, SharedMemory.MemoryState}
 use Rattle.machine_steps.specs.{Machine.event_of, Steps.start_of, Steps.step_of, World.World, World.call_at}
 use Rattle.machine_replay.specs.Played.{local_in, told_of, world_after}
-use Rattle.machine_explore.specs.{Moves.led, Positions.Standing, Waiting.GoesRound, Waiting.IsSentBack, Waiting.is_first}
-use Rattle.machine_explore.proofs.{Waits.IsOn, Walks.went_on}
+use Rattle.machine_explore.{specs.Moves.led, specs.Positions.Standing, specs.Waiting.GoesRound, specs.Waiting.IsSentBack, specs.Waiting.is_first, proofs.Waits.IsOn, proofs.Walks.went_on}
 
 silent_parts : (k : Kind) (w : World (MemoryState ℕ) (Running ℕ)) (p n : ℕ) → told_of k w (replicate (suc n) (Step p true)) ≡ replicate (suc n) (Ran None None)
     → ((event_of k true w (Step p true)).1 ≡ Ran None None) × (told_of k (event_of k true w (Step p true)).0 (replicate n (Step p true)) ≡ replicate n (Ran None None))

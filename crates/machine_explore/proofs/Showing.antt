@@ -5,8 +5,10 @@ use Rattle.std.proofs.lemmas.{Bool.Decides.eqb_tells, List.length-replicate, Lis
 use Rattle.queue_steps.specs.declared.{model.Call.Call, steps.types.Kind.Kind}
 use Rattle.machine_replay.specs.{Conforms.party_of, Played.told_by, Played.told_of, Played.world_after, Played.world_by}
 use Rattle.machine_steps.specs.{Left.left_of, Left.opening_world, Steps.start_of, Steps.step_of, World.Begun, World.StepOutcome, World.World, World.call_at, World.world_event}
-use Rattle.machine_memory.specs.{SharedMemory.MemoryState, declared.calls.Running.Running, declared.types.Event.Event, declared.types.Event.TheVariants.Begin, declared.types.Event.TheVariants.Step, declared.types.Told.Told, declared.types.Told.TheVariants.Skipped, declared.types.Told.TheVariants.Ran}
-use Rattle.machine_explore.specs.{Certified.IsMove, Certified.IsTaken, Explored.IsGranted, Explored.begun_by, Explored.replies_by, Moves.advanced, Moves.call_in, Moves.event_at, Moves.event_for, Moves.led, Moves.reply_in, Positions.IsFinal, Positions.Progress, Positions.Standing, Positions.calls_of, Positions.no_progress, Positions.outcome_at, Positions.progress_of, Starts.IsStart, Traces.IsSeen, Traces.IsTraceOf, Traces.IsUnderWay, Traces.Seen, Traces.seen_at, Traces.trace_of, declared.schedule.Move.Move}
+use Rattle.machine_memory.specs.SharedMemory.{MemoryState}
+use Rattle.machine_memory.specs.declared.{calls.Running.Running, types.Event.Event, types.Event.TheVariants.Begin, types.Event.TheVariants.Step, types.Told.Told, types.Told.TheVariants.Skipped, types.Told.TheVariants.Ran}
+use Rattle.machine_explore.specs.{Certified.IsMove, Certified.IsTaken, Starts.IsStart, declared.schedule.Move.Move, Explored.IsGranted, Explored.begun_by, Explored.replies_by, Moves.advanced, Moves.call_in, Moves.event_at, Moves.event_for, Moves.led, Moves.reply_in}
+use Rattle.machine_explore.specs.{Positions.IsFinal, Positions.Progress, Positions.Standing, Positions.calls_of, Positions.no_progress, Positions.outcome_at, Positions.progress_of, Traces.IsSeen, Traces.IsTraceOf, Traces.IsUnderWay, Traces.Seen, Traces.seen_at, Traces.trace_of}
 use Rattle.machine_explore.proofs.{NoOther.ends_with, NoOther.none_begun, Taking.count_first, Taking.event_taken, Taking.same_count, Reaching.if-true, Reaching.if-false, Reaching.progress-other, Reaching.progress-own, Reaching.same_party}
 
 -- one event more

@@ -1,11 +1,9 @@
 -- By the event by which a party goes on its call goes on: it is not skipped.
 use Rattle.std.proofs.Common.{◌≡◌, ◌≢◌, ◌∙◌, ◌<◌, ◌&&◌, ◌∷◌, [], ℕ, zero, suc, Bool, true, false, if◌then◌else◌, ◌⊎◌, List, Option, Some, None, length, refl, subst, ap, inl, inr, arith}
-use Rattle.std.specs.Prelude.{slice_get, slice_index_or}
-use Rattle.std.proofs.lemmas.{Bool.lt-ltb, List.length-replicate}
+use Rattle.std.{specs.Prelude.slice_get, specs.Prelude.slice_index_or, proofs.lemmas.Bool.lt-ltb, proofs.lemmas.List.length-replicate}
 use Rattle.queue_steps.specs.declared.{model.Call.Call, model.Reply.Reply, steps.types.Kind.Kind}
-use Rattle.machine_steps.specs.{Left.opening_world, Steps.start_of, Steps.step_of}
+use Rattle.machine_steps.specs.{Left.opening_world, Steps.start_of, Steps.step_of, World.Begun, World.StepOutcome, World.World, World.began, World.began_by, World.call_at, World.can_begin, World.stepped_if, World.world_event}
 use Rattle.machine_memory.specs.{SharedMemory.MemoryState, declared.calls.Running.Running, declared.types.Event.Event, declared.types.Event.TheVariants.Begin, declared.types.Event.TheVariants.Step, declared.types.Told.TheVariants.Skipped}
-use Rattle.machine_steps.specs.World.{Begun, StepOutcome, World, began, began_by, call_at, can_begin, stepped_if, world_event}
 use Rattle.machine_explore.specs.{Moves.event_at, Moves.event_for, Positions.Configuration, Positions.calls_of, Positions.progress_of, Starts.IsStart, Positions.Standing}
 use Rattle.machine_replay.specs.Played.{world_by}
 use Rattle.machine_explore.proofs.Walks.{WentOn, went_on}

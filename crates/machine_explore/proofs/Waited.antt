@@ -5,7 +5,8 @@ use Rattle.std.proofs.lemmas.List.{get_or-map, get_or_default, length-map, same_
 use Rattle.queue_steps.specs.declared.{model.Call.Call, steps.types.Kind.Kind}
 use Rattle.machine_steps.specs.{Left.opening_world, Steps.start_of, Steps.step_of, World.call_at}
 use Rattle.machine_replay.specs.{Played.local_in, Played.told_of, Played.world_after, Replays.CanReplay}
-use Rattle.machine_explore.specs.{Explored.begun_by, Explored.replies_by, Positions.Progress, Positions.Standing, Positions.calls_of, Positions.no_progress, Positions.progress_of, Tables.IsClosed, Traces.IsWayOf, Traces.Seen, Waiting.HasNoOtherWait, Waiting.IsWaitOf, Waiting.Waiting, Waiting.side_at, Waiting.side_key, Waiting.wait_key, WaitTables.HasWaitsAt, WaitTables.WaitsThere, WaitTables.is_half_done_at, WaitTables.key_there, declared.schedule.Move.Move, declared.waiting.Side.Side}
+use Rattle.machine_explore.specs.{Explored.begun_by, Explored.replies_by, Tables.IsClosed, Traces.IsWayOf, Traces.Seen, declared.schedule.Move.Move, declared.waiting.Side.Side, WaitTables.HasWaitsAt, WaitTables.WaitsThere, WaitTables.is_half_done_at, WaitTables.key_there}
+use Rattle.machine_explore.specs.{Positions.Progress, Positions.Standing, Positions.calls_of, Positions.no_progress, Positions.progress_of, Waiting.HasNoOtherWait, Waiting.IsWaitOf, Waiting.Waiting, Waiting.side_at, Waiting.side_key, Waiting.wait_key}
 use Rattle.machine_explore.proofs.{Halves.half_told, NoOther.arrives, NoOther.none_begun, NoOther.starts_there, Rounds.in_call, Starting.world_by-append}
 
 same_progress : (g h : Progress ℕ) → g.begun ≡ h.begun → g.replies ≡ h.replies → g ≡ h

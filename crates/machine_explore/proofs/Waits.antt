@@ -1,7 +1,6 @@
 -- When a party waits for another, from what is seen of a schedule.
 use Rattle.std.proofs.Common.{◌≡◌, ◌∙◌, ℕ, ◌+◌, ◌<◌, Bool, true, None, List, [], ◌∷◌, ◌++◌, length, take, refl, sym, ap, arith}
-use Rattle.std.specs.Prelude.{replicate, slice_index_or}
-use Rattle.std.proofs.lemmas.List.{replicate_more, take_more}
+use Rattle.std.{specs.Prelude.replicate, specs.Prelude.slice_index_or, proofs.lemmas.List.replicate_more, proofs.lemmas.List.take_more}
 use Rattle.queue_steps.specs.declared.{model.Call.Call, sizes.TheConstants.SOLO_STEPS, steps.types.Kind.Kind}
 use Rattle.machine_memory.specs.{declared.calls.Running.Running, declared.types.Event.Event, declared.types.Event.TheVariants.Step, declared.types.Told.Told, declared.types.Told.TheVariants.Ran, SharedMemory.MemoryState}
 use Rattle.machine_steps.specs.{Machine.event_of, Steps.start_of, Steps.step_of, World.World}

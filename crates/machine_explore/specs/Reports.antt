@@ -1,6 +1,5 @@
 -- What is shown of a program: all its outcomes, or all its waits.
-use Rattle.std.specs.Prelude.{ℕ, Bool, List, map}
-use Rattle.std.specs.List.{All}
+use Rattle.std.specs.{Prelude.ℕ, Prelude.Bool, Prelude.List, Prelude.map, List.All}
 use Rattle.queue_steps.specs.declared.{model.Call.Call, steps.types.Kind.Kind}
 use Rattle.machine_explore.specs.{declared.schedule.Move.Move, declared.shown.ShownOutcome.ShownOutcome, Certified.IsOutcomeOf, Explored.HasNoOther, Positions.Outcome, Waiting.HasNoOtherWait, Waiting.IsWaitOf, Waiting.Waiting}
 

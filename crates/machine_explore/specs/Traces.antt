@@ -5,7 +5,8 @@ use Rattle.queue_steps.specs.declared.{model.Call.Call, steps.types.Kind.Kind, s
 use Rattle.machine_memory.specs.{declared.calls.Running.Running, declared.types.Event.Event, declared.types.Told.Told, SharedMemory.MemoryState}
 use Rattle.machine_replay.specs.{Conforms.party_of, Played.local_in, Played.told_of, Played.world_after}
 use Rattle.machine_steps.specs.{Left.left_of, Left.opening_world, Machine.event_of, World.World, World.call_at}
-use Rattle.machine_explore.specs.{declared.schedule.Move.Move, Certified.IsMove, Certified.IsOutcomeOf, Certified.IsTaken, Explored.IsGranted, Explored.begun_by, Explored.replies_by, Moves.event_at, Moves.led, Positions.Outcome, Positions.Standing, Positions.calls_of, Positions.progress_of, Starts.IsStart}
+use Rattle.machine_explore.specs.{declared.schedule.Move.Move, Starts.IsStart, Moves.event_at, Moves.led, Explored.IsGranted, Explored.begun_by, Explored.replies_by, Certified.IsMove, Certified.IsOutcomeOf, Certified.IsTaken}
+use Rattle.machine_explore.specs.Positions.{Outcome, Standing, calls_of, progress_of}
 
 -- an event, where the party's call stood before it, what was told of it, and the list behind it
 pub record Seen : Type 0 where

@@ -59,7 +59,7 @@ pub record WaitsThere (calls : List (List (Call ℕ))) (s : Standing) (p q : ℕ
   pub apart : p ≢ q
   pub half : (r : ℕ) → r < length calls → r ≢ p → is_half_done_at (local_in (call_at s.world r)) ≡ (r == q)
 
--- what that wait is told by
+-- what that wait is known by
 abbrev pub key_there : List (List (Call ℕ)) → Standing → ℕ → ℕ → SideKey × SideKey
 key_there calls s p q = (side_key (side_at calls s p), side_key (side_at calls s q))
 

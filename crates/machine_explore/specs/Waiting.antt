@@ -65,7 +65,7 @@ pub record IsWaitOf (k : Kind) (refuses : Bool) (before : List (Call ℕ)) (call
   pub waiter : x.waiter ≡ side_at calls at p
   pub other : x.other ≡ side_at calls at q
 
--- what a wait is told by: of each side the party, its call, and the label of its step
+-- what a wait is known by: of each side the party, its call, and the label of its step
 abbrev pub SideKey : Type 0
 SideKey = ℕ × Option (Call ℕ) × List ℕ
 

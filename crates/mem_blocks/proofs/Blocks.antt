@@ -1,18 +1,27 @@
 -- A block among the others, its words, its link and its slots, and what acts do to them. Assumes `Logic`.
-use Rattle.mem_blocks.proofs.Walks.{puts_back, ◌≡◌, ℕ, zero, suc, ◌+◌, ◌*◌, ◌<◌, ◌≤◌, Bool, true, List, [], ◌∷◌, ◌++◌, length, get_or, set, sym, refl, ap, ◌∙◌, subst, arith, length-set, true≢false, Option, Some, cell, get_elem?, Ura, Ty, SProp, ent, sep, wand, all, guard, id⊢, Fml, ftrue, Logic, sem, ‵, raw, ◌⊛◌, given, ◌$◌, ◌∵◌, !, qed, by, move, keep, drop, use1, use2, split, fsplit, fsplit3, fjoin, fjoin3, fpick, fpack, learn, check, frame, each, assume, rewrite, done, RattleType, mem, Ptr, block_of, count_of, InBlock, nothing, word, row, Content, Home, Hand, Block, Sitter, Act, away, block, Lives, Rests, word_of, gone, with_word, with_next, with_home, without, blocks_after, sitter_after, Small, slots_at, content_owns, slot_owns, slots_own, Sized, hand_owns, edge, block_owns, laid_owns, chain_owns, spare_owns, SLOTS}
+use Rattle.mem_blocks.proofs.Walks.{puts_back, ◌≡◌, ℕ, zero, suc, ◌+◌, ◌*◌, ◌<◌, ◌≤◌, Bool, true, List, [], ◌∷◌, ◌++◌, length, get_or, set, sym, refl, ap, ◌∙◌, subst, arith, length-set, true≢false, Option, Some, cell, get_elem?, Ura, Ty, words_of, END_WORDS}
+use Rattle.mem_blocks.proofs.Walks.{SProp, ent, sep, wand, all, guard, id⊢, Fml, ftrue, Logic, sem, ‵, raw, ◌⊛◌, given, ◌$◌, ◌∵◌, !, qed, by, move, keep, drop, use1, use2, split, fsplit, fsplit3, fjoin, fjoin3, fpick, fpack, learn, check}
+use Rattle.mem_blocks.proofs.Walks.{frame, each, assume, rewrite, done, RattleType, mem, Ptr, block_of, count_of, InBlock, nothing, word, row, Content, Home, Hand, Block, Sitter, Act, away, block, Lives, Rests, word_of, gone, with_word}
+use Rattle.mem_blocks.proofs.Walks.{with_next, with_home, without, blocks_after, sitter_after, Small, slots_at, content_owns, slot_owns, slots_own, Sized, hand_owns, edge, block_owns, laid_owns, chain_owns, spare_owns, SLOTS}
 use Rattle.std.proofs.Common.{suc-mul, zero-mul}
 use mathlib.Core.Option as maybe
 use lib.ListN as lists
 use lib.Seq.{set-get_or}
 use Rattle.atomic_table.proofs.Roster.{row_at, Reset}
-use Rattle.mem_blocks.specs.Web.{takes, gives, lays, lifts, worded, linked, homed, acted, sitter_acted, May, Mays}
-use Rattle.mem_blocks.specs.Laid.{if_alive}
+use Rattle.mem_blocks.specs.{Web.takes, Web.gives, Web.lays, Web.lifts, Web.worded, Web.linked, Web.homed, Web.acted, Web.sitter_acted, Web.May, Web.Mays, Laid.if_alive}
+use Rattle.mem_blocks.proofs.Rooms.{words_least, words_most}
 
 -- where a list has an entry
 pub found_there : {X : Type 0} (xs : List X) (j : ℕ) (x y : X) → get_elem? xs j ≡ maybe.some x → (j < length xs) × (get_or xs j y ≡ x)
 found_there [] j x y at = absurd (maybe.some-ne-none x (sym at))
 found_there (z ∷ zs) zero x y at = (omega arith, maybe.some-injective z x at)
 found_there (z ∷ zs) (suc j) x y at = let r = found_there zs j x y at in (let near = r.0 in omega arith, r.1)
+
+-- another content in a slot leaves the words as many
+words_again : {S : Type 0} (hs : List (Home S)) (j : ℕ) (h : Home S) → words_of (set hs j h) ≡ words_of hs
+words_again [] j h = refl
+words_again (g ∷ gs) zero h = refl
+words_again (g ∷ gs) (suc j) h = refl
 
 module _ {M : Type 1} {𝓤 : Ura M} (𝓛 : Logic 𝓤) (R : RattleType) (token : Ty → Ptr → Fml) where
   open 𝓛 use {H, A}
@@ -109,7 +118,7 @@ module _ {M : Type 1} {𝓤 : Ura M} (𝓛 : Logic 𝓤) (R : RattleType) (token
       qed 𝓛 (‵ (chain_owns R token bs) ∷ []) ∵ use1 𝓛 (‵ (block_owns R token x) ⊛ raw (all 𝓤 (Replace bs k))) (one_block bs k lies.0) $ split ! $ fsplit3 ! $ fpick ! (λ so. drop ! $ move ! (1 ∷ []) $ fsplit3 ! $ move ! (1 ∷ []) $
       check ! (so.0, so.1, (let short = so.3 in omega arith)) $ use1 𝓛 (‵ (slot_owns R (get_or x.homes j away) b e) ⊛ raw (all 𝓤 (Reshelve x.homes j b o e))) (shelf_at x.homes j b o e refl near) $ split ! $ frame ! $
       each ! (Rehome bs k x.at j) (λ h. let x' : Block S = homed x j h in assume ! (‵ (slot_owns R h b e)) $ puts_back ! (λ u. slot_owns R u b e) (λ u. slots_own R (set x.homes j u) b o) h $ move ! (2 ∷ []) $ use1 𝓛 (‵ (edge R token x'.homes x.at)) (edge_again x.homes j h x.at) $
-      move ! (2 ∷ 1 ∷ 0 ∷ []) $ fjoin3 ! $ nothing ! $ fpack ! (Sized R x') (λ _. ftrue) (so.0, so.1, so.2, subst (λ (n : ℕ). n ≤ SLOTS) (sym (length-set x.homes j h)) so.3) $ move ! (0 ∷ 2 ∷ 1 ∷ []) $ fjoin3 ! $
+      move ! (2 ∷ 1 ∷ 0 ∷ []) $ fjoin3 ! $ nothing ! $ fpack ! (Sized R x') (λ _. ftrue) (so.0, so.1, so.2 ∙ sym (words_again x.homes j h), subst (λ (n : ℕ). n ≤ SLOTS) (sym (length-set x.homes j h)) so.3) $ move ! (0 ∷ 2 ∷ 1 ∷ []) $ fjoin3 ! $
       use1 𝓛 (‵ (laid_owns R token x')) (asleep x' lies.0) $ by ! (replaces bs k x'))))
 
   pub rehomes : (bs : List (Block S)) (k : ℕ) (p : Ptr) (j : ℕ) (h : Home S) → ⟦ slot_owns R h (block_of p) (slot_place p j) ⟧ ∗ all 𝓤 (Rehome bs k p j) ⊢ ⟦ chain_owns R token (with_home bs k j h) ⟧
@@ -147,11 +156,19 @@ module _ {M : Type 1} {𝓤 : Ura M} (𝓛 : Logic 𝓤) (R : RattleType) (token
   abbrev pub Reworded : List (Block S) → ℕ → Ptr → ℕ → ℕ → Pr
   Reworded bs k p i n = ⟦ word (block_of p) (i * 8 + (count_of p + 8)) n ⟧ -∗ ⟦ chain_owns R token (with_word bs k i n) ⟧
 
-  pub word_at : (bs : List (Block S)) (k : ℕ) (p : Ptr) (i : ℕ) → i < SLOTS → Lives bs k p → ⟦ chain_owns R token bs ⟧ ⊢ ⟦ word (block_of p) (i * 8 + (count_of p + 8)) (word_of bs k i) ⟧ ∗ all 𝓤 (Reworded bs k p i)
-  word_at bs k p i near lies = subst (λ (u : Ptr). ⟦ chain_owns R token bs ⟧ ⊢ ⟦ word (block_of u) (i * 8 + (count_of u + 8)) (word_of bs k i) ⟧ ∗ all 𝓤 (Reworded bs k u i)) lies.1 (
+  -- a word that the block has, as its size tells
+  abbrev pub Near : ℕ → Block S → Type 0
+  Near i x = Sized R x → i < length x.words
+
+  -- each block has the words of an end
+  pub near_end : (x : Block S) (i : ℕ) → i < END_WORDS → Near i x
+  near_end x i low so = omega (arith, low, so.2, words_least x.homes)
+
+  pub word_at : (bs : List (Block S)) (k : ℕ) (p : Ptr) (i : ℕ) → Near i (block bs k) → Lives bs k p → ⟦ chain_owns R token bs ⟧ ⊢ guard 𝓤 (i < SLOTS) (⟦ word (block_of p) (i * 8 + (count_of p + 8)) (word_of bs k i) ⟧ ∗ all 𝓤 (Reworded bs k p i))
+  word_at bs k p i near lies = subst (λ (u : Ptr). ⟦ chain_owns R token bs ⟧ ⊢ guard 𝓤 (i < SLOTS) (⟦ word (block_of u) (i * 8 + (count_of u + 8)) (word_of bs k i) ⟧ ∗ all 𝓤 (Reworded bs k u i))) lies.1 (
       let x : Block S = block bs k in let b : ℕ = block_of x.at in let o : ℕ = count_of x.at + 8 in let e : ℕ = i * 8 + o in
-      qed 𝓛 (‵ (chain_owns R token bs) ∷ []) ∵ use1 𝓛 (‵ (block_owns R token x) ⊛ raw (all 𝓤 (Replace bs k))) (one_block bs k lies.0) $ split ! $ fsplit3 ! $ fpick ! (λ so. drop ! $ move ! (1 ∷ []) $ fsplit ! $ let long = so.2 in
-      use1 𝓛 (‵ (word b e (get_or x.words i 0)) ⊛ raw (all 𝓤 (Reset 𝓛 b o e x.words i))) (row_at 𝓛 b o e x.words i (omega arith) refl) $ split ! $ frame ! $
+      qed 𝓛 (‵ (chain_owns R token bs) ∷ []) ∵ use1 𝓛 (‵ (block_owns R token x) ⊛ raw (all 𝓤 (Replace bs k))) (one_block bs k lies.0) $ split ! $ fsplit3 ! $ fpick ! (λ so. drop ! $ move ! (1 ∷ []) $ fsplit ! $ let low : i < length x.words = near so in check ! (omega (arith, low, so.2, words_most x.homes)) $
+      use1 𝓛 (‵ (word b e (get_or x.words i 0)) ⊛ raw (all 𝓤 (Reset 𝓛 b o e x.words i))) (row_at 𝓛 b o e x.words i low refl) $ split ! $ frame ! $
       each ! (Reworded bs k x.at i) (λ n. let x' : Block S = worded x i n in assume ! (‵ (word b e n)) $ puts_back ! (word b e) (λ m. row b o (set x.words i m)) n $ fjoin ! $
       nothing ! $ fpack ! (Sized R x') (λ _. ftrue) (so.0, so.1, length-set x.words i n ∙ so.2, so.3) $ move ! (0 ∷ 2 ∷ 1 ∷ []) $ fjoin3 ! $ use1 𝓛 (‵ (laid_owns R token x')) (asleep x' lies.0) $ by ! (replaces bs k x'))))
 

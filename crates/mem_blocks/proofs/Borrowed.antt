@@ -1,10 +1,9 @@
 -- How a step finds its word or its link in an invariant that holds a borrow, which a token of the borrow's lifetime opens. Assumes `Logic`.
-use Rattle.mem_blocks.proofs.Walks.{Bool, true, false, cond, ◌≡◌, refl, subst, List, [], ◌∷◌, ℕ, Ura, vnull, ptr_same, SProp, ent, sep, wand, ex, guard, upd, emp, upd_i, apply∗, Lft, Share, Fml, ftrue, fsep, flft, fbor, finv, Logic, sem, ‵, raw, ◌⊛◌, some, ◌$◌, ◌∵◌, !, qed, by, move, keep, split, split3, join, pick, show, check, frame, each, assume, suffices, settle, use1, use2, fpack, done, Ptr, block_ptr, null_ptr, ptr_val, Testable, tests_null, nothing, asks, always, cell, alike, compares}
+use Rattle.mem_blocks.proofs.Walks.{Bool, true, false, cond, ◌≡◌, refl, subst, List, [], ◌∷◌, ℕ, Ura, vnull, ptr_same, SProp, ent, sep, wand, ex, guard, upd, emp, upd_i, apply∗, Lft, Share, Fml, ftrue, fsep, flft, fbor, finv, Logic, sem, ‵, raw, ◌⊛◌, some, ◌$◌, ◌∵◌, !, qed, by}
+use Rattle.mem_blocks.proofs.Walks.{move, keep, split, split3, join, pick, show, check, frame, each, assume, suffices, settle, use1, use2, fpack, done, Ptr, block_ptr, null_ptr, ptr_val, Testable, tests_null, nothing, asks, always, cell, alike, compares}
 use mathlib.Core.List.{Mem, not-mem-nil}
-use base.Logic.{ex_i}
-use base.Fml.{fnamed}
-use Rattle.std.specs.Sync.RawAtomic.{Shift, rests, opens, shuts, enters, leaves, word, if_none, along, shifted, back, found}
-use Rattle.std.specs.Sync.RawAtomic.Pointer.{found_ptr, asks_by_cases}
+use base.{Logic.ex_i, Fml.fnamed}
+use Rattle.std.specs.Sync.RawAtomic.{Shift, rests, opens, shuts, enters, leaves, word, if_none, along, shifted, back, found, Pointer.found_ptr, Pointer.asks_by_cases}
 
 module _ {M : Type 1} {𝓤 : Ura M} (𝓛 : Logic 𝓤) where
   open 𝓛 use {H, A}
@@ -34,20 +33,20 @@ module _ {M : Type 1} {𝓤 : Ura M} (𝓛 : Logic 𝓤) where
     abbrev Open : Pr
     Open = A.obor κ q I
 
-    abbrev At : ℕ → List (ℕ × Fml)
-    At j = (j, P) ∷ []
+    abbrev OpenList : ℕ → List (ℕ × Fml)
+    OpenList j = (j, P) ∷ []
 
     -- the invariant opened, and what has to be shown then
-    opens_to : (K : List (ℕ × Fml) → Pr) (X : Pr) → ((j : ℕ) → Open ∗ (⟦ I ⟧ ∗ X) ⊢ upd 𝓤 (K (At j))) → A.inv P ∗ (A.lft κ q ∗ X) ⊢ shifted 𝓛 K []
+    opens_to : (K : List (ℕ × Fml) → Pr) (X : Pr) → ((j : ℕ) → Open ∗ (⟦ I ⟧ ∗ X) ⊢ upd 𝓤 (K (OpenList j))) → A.inv P ∗ (A.lft κ q ∗ X) ⊢ shifted 𝓛 K []
     opens_to K X h = qed 𝓛 (‵ (finv P) ∷ raw (A.lft κ q) ∷ raw X ∷ []) ∵ use1 𝓛 (some (λ (j : ℕ). ‵ (fnamed j P))) (𝓛.invs.inv_named P) $ pick ! (λ j.
-        let Opened : Pr = (A.bor κ I ∗ A.lft κ q) ∗ ((Open ∗ ⟦ I ⟧) -∗ upd 𝓤 (K (At j))) in suffices ! _ (ex_i 𝓤 (λ (s : Shift). along 𝓛 s K []) (enters j P (opens κ q I rests))) $
+        let Opened : Pr = (A.bor κ I ∗ A.lft κ q) ∗ ((Open ∗ ⟦ I ⟧) -∗ upd 𝓤 (K (OpenList j))) in suffices ! _ (ex_i 𝓤 (λ (s : Shift). along 𝓛 s K []) (enters j P (opens κ q I rests))) $
         suffices ! _ (upd_i 𝓤 (guard 𝓤 (¬ Mem j []) (A.named j P ∗ (⟦ P ⟧ -∗ upd 𝓤 Opened)))) $ check ! (λ m. not-mem-nil m) $ frame ! $ assume ! (‵ P) $
         suffices ! _ (upd_i 𝓤 Opened) $ join ! $ frame ! $ assume ! (raw Open ⊛ ‵ I) $ split ! $ by ! (h j))
 
     -- and shut again, with what the step leaves
-    shuts_with : (j : ℕ) (T : Fml) → Open ∗ upd 𝓤 (⟦ I ⟧ ∗ ⟦ T ⟧) ⊢ shifted 𝓛 (if_none 𝓛 ⟦ fsep (flft κ q) T ⟧) (At j)
+    shuts_with : (j : ℕ) (T : Fml) → Open ∗ upd 𝓤 (⟦ I ⟧ ∗ ⟦ T ⟧) ⊢ shifted 𝓛 (if_none 𝓛 ⟦ fsep (flft κ q) T ⟧) (OpenList j)
     shuts_with j T = let Z : Pr = ⟦ fsep (flft κ q) T ⟧ in let Q : Pr = ⟦ P ⟧ ∗ upd 𝓤 Z in let N : Pr = (A.bor κ I ∗ A.lft κ q) -∗ upd 𝓤 Q in
-        qed 𝓛 (raw Open ∷ raw (upd 𝓤 (⟦ I ⟧ ∗ ⟦ T ⟧)) ∷ []) ∵ suffices ! _ (ex_i 𝓤 (λ (s : Shift). along 𝓛 s (if_none 𝓛 Z) (At j)) (shuts κ q I (leaves rests))) $ move ! (1 ∷ []) $
+        qed 𝓛 (raw Open ∷ raw (upd 𝓤 (⟦ I ⟧ ∗ ⟦ T ⟧)) ∷ []) ∵ suffices ! _ (ex_i 𝓤 (λ (s : Shift). along 𝓛 s (if_none 𝓛 Z) (OpenList j)) (shuts κ q I (leaves rests))) $ move ! (1 ∷ []) $
         settle 𝓛 ((Open ∗ ⟦ I ⟧) ∗ N) (‵ I ⊛ ‵ T) $ suffices ! _ (upd_i 𝓤 ((Open ∗ ⟦ I ⟧) ∗ N)) $ split ! $ move ! (2 ∷ 0 ∷ []) $ join ! $ frame ! $
         assume ! (‵ P ⊛ ‵ (flft κ q)) $ suffices ! _ (upd_i 𝓤 Q) $ split ! $ frame ! $ suffices ! _ (upd_i 𝓤 Z) $ done !
 
@@ -63,8 +62,8 @@ module _ {M : Type 1} {𝓤 : Ura M} (𝓛 : Logic 𝓤) where
         pub word_step : (X : Pr) → ⟦ I ⟧ ∗ X ⊢ upd 𝓤 (ex 𝓤 Word-found) → A.inv P ∗ (A.lft κ q ∗ X) ⊢ asks 𝓛 (block_ptr b o) f always (λ n. fsep (flft κ q) (gain n))
         word_step X h = let then : ℕ → Fml = λ n. fsep (flft κ q) (gain n) in let K : List (ℕ × Fml) → Pr = λ L. ex 𝓤 (found 𝓛 L b o f always then) in
             opens_to K X (λ j. qed 𝓛 (raw Open ∷ ‵ I ∷ raw X ∷ []) ∵ move ! (1 ∷ 2 ∷ []) $ use2 𝓛 (raw (upd 𝓤 (ex 𝓤 Word-found))) h $
-            settle 𝓛 (K (At j)) (some (λ (n : ℕ). ‵ (word b o n) ⊛ raw (Word-back n))) $ suffices ! _ (upd_i 𝓤 (K (At j))) $ pick ! (λ n. split ! $ show ! (found 𝓛 (At j) b o f always then) n $ frame ! $
-            each ! (λ (_ : always n). back 𝓛 (At j) b o f then n) (λ _. assume ! (‵ (word b o (f n))) $ let R : Pr = upd 𝓤 (⟦ I ⟧ ∗ ⟦ gain n ⟧) in
+            settle 𝓛 (K (OpenList j)) (some (λ (n : ℕ). ‵ (word b o n) ⊛ raw (Word-back n))) $ suffices ! _ (upd_i 𝓤 (K (OpenList j))) $ pick ! (λ n. split ! $ show ! (found 𝓛 (OpenList j) b o f always then) n $ frame ! $
+            each ! (λ (_ : always n). back 𝓛 (OpenList j) b o f then n) (λ _. assume ! (‵ (word b o (f n))) $ let R : Pr = upd 𝓤 (⟦ I ⟧ ∗ ⟦ gain n ⟧) in
             use2 𝓛 (raw R) (apply∗ 𝓤 ⟦ word b o (f n) ⟧ R) $ move ! (1 ∷ 0 ∷ []) $ by ! (shuts_with j (gain n)))))
 
       -- the same for a link, in cases C: it is `was c`, which `tells c`, and becomes `new c`
@@ -78,8 +77,8 @@ module _ {M : Type 1} {𝓤 : Ura M} (𝓛 : Logic 𝓤) where
         pub link_step : (X : Pr) → ⟦ I ⟧ ∗ X ⊢ upd 𝓤 (ex 𝓤 BlockPtr-found) → A.inv P ∗ (A.lft κ q ∗ X) ⊢ asks_by_cases 𝓛 C was new tells (λ c. fsep (flft κ q) (gain c)) (block_ptr b o)
         link_step X h = let then : C → Fml = λ c. fsep (flft κ q) (gain c) in let K : List (ℕ × Fml) → Pr = λ L. ex 𝓤 (found_ptr 𝓛 C was new tells then L b o) in
             opens_to K X (λ j. qed 𝓛 (raw Open ∷ ‵ I ∷ raw X ∷ []) ∵ move ! (1 ∷ 2 ∷ []) $ use2 𝓛 (raw (upd 𝓤 (ex 𝓤 BlockPtr-found))) h $
-            settle 𝓛 (K (At j)) (some (λ (c : C). ‵ (cell b o (was c)) ⊛ ‵ (tells c) ⊛ raw (BlockPtr-back c))) $ suffices ! _ (upd_i 𝓤 (K (At j))) $ pick ! (λ c. split3 ! $
-            show ! (found_ptr 𝓛 C was new tells then (At j) b o) c $ frame ! $ frame ! $ assume ! (‵ (cell b o (new c))) $ let R : Pr = upd 𝓤 (⟦ I ⟧ ∗ ⟦ gain c ⟧) in
+            settle 𝓛 (K (OpenList j)) (some (λ (c : C). ‵ (cell b o (was c)) ⊛ ‵ (tells c) ⊛ raw (BlockPtr-back c))) $ suffices ! _ (upd_i 𝓤 (K (OpenList j))) $ pick ! (λ c. split3 ! $
+            show ! (found_ptr 𝓛 C was new tells then (OpenList j) b o) c $ frame ! $ frame ! $ assume ! (‵ (cell b o (new c))) $ let R : Pr = upd 𝓤 (⟦ I ⟧ ∗ ⟦ gain c ⟧) in
             use2 𝓛 (raw R) (apply∗ 𝓤 ⟦ cell b o (new c) ⟧ R) $ move ! (1 ∷ 0 ∷ []) $ by ! (shuts_with j (gain c))))
 
       -- and for a link that is compared with null: in the cases it is the place found, and whether that is null

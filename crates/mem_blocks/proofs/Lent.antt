@@ -5,23 +5,15 @@ use mathlib.Core.Option as maybe
 use lib.ListN.{get_elem?}
 use seplogic.Ra.Ura.{Ura}
 use mir.Syntax.{Ty, ty_ptr}
-use base.Logic.{SProp, ent, sep, guard}
-use base.Fml.{Lft, Share, Fml, ftrue, fbor, fshr_bor}
-use base.Fraction.{full_share}
+use base.{Logic.SProp, Logic.ent, Logic.sep, Logic.guard, Fraction.full_share, Fml.Lft, Fml.Share, Fml.Fml, Fml.ftrue, Fml.fbor, Fml.fshr_bor}
 use ghost.Rules.{Halves}
-use types.Logic.{Logic, sem, lfts}
+use types.{Logic.Logic, Logic.sem, Logic.lfts, Tokens.bor_fracture}
 use types.Kit.{‵, raw, ◌$◌, ◌∵◌, !, qed, by, use1, drop, move, keep, rewrite, fsplit, fsplit3, fpick, check, updating, now, done}
-use types.Tokens.{bor_fracture}
-use denote.RattleType.{RattleType, RowLaws}
-use denote.Memory.{mem, shared_of}
+use denote.{RattleType.RattleType, RattleType.RowLaws, Memory.mem, Memory.shared_of, Shares.Shares, Opens.Cuts-Halves, Laid.Spread.cell_Cuts, Param.Send.IsSync, Param.Send.Common}
 use denote.RawPtr.{Ptr, block_ptr, block_of, count_of, ptr_val}
 use denote.Sharing.{ShrLaws, nothing, said, one, beside}
 use denote.SharingLaws.{nothing_shr_laws, said_shr_laws, one_shr_laws, beside_shr_laws}
-use denote.Shares.{Shares}
 use denote.Struct.Lending.{lent_at, lent_at_shr_laws, Lends, Lends-lies, Lends-said, Lends-nothing, Lends-both}
-use denote.Param.Send.{IsSync, Common}
-use denote.Opens.{Cuts-Halves}
-use denote.Laid.Spread.{cell_Cuts}
 use Rattle.atomic_table.specs.Seated.{fact, row}
 use Rattle.mem_blocks.specs.{Web.Content, Web.Home, Web.Block, Web.block, Web.Lives, Web.Rests, Lent.link_part, Lent.content_lent, Lent.slot_lent, Lent.slots_lent, Lent.block_lent, Lent.lent_if_alive, Lent.chain_lent, declared.sizes.TheConstants.SLOTS}
 use Rattle.mem_blocks.specs.Laid.{Small, Sized, slots_at, content_owns, slot_owns, slots_own, edge, block_owns, if_alive, laid_owns, chain_owns}
@@ -135,7 +127,8 @@ module _ {M : Type 1} {𝓤 : Ura M} (𝓛 : Logic 𝓤) (R : RattleType) (κ : 
   pub slot_seen : (bs : List (Block S)) (k : ℕ) (p : Ptr) (j : ℕ) (x : S) → Lives bs k p → Rests bs k j (Some x)
       → ⟦ chain_lent R bs κ ⟧ ⊢ guard 𝓤 (Small R × (j < SLOTS)) ⟦ shared_of R x (block_of p) (j * s + slots_at R (count_of p)) κ ⟧
   slot_seen bs k p j x lies at = subst (λ (u : Ptr). ⟦ chain_lent R bs κ ⟧ ⊢ guard 𝓤 (Small R × (j < SLOTS)) ⟦ shared_of R x (block_of u) (j * s + slots_at R (count_of u)) κ ⟧) lies.1 (
-      let a : Block S = block bs k in qed 𝓛 (‵ (chain_lent R bs κ) ∷ []) ∵ use1 𝓛 (‵ (block_lent R a κ)) (block_seen bs k lies.0) $ fsplit3 ! $ fpick ! (λ so. drop ! $ let near = found_there a.homes j (Some (Some x)) (Some None) at in check ! (so.1, (let few = so.3 in let here = near.0 in omega arith)) $
+      let a : Block S = block bs k in qed 𝓛 (‵ (chain_lent R bs κ) ∷ []) ∵ use1 𝓛 (‵ (block_lent R a κ)) (block_seen bs k lies.0) $ fsplit3 ! $ fpick ! (λ so. drop ! $
+      let near = found_there a.homes j (Some (Some x)) (Some None) at in check ! (so.1, (let few = so.3 in let here = near.0 in omega arith)) $
       move ! (1 ∷ []) $ fsplit3 ! $ move ! (1 ∷ []) $ use1 𝓛 (‵ (shared_of R x (block_of a.at) (j * s + slots_at R (count_of a.at)) κ)) (value_seen a.homes j x (block_of a.at) (slots_at R (count_of a.at)) _ refl at) $ keep ! (0 ∷ []) $ done !))
 
 -- It may be seen from another thread where each value may.

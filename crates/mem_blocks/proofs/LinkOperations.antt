@@ -4,13 +4,9 @@ use Rattle.std.specs.Sync.RawAtomic.Pointer.{asks_ptr, compares}
 use lib.Dec.{T}
 use seplogic.Ra.Ura.{Ura}
 use mir.Val.{Val, of_list, has_ty, WT}
-use base.Logic.{SProp}
-use base.Fml.{Fml}
-use types.Logic.{Logic}
-use types.Match.{live}
-use denote.Laws.{Is}
-use denote.Memory.{lone}
-use denote.RawPtr.{Ptr, null_ptr}
+use base.{Logic.SProp, Fml.Fml}
+use types.{Logic.Logic, Match.live}
+use denote.{Laws.Is, Memory.lone, RawPtr.Ptr, RawPtr.null_ptr}
 use Rattle.mem_blocks.specs.declared.operation.LinkOperation.{LinkOperation, LinkOperation as does}
 use Rattle.mem_blocks.specs.contracts.operation.LinkOperation as operation
 

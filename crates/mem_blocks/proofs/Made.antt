@@ -8,25 +8,13 @@ use lib.Dec.{T}
 use mir.Syntax.{Body, Arms, ty_ptr, seq, switch, skip, arm, default, no_default}
 use mir.Val.{Val, vstruct, vcons, vnil, of_list, has_ty, WT}
 use base.Logic.{ent, emp}
-use prog.Memory.{capped}
-use prog.Capped.{capped_is}
+use prog.{Memory.capped, Capped.capped_is}
 use types.Kit.{‵, ◌$◌, ◌∵◌, !, qed, move, fjoin, fpack, feq_i, done}
-use types.Logic.{Logic, sem}
-use types.Match.{live}
+use types.{Logic.Logic, Logic.sem, Match.live}
 use denote.RattleType.{RattleType, Valss, owns}
-use denote.Laws.{Is}
+use denote.{Laws.Is, Builtin.u64, Shadow.makes_shadow, Steps.nothing, Param.Laws.Laws, Param.Laws.of_field, Param.Shared.copy_shared, Enum.Row.tagged_with, Enum.Declared.shape, Enum.Enum.form_of, Enum.Enum.in_a_row}
 use denote.RawPtr.{Ptr, block_ptr, null_ptr, ptr_val}
-use denote.Shadow.{makes_shadow}
-use denote.Steps.{nothing}
-use denote.Builtin.{u64}
-use denote.Enum.Row.{tagged_with}
-use denote.Enum.Enum.{form_of, in_a_row}
-use denote.Enum.Declared.{shape}
-use denote.Param.Laws.{Laws, of_field}
-use denote.Param.Shared.{copy_shared}
-use denote.Struct.Field.{u64-field}
-use denote.Struct.Laws.{u64-laws, u64-copy}
-use denote.Struct.Struct.{Struct}
+use denote.Struct.{Field.u64-field, Struct.Struct, Laws.u64-laws, Laws.u64-copy}
 use Rattle.mem_blocks.specs.contracts.block.BlockPtr as link
 
 -- the statement at the head, what follows n statements, and the arm k of a switch

@@ -1,18 +1,17 @@
 -- What a step of a seat does to the web, while the invariant is open for that step; and the web's first and last moments. Assumes `Logic`.
-use Rattle.mem_blocks.proofs.Walks.{puts_back, id⊢, ◌≡◌, ℕ, ◌+◌, ◌*◌, ◌<◌, List, [], ◌∷◌, ◌++◌, set, sym, refl, subst, arith, w64, None, asks, always, cell, alike, Bool, cond, get_elem?, Ura, Ty, ty_int, vint, vnull, ptr_same, has_ty, WT, full_share, Coded, SProp, ent, sep, wand, ex, all, guard, upd, emp, via, apply∗, all_e, upd_i, Lft, Share, Fml, ftrue, fsep, fex, fbor, finv, flft, Logic, sem, ‵, raw, ◌⊛◌, some, given, later, ◌$◌, ◌∵◌, !, qed, by, move, keep, drop, use0, use1, use2, use3, split, split3, fsplit, fsplit3, fjoin, fjoin3, fpick, fpack, pick, learn, check, show, frame, each, assume, suffices, await, rewrite, settle, done, RattleType, Ptr, block_ptr, null_ptr, ptr_val, block_of, count_of, Testable, nothing, word, Block, Sitter, Act, sitter, block, Lives, word_of, with_word, with_next, blocks_after, sitter_after, if_unset, StaysIn, Allows, AllowsLink, CanFork, CanMerge, LastBlocks, LastBlocksBy, WebId, age, hand_owns, chain_owns, spare_owns, seat_owns, inside_owns, web_owns, SLOTS}
-use Rattle.std.proofs.Common.{T}
-use Rattle.std.specs.Sync.RawAtomic.Pointer.{asks_ptr}
+use Rattle.mem_blocks.proofs.Walks.{puts_back, id⊢, ◌≡◌, ℕ, ◌+◌, ◌*◌, ◌<◌, List, [], ◌∷◌, ◌++◌, set, sym, refl, subst, arith, w64, None, asks, always, cell, alike, Bool, cond, get_elem?, Ura, Ty, ty_int, vint, vnull, ptr_same, has_ty, WT, full_share, Coded, SProp, ent, sep, wand, HoldsWord}
+use Rattle.mem_blocks.proofs.Walks.{ex, all, guard, upd, emp, via, apply∗, all_e, upd_i, Lft, Share, Fml, ftrue, fsep, fex, fbor, finv, flft, Logic, sem, ‵, raw, ◌⊛◌, some, given, later, ◌$◌, ◌∵◌, !, qed, by, move, keep, drop, use0, use1, use2, use3, split, split3, fsplit, fsplit3, END_WORDS}
+use Rattle.mem_blocks.proofs.Walks.{fjoin, fjoin3, fpick, fpack, pick, learn, check, show, frame, each, assume, suffices, await, rewrite, settle, done, RattleType, Ptr, block_ptr, null_ptr, ptr_val, block_of, count_of, Testable, nothing, word, Block, Sitter, Act, sitter, block}
+use Rattle.mem_blocks.proofs.Walks.{Lives, word_of, with_word, with_next, blocks_after, sitter_after, if_unset, StaysIn, Allows, AllowsLink, CanFork, CanMerge, LastBlocks, LastBlocksBy, WebId, age, hand_owns, chain_owns, spare_owns, seat_owns, inside_owns, web_owns, SLOTS}
+use Rattle.std.{proofs.Common.T, specs.Sync.RawAtomic.Pointer.asks_ptr}
 use mathlib.Core.Option as maybe
-use base.Share.{quarter, three_quarters}
-use base.Fml.{flent}
-use types.Kit.{Item, Seq, Step, step, Goal, prop, updating, now}
-use types.Owned.{basic}
-use types.Keyed.{entries_new, entries_take}
-use types.Tokens.{lft_new, lft_end, bor_new, lent_back}
+use base.{Share.quarter, Share.three_quarters, Fml.flent}
+use types.{Kit.Item, Kit.Seq, Kit.Step, Kit.step, Kit.Goal, Kit.prop, Kit.updating, Kit.now, Owned.basic, Keyed.entries_new, Keyed.entries_take, Tokens.lft_new, Tokens.lft_end, Tokens.bor_new, Tokens.lent_back}
 use Rattle.atomic_table.specs.Seated.{fact, seen, roster, halved, unused}
 use Rattle.atomic_table.proofs.Roster.{Moved, moves, Joined, joins, apart, resets}
 use Rattle.mem_blocks.specs.{Web.State, Web.viewed, Web.KeepsRule, Laid.state_owns, Laid.known_to_all, Links.leads_to, Links.told_place, Links.IsToldPlace, declared.operation.LinkOperation.LinkOperation, declared.operation.LinkOperation.LinkOperation as does}
-use Rattle.mem_blocks.proofs.{LinkOperations.link_tag, LinkOperations.asks_link, Borrowed.word_step, Borrowed.Word-found, Borrowed.link_step, Borrowed.BlockPtr-found, Borrowed.null_step, Borrowed.null_tested, Blocks.acts, Blocks.Reworded, Blocks.word_at, Blocks.Relinked, Blocks.link_at, Blocks.same_word}
+use Rattle.mem_blocks.proofs.{LinkOperations.link_tag, LinkOperations.asks_link, Blocks.acts, Blocks.Reworded, Blocks.word_at, Blocks.Relinked, Blocks.link_at, Blocks.same_word, Blocks.Near, Blocks.near_end}
+use Rattle.mem_blocks.proofs.Borrowed.{word_step, Word-found, link_step, BlockPtr-found, null_step, null_tested}
 
 module _ {M : Type 1} {𝓤 : Ura M} (𝓛 : Logic 𝓤) (R : RattleType) (token : Ty → Ptr → Fml) {V : Type 0} (cv : Coded V) (holds : State R.Denot V → Type 0) where
   open 𝓛 use {H, A}
@@ -97,23 +96,22 @@ module _ {M : Type 1} {𝓤 : Ura M} (𝓛 : Logic 𝓤) (R : RattleType) (token
 
       -- where the block is the web's number j, the word i may become f of what it was
       abbrev Allowed : ℕ → (ℕ → ℕ) → (ℕ → Fml) → State S V → ℕ → Pr
-      Allowed i f gain s j = guard 𝓤 (Lives s.blocks j p) (all 𝓤 (λ (_ : word_of s.blocks j i < 18446744073709551616).
+      Allowed i f gain s j = guard 𝓤 (Lives s.blocks j p × Near 𝓛 R token i (block s.blocks j)) (all 𝓤 (λ (_ : word_of s.blocks j i < 18446744073709551616).
           ⟦ chain_owns R token (with_word s.blocks j i (f (word_of s.blocks j i))) ⟧ -∗ upd 𝓤 (⟦ I ⟧ ∗ ⟦ gain (word_of s.blocks j i) ⟧)))
 
       -- a step on the word i, where `law` shows how the invariant stands again
-      words_by : (i : ℕ) (f : ℕ → ℕ) (gain : ℕ → Fml) (X : Pr) → i < SLOTS
-          → ((s : State S V) → holds s → ⟦ roster cv.code γ 0 s.views ⟧ ∗ X ⊢ ex 𝓤 (Allowed i f gain s))
+      words_by : (i : ℕ) (f : ℕ → ℕ) (gain : ℕ → Fml) (X : Pr) → ((s : State S V) → holds s → ⟦ roster cv.code γ 0 s.views ⟧ ∗ X ⊢ ex 𝓤 (Allowed i f gain s))
           → A.inv (fbor κ I) ∗ A.lft κ q ∗ X ⊢ asks 𝓛 (block_ptr b (word_place i)) f always (λ n. fsep (flft κ q) (gain n))
-      words_by i f gain X near law = let e : ℕ = word_place i in let G : Pr = ex 𝓤 (Word-found 𝓛 κ q I b e f gain) in
+      words_by i f gain X law = let e : ℕ = word_place i in let G : Pr = ex 𝓤 (Word-found 𝓛 κ q I b e f gain) in
           word_step 𝓛 κ q I b e f gain X (qed 𝓛 (‵ I ∷ raw X ∷ []) ∵ suffices ! _ (upd_i 𝓤 G) $ looks_in ! (λ s so. move ! (1 ∷ 2 ∷ []) $
           use2 𝓛 (some (λ (j : ℕ). raw (Allowed i f gain s j))) (law s so) $ pick ! (λ (k : ℕ).
           let n : ℕ = word_of s.blocks k i in let W : Fml = chain_owns R token (with_word s.blocks k i (f n)) in let Z : Pr = upd 𝓤 (⟦ I ⟧ ∗ ⟦ gain n ⟧) in let Then : n < 18446744073709551616 → Pr = λ _. ⟦ W ⟧ -∗ Z in
-          use1 𝓛 (given (Lives s.blocks k p) (raw (all 𝓤 Then))) (id⊢ 𝓤 (Allowed i f gain s k)) $ learn ! (λ lies. move ! (1 ∷ []) $
-          use1 𝓛 (‵ (word b e n) ⊛ raw (all 𝓤 (Reworded 𝓛 R token s.blocks k p i))) (word_at 𝓛 R token s.blocks k p i near lies) $ split ! $
+          use1 𝓛 (given (Lives s.blocks k p × Near 𝓛 R token i (block s.blocks k)) (raw (all 𝓤 Then))) (id⊢ 𝓤 (Allowed i f gain s k)) $ learn ! (λ lies. move ! (1 ∷ []) $
+          use1 𝓛 (given (i < SLOTS) (‵ (word b e n) ⊛ raw (all 𝓤 (Reworded 𝓛 R token s.blocks k p i)))) (word_at 𝓛 R token s.blocks k p i lies.1 lies.0) $ learn ! (λ few. split ! $
           use1 𝓛 (given (T (has_ty (ty_int w64) (vint w64 n)) × WT (vint w64 n)) (‵ (word b e n))) (𝓛.laws.at_wt full_share (ty_int w64) b e (vint w64 n)) $ learn ! (λ typed.
           show ! (Word-found 𝓛 κ q I b e f gain) n $ frame ! $
           assume ! (‵ (word b e (f n))) $ puts_back ! (word b e) (λ j. chain_owns R token (with_word s.blocks k i j)) (f n) $ move ! (1 ∷ []) $
-          use1 𝓛 (raw (⟦ W ⟧ -∗ Z)) (all_e 𝓤 Then typed.1.fits) $ move ! (1 ∷ 0 ∷ []) $ by ! (apply∗ 𝓤 ⟦ W ⟧ Z))))))
+          use1 𝓛 (raw (⟦ W ⟧ -∗ Z)) (all_e 𝓤 Then typed.1.fits) $ move ! (1 ∷ 0 ∷ []) $ by ! (apply∗ 𝓤 ⟦ W ⟧ Z)))))))
 
       -- The views after a load that changes no block, with what it leaves.
       abbrev Viewed : List (Block S) → Fml → List V → Pr
@@ -123,11 +121,11 @@ module _ {M : Type 1} {𝓤 : Ura M} (𝓛 : Logic 𝓤) (R : RattleType) (token
       abbrev Unchanged : Fml → State S V → ℕ → Pr
       Unchanged gain s j = guard 𝓤 (Lives s.blocks j p) (upd 𝓤 (ex 𝓤 (Viewed s.blocks gain)))
 
-      reads_by : (i : ℕ) (gain : Fml) (X : Pr) → i < SLOTS → ((s : State S V) → holds s → ⟦ roster cv.code γ 0 s.views ⟧ ∗ X ⊢ ex 𝓤 (Unchanged gain s))
+      reads_by : (i : ℕ) (gain : Fml) (X : Pr) → i < END_WORDS → ((s : State S V) → holds s → ⟦ roster cv.code γ 0 s.views ⟧ ∗ X ⊢ ex 𝓤 (Unchanged gain s))
           → A.inv (fbor κ I) ∗ A.lft κ q ∗ X ⊢ asks 𝓛 (block_ptr b (word_place i)) (λ n. n) always (λ n. fsep (flft κ q) gain)
-      reads_by i gain X near law = words_by i (λ n. n) (λ _. gain) X near (λ s so. qed 𝓛 (‵ (roster cv.code γ 0 s.views) ∷ raw X ∷ []) ∵ use2 𝓛 (some (λ (j : ℕ). raw (Unchanged gain s j))) (law s so) $ pick ! (λ (k : ℕ).
+      reads_by i gain X near law = words_by i (λ n. n) (λ _. gain) X (λ s so. qed 𝓛 (‵ (roster cv.code γ 0 s.views) ∷ raw X ∷ []) ∵ use2 𝓛 (some (λ (j : ℕ). raw (Unchanged gain s j))) (law s so) $ pick ! (λ (k : ℕ).
           let n : ℕ = word_of s.blocks k i in let W : Fml = chain_owns R token (with_word s.blocks k i n) in let Done : Pr = ⟦ I ⟧ ∗ ⟦ gain ⟧ in
-          use1 𝓛 (given (Lives s.blocks k p) (raw (upd 𝓤 (ex 𝓤 (Viewed s.blocks gain))))) (id⊢ 𝓤 (Unchanged gain s k)) $ learn ! (λ lies. show ! (Allowed i (λ x. x) (λ _. gain) s) k $ check ! lies $
+          use1 𝓛 (given (Lives s.blocks k p) (raw (upd 𝓤 (ex 𝓤 (Viewed s.blocks gain))))) (id⊢ 𝓤 (Unchanged gain s k)) $ learn ! (λ lies. show ! (Allowed i (λ x. x) (λ _. gain) s) k $ check ! (lies, near_end 𝓛 R token (block s.blocks k) i near) $
           each ! (λ (_ : n < 18446744073709551616). ⟦ W ⟧ -∗ upd 𝓤 Done) (λ _. assume ! (‵ W) $ rewrite ! 0 (λ (bs : List (Block S)). ‵ (chain_owns R token bs)) (same_word 𝓛 R token s.blocks k i) refl $ move ! (1 ∷ []) $
           settle 𝓛 Done (some (λ (vs : List V). given (holds record { blocks = s.blocks; views = vs }) (‵ (roster cv.code γ 0 vs) ⊛ ‵ gain))) $ pick ! (λ vs. learn ! (λ good. split ! $ move ! (2 ∷ 0 ∷ []) $
           use2 𝓛 (‵ I) (shuts_in s.blocks vs good) $ suffices ! _ (upd_i 𝓤 Done) $ frame ! $ done !))))))
@@ -138,16 +136,16 @@ module _ {M : Type 1} {𝓤 : Ura M} (𝓛 : Logic 𝓤) (R : RattleType) (token
       reads_first gain X law = let first : word_place 0 ≡ count_of p + 8 = omega arith in subst (λ (j : ℕ). A.inv (fbor κ I) ∗ A.lft κ q ∗ X ⊢ asks 𝓛 (block_ptr b j) (λ n. n) always (λ n. fsep (flft κ q) gain)) first (reads_by 0 gain X (omega arith) law)
 
       -- a load without a seat
-      pub peeks : (i : ℕ) → i < SLOTS → StaysIn holds p → A.inv (fbor κ I) ∗ A.lft κ q ∗ ⟦ ftrue ⟧ ⊢ asks 𝓛 (block_ptr b (word_place i)) (λ n. n) always (λ n. fsep (flft κ q) ftrue)
+      pub peeks : (i : ℕ) → i < END_WORDS → StaysIn holds p → A.inv (fbor κ I) ∗ A.lft κ q ∗ ⟦ ftrue ⟧ ⊢ asks 𝓛 (block_ptr b (word_place i)) (λ n. n) always (λ n. fsep (flft κ q) ftrue)
       peeks i near stays = reads_by i ftrue ⟦ ftrue ⟧ near (λ s so. let r = stays s so in let Z : Pr = ex 𝓤 (Viewed s.blocks ftrue) in
           qed 𝓛 (‵ (roster cv.code γ 0 s.views) ∷ ‵ ftrue ∷ []) ∵ show ! (Unchanged ftrue s) r.0 $ check ! r.1 $ suffices ! _ (upd_i 𝓤 Z) $ show ! (Viewed s.blocks ftrue) s.views $ check ! so $ done !)
 
       module _ (id : ℕ) (m : Sitter S V) where
-        pub steps : (i : ℕ) (f : ℕ → ℕ) (then : ℕ → Sitter S V → Type 0) → i < SLOTS → Allows holds id m p i f then
+        pub steps : (i : ℕ) (f : ℕ → ℕ) (then : ℕ → Sitter S V → Type 0) → Allows holds id m p i f then
             → A.inv (fbor κ I) ∗ A.lft κ q ∗ ⟦ sat id m ⟧ ⊢ asks 𝓛 (block_ptr b (word_place i)) f always (λ n. fsep (flft κ q) (after id (then n)))
-        steps i f then near law = words_by i f (λ n. after id (then n)) ⟦ sat id m ⟧ near (λ s so.
+        steps i f then law = words_by i f (λ n. after id (then n)) ⟦ sat id m ⟧ (λ s so.
             qed 𝓛 (‵ (roster cv.code γ 0 s.views) ∷ ‵ (part id m.view) ∷ ‵ (hand_owns R m.hand) ∷ ‵ (spare_owns R token m.spare) ∷ []) ∵
-            knows ! s.views id m.view (λ at. let r = law s so at in let n : ℕ = word_of s.blocks r.0 i in let bs : List (Block S) = with_word s.blocks r.0 i (f n) in show ! (Allowed i f (λ n. after id (then n)) s) r.0 $ check ! r.1 $
+            knows ! s.views id m.view (λ at. let r = law s so at in let n : ℕ = word_of s.blocks r.0 i in let bs : List (Block S) = with_word s.blocks r.0 i (f n) in show ! (Allowed i f (λ n. after id (then n)) s) r.0 $ check ! (r.1.0, λ so. r.1.1) $
             each ! (λ (_ : n < 18446744073709551616). ⟦ chain_owns R token bs ⟧ -∗ upd 𝓤 (⟦ I ⟧ ∗ ⟦ after id (then n) ⟧)) (λ small. assume ! (‵ (chain_owns R token bs)) $ by ! (carries_on s bs id m (then n) (r.2 small)))))
 
         -- what a step on a link leaves: the seat, and a fact on the place found

@@ -1,37 +1,24 @@
 -- A call of `operate` at `Brand`, whose outcome the caller's proof picks. Assumes `Logic`.
 use Rattle.std.proofs.Common.{◌≡◌, ℕ, ◌^◌, ◌<◌, List, [], ◌∷◌, sym, refl, ap, w64}
 use seplogic.Ra.Ura.{Ura}
-use mir.Syntax.{dnil, tnil, ty_struct, impl}
-use mir.Val.{Val, vint}
-use base.Fraction.{full_share}
+use mir.{Syntax.dnil, Syntax.tnil, Syntax.ty_struct, Syntax.impl, Val.Val, Val.vint}
+use base.{Fraction.full_share, Fml.Fml, Fml.ftrue, Fml.fsep, Fml.flft}
 use base.Logic.{SProp, ent, sep, emp, via, fst∗, emp∗, comm∗}
-use base.Fml.{Fml, ftrue, fsep, flft}
-use prog.Model.{Model}
-use prog.Wired.{Wired}
+use prog.{Model.Model, Wired.Wired}
 use types.Logic.{Logic}
 use types.Kit.{mean, ‵, raw, ◌⊛◌, some, given, later, ◌$◌, ◌∵◌, !, qed, drop, split, join, fsplit, fjoin, feq_i, feq_l, flt_i, flt_l, pick, show, check, use0, updating, await, now, done}
-use contract.Monad.{fact, fact_i}
+use contract.{Monad.fact, Monad.fact_i, Running.Running, Running.tables}
 use contract.BorrowLft.{◌⊑◌, ⊑_static}
-use contract.Running.{Running, tables}
-use denote.RattleType.{RattleType}
-use denote.Builtin.{u64}
-use denote.RawPtr.{Ptr, ptr_val}
-use denote.Exit.{no}
-use denote.Param.{arg}
-use denote.Param.Laws.{arg_laws}
-use denote.Steps.{nothing, only}
-use denote.Triple.Spec.{triple_of}
-use Rattle.std.specs.Sync.RawAtomic.{asks, always}
+use denote.{RattleType.RattleType, Builtin.u64, Exit.no, Triple.Spec.triple_of, Steps.nothing, Steps.only, Param.arg, Param.Laws.arg_laws, RawPtr.Ptr, RawPtr.ptr_val}
+use Rattle.std.{specs.Sync.RawAtomic.asks, specs.Sync.RawAtomic.always, proofs.marker.Brand.TheLaws.the_row_laws}
 use Rattle.std.specs.declared.sync.atomic.raw.Outcome as Outcome
 use Rattle.std.specs.contracts.marker.Brand as Brand
-use Rattle.std.proofs.marker.Brand.TheLaws.{the_row_laws}
 use Rattle.atomic_table.proofs.Calls.{fm, picked, found}
-use Rattle.mem_blocks.specs.{Words.becomes, Words.told, declared.operation.Operation.Operation}
+use Rattle.mem_blocks.{specs.Words.becomes, specs.Words.told, specs.declared.operation.Operation.Operation, proofs.Operations.operation_val, proofs.Operations.operation_made}
 use Rattle.mem_blocks.specs.contracts.operation.Operation as operation
 use Rattle.mem_blocks.specs.contracts.word.operate as operate
 use Rattle.mem_blocks.proofs.word.operate.Symbol as symbol
 use Rattle.mem_blocks.proofs.word.operate.Met as operate_met
-use Rattle.mem_blocks.proofs.Operations.{operation_val, operation_made}
 
 abbrev brand : RattleType
 brand = arg (ty_struct [] tnil) no Brand.the_row

@@ -2,13 +2,10 @@
 use Rattle.std.proofs.Common.{◌≡◌, ℕ, List, [], ◌∷◌, refl, ap, ◌∙◌, lit<}
 use lib.Dec.{T}
 use mir.Val.{Val, of_list, has_ty, WT}
-use denote.Laws.{Is}
-use denote.Shadow.{makes_shadow}
+use denote.{Laws.Is, Memory.lone, Shadow.makes_shadow}
 use seplogic.Ra.Ura.{Ura}
 use base.Logic.{ent, emp}
-use types.Logic.{Logic, sem}
-use types.Match.{live}
-use denote.Memory.{lone}
+use types.{Logic.Logic, Logic.sem, Match.live}
 use Rattle.mem_blocks.specs.{Words.told, Words.IsTold, declared.operation.Operation.Operation, declared.operation.Operation.Operation as does}
 use Rattle.mem_blocks.specs.contracts.operation.Operation as operation
 
@@ -49,10 +46,10 @@ is_told does.Or a n = tt
 is_told does.Exchange a n = tt
 
 module _ {M : Type 1} {𝓤 : Ura M} (𝓛 : Logic 𝓤) where
-  abbrev Made : Operation → Type 1
-  Made op = ent 𝓤 (emp 𝓤) (sem 𝓛 (operation.the_row.own_val op (operation_val op ∷ [])))
+  abbrev NeedsNothing : Operation → Type 1
+  NeedsNothing op = ent 𝓤 (emp 𝓤) (sem 𝓛 (operation.the_row.own_val op (operation_val op ∷ [])))
 
-  pub operation_made : (op : Operation) → Made op
+  pub operation_made : (op : Operation) → NeedsNothing op
   operation_made does.Load = makes_shadow 𝓛 (operation.the_row.own_val does.Load (operation_val does.Load ∷ [])) (λ us. (tt, (λ vss. (tt, tt)))) ([], (refl, (tt, (refl, tt))))
   operation_made does.Store = makes_shadow 𝓛 (operation.the_row.own_val does.Store (operation_val does.Store ∷ [])) (λ us. (tt, (λ vss. (tt, tt)))) ([], (refl, (tt, (refl, tt))))
   operation_made does.Add = makes_shadow 𝓛 (operation.the_row.own_val does.Add (operation_val does.Add ∷ [])) (λ us. (tt, (λ vss. (tt, tt)))) ([], (refl, (tt, (refl, tt))))

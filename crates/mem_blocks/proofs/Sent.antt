@@ -2,17 +2,12 @@
 use Rattle.std.proofs.Common.{ℕ, suc, ◌+◌, Bool, true, false, List, [], ◌∷◌}
 use Rattle.std.specs.Prelude.{Option, Some, None}
 use mir.Syntax.{Ty}
-use base.Fraction.{full_share}
-use base.Stored.{Gv}
-use base.Fml.{Lft, Fml}
-use base.Shift.{Keyless}
-use denote.RattleType.{RattleType}
-use denote.RawPtr.{Ptr}
-use denote.Param.Send.{IsSend, part_keyless}
+use base.{Fraction.full_share, Stored.Gv, Shift.Keyless, Fml.Lft, Fml.Fml}
+use denote.{RattleType.RattleType, RawPtr.Ptr, Param.Send.IsSend, Param.Send.part_keyless}
 use types.Keyed.{entry_keyless, entries_keyless}
 use Rattle.atomic_table.specs.Seated.{row, halved, roster}
 use Rattle.mem_blocks.specs.Web.{Content, Home, Hand, Block, State, Sitter}
-use Rattle.mem_blocks.specs.Laid.{WebId, content_owns, slot_owns, slots_own, edge, hub_rim, hand_owns, block_owns, if_alive, laid_owns, chain_owns, spare_owns, seat_owns, rested_owns, inside_owns, web_owns, web_shares}
+use Rattle.mem_blocks.specs.Laid.{WebId, content_owns, slot_owns, slots_own, edge, hub_rim, hand_owns, block_owns, if_alive, chain_owns, spare_owns, seat_owns, rested_owns, inside_owns, web_owns, web_shares}
 
 words_sent : (b o : ℕ) (ns : List ℕ) → Keyless (row b o ns)
 words_sent b o [] = tt

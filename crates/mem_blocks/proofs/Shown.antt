@@ -2,18 +2,10 @@
 use Rattle.std.proofs.Common.{[], ◌∷◌}
 use seplogic.Ra.Ura.{Ura}
 use mir.Syntax.{Ty}
-use base.Logic.{sep, wand, apply∗, snd∗}
-use base.Fraction.{full_share}
-use base.Stored.{Coded}
-use base.Fml.{Lft, Share, Fml, fsep, fbor, flent, flft, fshr_bor}
-use types.Logic.{Logic, sem, lfts}
+use base.{Logic.sep, Logic.wand, Logic.apply∗, Logic.snd∗, Fraction.full_share, Stored.Coded, Fml.Lft, Fml.Share, Fml.Fml, Fml.fsep, Fml.fbor, Fml.flent, Fml.flft, Fml.fshr_bor}
+use types.{Logic.Logic, Logic.sem, Logic.lfts, Tokens.bor_fracture}
 use types.Kit.{‵, raw, ◌⊛◌, later, ◌$◌, !, qed, move, drop, split, fsplit, fjoin, use1, use2, updating, await, now, done}
-use types.Tokens.{bor_fracture}
-use denote.RattleType.{RattleType}
-use denote.RawPtr.{Ptr}
-use denote.Sharing.{ShrLaws, one, said}
-use denote.SharingLaws.{beside_shr_laws, one_shr_laws}
-use denote.Struct.Lending.{Lends, Lends-both}
+use denote.{RattleType.RattleType, RawPtr.Ptr, SharingLaws.beside_shr_laws, SharingLaws.one_shr_laws, Struct.Lending.Lends, Struct.Lending.Lends-both, Sharing.ShrLaws, Sharing.one, Sharing.said}
 use Rattle.mem_blocks.specs.{Web.State, Laid.WebId, Laid.age, Laid.inside_owns, Laid.known_to_all, Laid.web_owns, Laid.web_shares}
 
 module _ (R : RattleType) (token : Ty → Ptr → Fml) {V : Type 0} (cv : Coded V) (z : WebId) (holds : State R.Denot V → Type 0) where
@@ -28,8 +20,8 @@ module _ (R : RattleType) (token : Ty → Ptr → Fml) {V : Type 0} (cv : Coded 
   Life q = flft (age z) q
 
   -- the web's own right to have its blocks back
-  abbrev Right : Fml
-  Right = flent (age z) Inside
+  abbrev ClaimBack : Fml
+  ClaimBack = flent (age z) Inside
 
   pub shown_laws : ShrLaws (web_shares R token cv.code z holds)
   unfolding Rattle.mem_blocks.specs.Laid.seal
@@ -44,8 +36,8 @@ module _ (R : RattleType) (token : Ty → Ptr → Fml) {V : Type 0} (cv : Coded 
     lends_life : Lends 𝓛 (Life full_share) (one Life) l
     lends_life ν ts inc sp = qed 𝓛 (‵ (fbor ν (Life full_share)) ∷ raw (lfts 𝓛 ts) ∷ []) {P = H.⇛ (sep 𝓤 (sem 𝓛 (fshr_bor ν Life)) (lfts 𝓛 ts))} (updating ! $ bor_fracture ! tt Life full_share $ now ! $ done !)
 
-    lends_known : Lends 𝓛 (fsep Invariant Right) (said Invariant) l
-    lends_known ν ts inc sp = let Both : Fml = fsep Invariant Right in let Back = H.⇛ (sep 𝓤 (A.bor ν Both) (lfts 𝓛 ts)) in
+    lends_known : Lends 𝓛 (fsep Invariant ClaimBack) (said Invariant) l
+    lends_known ν ts inc sp = let Both : Fml = fsep Invariant ClaimBack in let Back = H.⇛ (sep 𝓤 (A.bor ν Both) (lfts 𝓛 ts)) in
         qed 𝓛 (‵ (fbor ν Both) ∷ raw (lfts 𝓛 ts) ∷ []) {P = H.⇛ (sep 𝓤 (sem 𝓛 Invariant) (lfts 𝓛 ts))} (
         updating ! $ use2 𝓛 (later (‵ Both ⊛ raw (wand 𝓤 (sem 𝓛 Both) Back))) (𝓛.more.bor_acc_by ν ts Both sp) $ await ! tt $ split ! $ fsplit ! $
         use1 𝓛 (‵ Invariant ⊛ ‵ Invariant) (𝓛.invs.inv_dup (fbor (age z) Inside)) $ split ! $ move ! (0 ∷ 2 ∷ []) $ fjoin ! $ move ! (0 ∷ 2 ∷ []) $
@@ -53,4 +45,4 @@ module _ (R : RattleType) (token : Ty → Ptr → Fml) {V : Type 0} (cv : Coded 
 
     pub lends_shown : Lends 𝓛 (web_owns R token cv.code z holds) (web_shares R token cv.code z holds) l
     unfolding Rattle.mem_blocks.specs.Laid.seal
-    lends_shown = Lends-both 𝓛 (Life full_share) (fsep Invariant Right) (one Life) (said Invariant) l lends_life lends_known
+    lends_shown = Lends-both 𝓛 (Life full_share) (fsep Invariant ClaimBack) (one Life) (said Invariant) l lends_life lends_known

@@ -1,25 +1,17 @@
 -- What walks have in common: how the steps of a seat begin and end, and small moves. Assumes `Logic`.
 use Rattle.std.proofs.Common.{◌≡◌, ℕ, zero, suc, ◌^◌, ◌<◌, List, [], ◌∷◌, sym, refl, subst, w64}
 use seplogic.Ra.Ura.{Ura}
-use mir.Val.{Val, vint, vptr}
-use base.Fraction.{full_share}
-use base.Stored.{Gv}
+use mir.{Val.Val, Val.vint, Val.vptr, Syntax.Fn}
+use base.{Fraction.full_share, Stored.Gv}
 use base.Logic.{SProp, ent, wand, all, emp, id⊢, apply∗, all_e}
 use base.Fml.{Lft, Share, GName, Fml, ftrue, feq, flt, fhide, fsep, fex, fobs, fauth, fbor, fobor, flft, fshr_bor}
-use types.Logic.{Logic, sem}
-use types.SemTy.{Body}
-use mir.Syntax.{Fn}
+use types.{Logic.Logic, Logic.sem, SemTy.Body, Run.enter, Tokens.shr_bor-open, Tokens.obor_close}
 use prog.Wp.{Calls, Loops, WpFn}
-use types.Run.{enter}
 use types.Kit.{Item, Seq, Step, step, Goal, allocs, params', runs, at_ret, prop, Soaks, ‵, raw, ◌⊛◌, ◌$◌, move, drop, split, split3, join, fsplit, fsplit3, fjoin, fjoin3, feq_i, flt_i, fpick, rewrite, suffices, use0, use1, use2}
 use ghost.Rules.{Halves}
-use types.Tokens.{shr_bor-open, obor_close}
 use contract.Monad.{fact, fact_i}
-use denote.RattleType.{RattleType}
+use denote.{RattleType.RattleType, Opens.unhide, Memory.mem, Memory.cell_at, Steps.nothing, Steps.opens, Steps.closes}
 use denote.RawPtr.{Ptr, block_ptr, block_of, count_of, at_block, InBlock}
-use denote.Memory.{mem, cell_at}
-use denote.Opens.{unhide}
-use denote.Steps.{nothing, opens, closes}
 use Rattle.mem_blocks.proofs.Made.{Blank, blank_val, blank_made}
 
 -- n parameters that a call uses up

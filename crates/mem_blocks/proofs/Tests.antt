@@ -1,8 +1,8 @@
 -- A call of `test`: what it is handed, a `&` to the allocator, a token of its lifetime and the right to free the block, and what a caller has of it. Assumes `Logic`.
-use Rattle.mem_blocks.proofs.Walks.{◌≡◌, ℕ, List, [], ◌∷◌, refl, ap, Ty, Val, vunit, vptr, left, right, SProp, ent, sep, emp, guard, id⊢, Lft, Share, ftrue, fsep, flft, Logic, sem, ‵, raw, ◌⊛◌, some, later, ◌$◌, ◌∵◌, !, qed, move, keep, drop, use0, use1, use2, split, split3, join, fjoin, pick, check, await, done, feq_i, fact, fact_i, ◌⊑◌, ⊑_refl, Ptr, ptr_val, Testable, nothing, heard, only, unit, triple_of, Ura}
+use Rattle.mem_blocks.proofs.Walks.{◌≡◌, ℕ, List, [], ◌∷◌, refl, ap, Ty, Val, vunit, vptr, left, right, SProp, ent, sep, emp, guard, id⊢, Lft, Share, ftrue, fsep, flft, Logic, sem, ‵, raw, ◌⊛◌, some, later, ◌$◌, ◌∵◌, !, qed, move, keep}
+use Rattle.mem_blocks.proofs.Walks.{drop, use0, use1, use2, split, split3, join, fjoin, pick, check, await, done, feq_i, fact, fact_i, ◌⊑◌, ⊑_refl, Ptr, ptr_val, Testable, nothing, heard, only, unit, triple_of, Ura}
 use mir.Syntax.{Dict}
-use prog.Memory.{Memory}
-use prog.Routine.{Routine}
+use prog.{Memory.Memory, Routine.Routine}
 use types.Kit.{feq_l, updating, now}
 use contract.Monad.{Fun}
 use denote.Triple.Statement.{Contract}

@@ -20,7 +20,8 @@ pub use prog.Capped.{capped_fits, capped_small, capped_is}
 pub use prog.RawLaws.{size-raw, align-raw}
 pub use prog.Wp.{WpFn, Wp, after_seq, at_return}
 pub use types.Logic.{sem, Logic}
-pub use types.Kit.{mean, ‵, raw, ◌⊛◌, some, given, later, at_ret, any_q, ◌$◌, ◌∵◌, !, qed, by, move, keep, drop, use0, use1, use2, use3, split, split3, join, fsplit, fsplit3, fjoin, fjoin3, fpick, fpack, pick, learn, check, each, assume, suffices, await, rewrite, feq_i, flt_i, done, show, frame, settle}
+pub use types.Kit.{mean, ‵, raw, ◌⊛◌, some, given, later, at_ret, any_q, ◌$◌, ◌∵◌, !, qed, by}
+pub use types.Kit.{move, keep, drop, use0, use1, use2, use3, split, split3, join, fsplit, fsplit3, fjoin, fjoin3, fpick, fpack, pick, learn, check, each, assume, suffices, await, rewrite, feq_i, flt_i, done, show, frame, settle}
 pub use types.Run.{switches, stop, from, fld, hop, load, addr, lit, unit_lit, size_word, align_word, of_opd, bin, no_more, and_then, first, blocks, exec, Calls-last, returns, enter, assigns_last, assigns, look, look_raw, store, store_raw, init, switches_on}
 pub use types.ByLocal.{alloc_all, pass_all, free_all, look_at, look_in_at, get, get_in, get_tag, through, sets, sets_last, lands_as, lands_last, is, env}
 pub use types.Match.{live, vrt, in_variant}
@@ -57,11 +58,12 @@ pub use Rattle.std.proofs.cell.Inside.{Good-round, one, spread, gather}
 pub use Rattle.atomic_table.specs.Seated.{word, row}
 pub use Rattle.atomic_table.proofs.Walks.{proved, proved_at, leaves}
 pub use Rattle.atomic_table.proofs.Calls.{fm, seq_cst, found, stored, finds, has_stored, loads, stores, adds, subs, ors, ands, exchanges}
-pub use Rattle.mem_blocks.specs.Web.{Content, Home, Hand, Block, Sitter, step, sitter, alive_at, away, vacant, full, block, Lives, Rests, AllVacant, word_of, with_word, with_next, with_home, without, gone, if_unset, StaysIn, Allows, AllowsLink, CanFork, CanMerge, LastBlocks, LastBlocksBy, Act, blocks_after, sitter_after}
+pub use Rattle.mem_blocks.specs.Web.{Content, Home, Hand, Block, Sitter, step, sitter, alive_at, away, vacant, full, HoldsWord}
+pub use Rattle.mem_blocks.specs.Web.{block, Lives, Rests, AllVacant, word_of, with_word, with_next, with_home, without, gone, if_unset, StaysIn, Allows, AllowsLink, CanFork, CanMerge, LastBlocks, LastBlocksBy, Act, blocks_after, sitter_after}
 pub use Rattle.mem_blocks.specs.Seats.{Sits, Same}
-pub use Rattle.mem_blocks.specs.Laid.{WebId, age, Small, Sized, slots_at, content_owns, slot_owns, slots_own, hand_owns, edge, rim, hub_ty, hub_rooms, hub_rim, head_of, hub_size, block_owns, laid_owns, chain_owns, spare_owns, seat_owns, inside_owns, web_owns, block_ty, rooms}
+pub use Rattle.mem_blocks.specs.Laid.{WebId, age, Small, Sized, words_of, slots_at, content_owns, slot_owns, slots_own, hand_owns, edge, rim, hub_ty, hub_rooms, hub_rim, head_of, hub_size, block_owns, laid_owns, chain_owns, spare_owns, seat_owns, inside_owns, web_owns, block_ty, rooms}
 pub use mathlib.Core.Bool.{cond}
 pub use seplogic.Ra.Ura.{Ura}
-pub use Rattle.mem_blocks.specs.declared.sizes.TheConstants.{SLOTS}
+pub use Rattle.mem_blocks.specs.declared.sizes.TheConstants.{SLOTS, END_WORDS}
 pub use Rattle.mem_blocks.proofs.Made.{head, after, arm_body, ptr_good, blank_val, place_val, Blank, blank_told, blank_made, place_told, place_made, word_laws, full_product, ok_of, err_of}
 pub use Rattle.mem_blocks.proofs.Stepping.{spent, lent_back, enters_at, tells, numbers, blank, puts_back, gives_back, spends, alone, takes_ref, takes_step, opens_ref, closes_ref, shuts_ref, begins_step, ends_step}

@@ -3,18 +3,14 @@
 -- What is lent lies in an invariant: each block that joined and did not leave, with its slots at home, the rule, and one part in four of each view. The seat has the other three.
 use Rattle.std.specs.Prelude.{◌≡◌, ℕ, ◌+◌, ◌*◌, ◌^◌, ◌<◌, ◌≤◌, Bool, true, false, List, [], ◌∷◌, length, Option, Some, None}
 use Rattle.std.specs.Sync.RawAtomic.Pointer.{cell}
-use base.Fraction.{full_share}
-use base.Share.{three_quarters}
-use base.Stored.{Gv}
+use base.{Fraction.full_share, Stored.Gv, Share.three_quarters}
 use base.Fml.{Lft, Fml, ftrue, fsep, fex, fwand, froom, fbor, flent, flft, fshr_bor, finv}
 use mir.Syntax.{Ty, w64, ty_ptr, ty_int, ty_array, ty_struct, tcons, tnil}
 use mir.Raw.{raw}
 use prog.Memory.{size, up, align}
-use denote.RattleType.{RattleType}
-use denote.Memory.{mem, lone, part_at}
-use denote.RawPtr.{Ptr, block_ptr, block_of, count_of, InBlock}
+use denote.{RattleType.RattleType, Memory.mem, Memory.lone, Memory.part_at, RawPtr.Ptr, RawPtr.block_ptr, RawPtr.block_of, RawPtr.count_of, RawPtr.InBlock}
 use Rattle.atomic_table.specs.Seated.{fact, row, seen, roster}
-use Rattle.mem_blocks.specs.{Web.Content, Web.Home, Web.Hand, Web.Block, Web.State, Web.Sitter, declared.sizes.TheConstants.SLOTS}
+use Rattle.mem_blocks.specs.{Web.Content, Web.Home, Web.Hand, Web.Block, Web.State, Web.Sitter, declared.sizes.TheConstants.SLOTS, declared.sizes.TheConstants.END_WORDS}
 
 -- The name of the views, and the web's lifetime.
 abbrev pub WebId : Type 0
@@ -23,17 +19,17 @@ WebId = ℕ × ℕ
 abbrev pub age : WebId → Lft
 age z = z.1 ∷ []
 
--- The link and the words that each block begins with.
-abbrev pub node_ty : Ty
-node_ty = ty_struct [] (tcons ty_ptr (tcons (ty_array (ty_int w64) SLOTS) tnil))
+-- The link and the n words that a block or an end begins with.
+abbrev pub node_ty : ℕ → Ty
+node_ty n = ty_struct [] (tcons ty_ptr (tcons (ty_array (ty_int w64) n) tnil))
 
--- The room of a link and of a row of words, at the offset o.
-abbrev pub node_rooms : ℕ → ℕ → Fml
-node_rooms b o = fsep (froom ty_ptr b (o + 0)) (fsep (froom (ty_array (ty_int w64) SLOTS) b (o + 8)) ftrue)
+-- The room of a link and of a row of n words, at the offset o.
+abbrev pub node_rooms : ℕ → ℕ → ℕ → Fml
+node_rooms n b o = fsep (froom ty_ptr b (o + 0)) (fsep (froom (ty_array (ty_int w64) n) b (o + 8)) ftrue)
 
 -- Two nodes side by side, the tail end and the head end of a queue.
 abbrev pub hub_ty : Ty
-hub_ty = ty_struct [] (tcons node_ty (tcons node_ty tnil))
+hub_ty = ty_struct [] (tcons (node_ty END_WORDS) (tcons (node_ty END_WORDS) tnil))
 
 -- How many bytes the two ends take.
 abbrev pub hub_size : ℕ
@@ -41,18 +37,23 @@ hub_size = size hub_ty
 
 -- Where the head end lies, if the tail end lies at p.
 abbrev pub head_of : Ptr → Ptr
-head_of p = block_ptr (block_of p) (count_of p + (8 + SLOTS * 8))
+head_of p = block_ptr (block_of p) (count_of p + (8 + END_WORDS * 8))
 
 abbrev pub hub_rooms : ℕ → ℕ → Fml
-hub_rooms b o = fsep (node_rooms b o) (fsep (node_rooms b (o + (8 + SLOTS * 8))) ftrue)
+hub_rooms b o = fsep (node_rooms END_WORDS b o) (fsep (node_rooms END_WORDS b (o + (8 + END_WORDS * 8))) ftrue)
 
 -- The right to make one room of the parts of both ends, and to free it.
 abbrev pub hub_rim : (Ty → Ptr → Fml) → Ptr → Fml
 hub_rim token p = fsep (fwand (hub_rooms (block_of p) (count_of p)) (froom (raw hub_ty) (block_of p) (count_of p))) (token (raw hub_ty) p)
 
+-- How many words a block has: an end, which has no slots, has fewer.
+abbrev pub words_of : {S : Type 0} → List (Home S) → ℕ
+words_of [] = END_WORDS
+words_of (h ∷ hs) = SLOTS
+
 module _ (R : RattleType) where
   abbrev pub block_ty : Ty
-  block_ty = ty_struct [] (tcons node_ty (tcons (ty_array (lone R.mir) SLOTS) tnil))
+  block_ty = ty_struct [] (tcons (node_ty SLOTS) (tcons (ty_array (lone R.mir) SLOTS) tnil))
 
   abbrev pub Small : Type 0
   Small = (mem R).size < 2 ^ 31
@@ -76,10 +77,10 @@ module _ (R : RattleType) where
 
   -- The room of the parts of a block at the offset o.
   abbrev pub rooms : ℕ → ℕ → Fml
-  rooms b o = fsep (node_rooms b o) (fsep (froom (ty_array (raw (lone R.mir)) SLOTS) b (slots_at o)) ftrue)
+  rooms b o = fsep (node_rooms SLOTS b o) (fsep (froom (ty_array (raw (lone R.mir)) SLOTS) b (slots_at o)) ftrue)
 
   abbrev pub Sized : Block R.Denot → Type 0
-  Sized x = InBlock x.at × Small × (length x.words ≡ SLOTS) × (length x.homes ≤ SLOTS)
+  Sized x = InBlock x.at × Small × (length x.words ≡ words_of x.homes) × (length x.homes ≤ SLOTS)
 
   abbrev pub hand_owns : Option (Hand R.Denot) → Fml
   hand_owns None = ftrue

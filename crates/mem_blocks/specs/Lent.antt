@@ -2,11 +2,7 @@
 use Rattle.std.specs.Prelude.{ℕ, ◌+◌, Bool, true, false, List, [], ◌∷◌, Some, None}
 use base.Fml.{Lft, Share, Fml, fat}
 use mir.Syntax.{ty_ptr}
-use denote.RattleType.{RattleType}
-use denote.Memory.{mem}
-use denote.RawPtr.{Ptr, block_ptr, block_of, count_of, ptr_val}
-use denote.Sharing.{nothing, said, one, beside}
-use denote.Struct.Lending.{lent_at}
+use denote.{RattleType.RattleType, Memory.mem, Struct.Lending.lent_at, Sharing.nothing, Sharing.said, Sharing.one, Sharing.beside, RawPtr.Ptr, RawPtr.block_ptr, RawPtr.block_of, RawPtr.count_of, RawPtr.ptr_val}
 use Rattle.atomic_table.specs.Seated.{fact}
 use Rattle.mem_blocks.specs.{Web.Content, Web.Home, Web.Block, Laid.Sized, Laid.slots_at}
 

@@ -103,6 +103,10 @@ module _ {S : Type 0} where
   abbrev pub Lives : List (Block S) → ℕ → Ptr → Type 0
   Lives bs k p = ((block bs k).alive ≡ true) × ((block bs k).at ≡ p)
 
+  -- It is, and has the word i.
+  abbrev pub HoldsWord : List (Block S) → ℕ → Ptr → ℕ → Type 0
+  HoldsWord bs k p i = Lives bs k p × (i < length (block bs k).words)
+
   abbrev pub word_of : List (Block S) → ℕ → ℕ → ℕ
   word_of bs k i = slice_index_or (block bs k).words i 0
 
@@ -191,10 +195,10 @@ module _ {S V : Type 0} where
     abbrev pub StaysIn : Ptr → Type 0
     StaysIn p = (s : State S V) → holds s → (k : ℕ) × Lives s.blocks k p
 
-    -- Whatever the web is where the seat id has the seat's view, some block of it lies at p, and the step may turn the block's word i into f of what it was.
+    -- Whatever the web is where the seat id has the seat's view, some block of it lies at p and has the word i, which the step may turn into f of what it was.
     abbrev pub Allows : ℕ → Sitter S V → Ptr → ℕ → (ℕ → ℕ) → (ℕ → Sitter S V → Type 0) → Type 0
     Allows id m p i f then = (s : State S V) → holds s → get_elem? s.views id ≡ some m.view
-        → (k : ℕ) × Lives s.blocks k p × (let n : ℕ = word_of s.blocks k i in n < 18446744073709551616 → KeepsRule s (with_word s.blocks k i (f n)) id m (then n))
+        → (k : ℕ) × HoldsWord s.blocks k p i × (let n : ℕ = word_of s.blocks k i in n < 18446744073709551616 → KeepsRule s (with_word s.blocks k i (f n)) id m (then n))
 
     -- The same of the block's link, which can be compared with null.
     abbrev pub AllowsLink : ℕ → Sitter S V → Ptr → (Ptr → Ptr) → (Ptr → Sitter S V → Type 0) → Type 0

@@ -1,13 +1,12 @@
 // Blocks with one owner, which reads and writes them as plain memory.
-ghost use Rattle.std.specs.Prelude.{◌≡◌, ◌<◌, ℕ, List, [], ◌∷◌, ◌++◌, take, drop, None, Some};
+ghost use Rattle.std.specs.Prelude.{◌≡◌, ℕ, List, [], ◌∷◌, ◌++◌, take, drop, None, Some};
 ghost use base.Stored.{coded_list};
 ghost use denote.RawPtr.{InBlock};
-ghost use Rattle.mem_blocks.specs.Web.{Block, block_coded, block, alive_at, sitter, vacant, full, Lives, Rests, word_of, with_word, with_next, with_home, without, AllGone};
+ghost use Rattle.mem_blocks.specs.Web.{Block, block_coded, block, alive_at, sitter, vacant, full, Lives, HoldsWord, Rests, word_of, with_word, with_next, with_home, without, AllGone};
 ghost use Rattle.mem_blocks.specs.Laid.{chain_owns};
 ghost use Rattle.mem_blocks.specs.Lent.{chain_lent};
 
 use crate::block::{Block, BlockPtr, Loose};
-use crate::sizes::SLOTS;
 use crate::web::{Seat, Web, WebRule};
 use std::alloc::Allocator;
 use std::marker::{Model, PhantomData};
@@ -76,7 +75,7 @@ impl<S, A: Allocator> Chain<S, A> {
     /// Reads a word.
     #[inline(always)]
     pub fn word(&mut self, number: u64, link: BlockPtr<S>, word: usize) -> u64
-        requires { InBlock link.ptr × (word < SLOTS) × Lives self.old.blocks number link.ptr }
+        requires { InBlock link.ptr × HoldsWord self.old.blocks number link.ptr word }
         ensures { (self.new ≡ self.old) × (result ≡ word_of self.old.blocks number word) }
     {
         unsafe {
@@ -89,7 +88,7 @@ impl<S, A: Allocator> Chain<S, A> {
     /// Writes a word.
     #[inline(always)]
     pub fn set_word(&mut self, number: u64, link: BlockPtr<S>, word: usize, new: u64)
-        requires { InBlock link.ptr × (word < SLOTS) × Lives self.old.blocks number link.ptr }
+        requires { InBlock link.ptr × HoldsWord self.old.blocks number link.ptr word }
         ensures { (self.new.heap ≡ self.old.heap) × (self.new.blocks ≡ with_word self.old.blocks number word new) }
     {
         unsafe {

@@ -4,7 +4,7 @@ ghost use denote.RawPtr.{Ptr, InBlock, null_ptr, coded_ptr};
 ghost use Rattle.mem_blocks.specs.Laid.{Small, head_of, hub_rim, hub_size};
 
 use crate::block::{BlockPtr, Loose, Node, is_small};
-use crate::sizes::SLOTS;
+use crate::sizes::END_WORDS;
 use std::alloc::{AllocError, Allocator};
 use std::marker::{Model, PhantomData};
 use std::mem::{align_of, size_of};
@@ -18,11 +18,18 @@ pub const PARTIES: usize = 1;
 /// The word of the head that holds its position.
 pub const HEAD: usize = 0;
 
-// The ends lie as far from each other as a block's words reach, so a push and a pop write to distant memory.
+// An end begins as a block does, and has fewer words.
+#[repr(C)]
+pub struct EndNode<S> {
+    pub(crate) next: *mut Node<S>,
+    pub(crate) words: [u64; END_WORDS],
+}
+
+// What a push writes and what a pop writes lie two lines of a cache apart.
 #[repr(C)]
 pub struct EndNodes<S> {
-    pub(crate) tail: Node<S>,
-    pub(crate) head: Node<S>,
+    pub(crate) tail: EndNode<S>,
+    pub(crate) head: EndNode<S>,
 }
 
 /// The right to free the ends at `at`, once both are back. It has no bytes.
@@ -53,8 +60,8 @@ impl<S, A: Allocator> Hub<S, A> {
     >
         requires { Small S.row × (size ≡ hub_size) }
         ensures hub { IfOk result (λ r. (r.0.heap ≡ alloc.now) × (r.0.at ≡ r.1.ptr) × InBlock r.1.ptr × (r.3.ptr ≡ head_of r.1.ptr)) }
-        ensures tail { IfOk result (λ r. (r.2.heap ≡ alloc.now) × (r.2.at ≡ r.1.ptr) × (r.2.next ≡ null_ptr) × (r.2.words ≡ replicate SLOTS 0) × (r.2.homes ≡ [])) }
-        ensures head { IfOk result (λ r. (r.4.heap ≡ alloc.now) × (r.4.at ≡ r.3.ptr) × (r.4.next ≡ null_ptr) × (r.4.words ≡ replicate SLOTS 0) × (r.4.homes ≡ [])) }
+        ensures tail { IfOk result (λ r. (r.2.heap ≡ alloc.now) × (r.2.at ≡ r.1.ptr) × (r.2.next ≡ null_ptr) × (r.2.words ≡ replicate END_WORDS 0) × (r.2.homes ≡ [])) }
+        ensures head { IfOk result (λ r. (r.4.heap ≡ alloc.now) × (r.4.at ≡ r.3.ptr) × (r.4.next ≡ null_ptr) × (r.4.words ≡ replicate END_WORDS 0) × (r.4.homes ≡ [])) }
     {
         match alloc.allocate(size, align_of::<EndNodes<S>>()) {
             Ok(room) => {
@@ -63,18 +70,22 @@ impl<S, A: Allocator> Hub<S, A> {
                 let head = unsafe { &raw mut (*ends).head };
                 unsafe {
                     (&raw mut (*tail).next).write(std::ptr::null_mut());
-                    (&raw mut (*tail).words).write([0; SLOTS]);
+                    (&raw mut (*tail).words).write([0; END_WORDS]);
                     (&raw mut (*head).next).write(std::ptr::null_mut());
-                    (&raw mut (*head).words).write([0; SLOTS]);
+                    (&raw mut (*head).words).write([0; END_WORDS]);
                 }
                 let marker = PhantomData;
                 Ok((
                     Hub {
                         marker: PhantomData,
                     },
-                    BlockPtr { ptr: tail },
+                    BlockPtr {
+                        ptr: tail as *mut Node<S>,
+                    },
                     Loose { marker },
-                    BlockPtr { ptr: head },
+                    BlockPtr {
+                        ptr: head as *mut Node<S>,
+                    },
                     Loose { marker },
                 ))
             }
@@ -97,8 +108,8 @@ impl<S, A: Allocator> Hub<S, A> {
         AllocError,
     >
         ensures hub { IfOk result (λ r. (r.0.heap ≡ alloc.now) × (r.0.at ≡ r.1.ptr) × InBlock r.1.ptr × (r.3.ptr ≡ head_of r.1.ptr)) }
-        ensures tail { IfOk result (λ r. (r.2.heap ≡ alloc.now) × (r.2.at ≡ r.1.ptr) × (r.2.next ≡ null_ptr) × (r.2.words ≡ replicate SLOTS 0) × (r.2.homes ≡ [])) }
-        ensures head { IfOk result (λ r. (r.4.heap ≡ alloc.now) × (r.4.at ≡ r.3.ptr) × (r.4.next ≡ null_ptr) × (r.4.words ≡ replicate SLOTS 0) × (r.4.homes ≡ [])) }
+        ensures tail { IfOk result (λ r. (r.2.heap ≡ alloc.now) × (r.2.at ≡ r.1.ptr) × (r.2.next ≡ null_ptr) × (r.2.words ≡ replicate END_WORDS 0) × (r.2.homes ≡ [])) }
+        ensures head { IfOk result (λ r. (r.4.heap ≡ alloc.now) × (r.4.at ≡ r.3.ptr) × (r.4.next ≡ null_ptr) × (r.4.words ≡ replicate END_WORDS 0) × (r.4.homes ≡ [])) }
     {
         if is_small::<S>() {
             Hub::reserve(alloc, size_of::<EndNodes<S>>())

@@ -9,7 +9,7 @@ ghost use Rattle.mem_blocks.specs.Web.{step, sitter, if_unset, StaysIn, Allows, 
 
 use crate::block::{BlockPtr, Node};
 use crate::operation::{LinkOperation, Operation};
-use crate::sizes::SLOTS;
+use crate::sizes::{END_WORDS, SLOTS};
 use crate::web::{LinkPlay, Play, Seat, Web, WebRule};
 use crate::word::operate;
 use atomic_table::{Join, Split};
@@ -62,10 +62,10 @@ impl<S, V, K, P: WebRule<S, V, K>, A: Allocator> Web<S, V, K, P, A> {
         self.operate::<M>(seat, link, word, Operation::Load, 0, 0)
     }
 
-    /// Reads a word of a block that never leaves the web. It needs no seat, and tells nothing of what it found.
+    /// Reads one of the first words of a block that never leaves the web. It needs no seat, and tells nothing of what it found.
     #[inline(always)]
     pub fn peek(&self, link: BlockPtr<S>, word: usize) -> u64
-        requires there { InBlock link.ptr × (word < SLOTS) }
+        requires there { InBlock link.ptr × (word < END_WORDS) }
         requires stays { StaysIn (P.holds self.now.key) link.ptr }
     {
         unsafe {

@@ -1,26 +1,15 @@
 -- The machine values of a handle that C keeps. Assumes `Logic`.
 use Rattle.std.proofs.Common.{◌≡◌, ℕ, List, [], ◌∷◌, ◌++◌, refl, subst, lit<}
 use seplogic.Ra.Ura.{Ura}
-use mir.Syntax.{impl, tnil, dnil}
-use mir.Raw.{raw as bare}
+use mir.{Syntax.impl, Syntax.tnil, Syntax.dnil, Raw.raw as bare, Val.Val, Val.vstruct, Val.of_list, Val.has_ty, Val.WT}
 use mathlib.Core.Bool.{true, ◌&&◌}
 use lib.Dec.{T}
-use mir.Val.{Val, vstruct, of_list, has_ty, WT}
-use base.Fraction.{full_share}
-use base.Logic.{ent, guard, guard_i, via, snd∗}
-use base.Fml.{ftrue}
+use base.{Fraction.full_share, Fml.ftrue, Logic.ent, Logic.guard, Logic.guard_i, Logic.via, Logic.snd∗}
 use types.Logic.{Logic, sem}
 use types.Kit.{Item, Goal, Seq, Step, step, ‵, given, ◌$◌, move, drop, fsplit, fjoin, fpick, fpack, feq_i, feq_l, use1, learn}
 use contract.Monad.{fact_use}
-use denote.RattleType.{RattleType, Valss}
-use denote.Builtin.{RawPtr}
-use denote.Memory.{lone}
+use denote.{RattleType.RattleType, RattleType.Valss, Builtin.RawPtr, Memory.lone, Steps.nothing, Param.layout, Param.Laws.Laws, Struct.Struct.within, Struct.Owning.shape}
 use denote.RawPtr.{Ptr, block_ptr, null_ptr, ptr_val, Testable, lies_at}
-use denote.Steps.{nothing}
-use denote.Param.{layout}
-use denote.Param.Laws.{Laws}
-use denote.Struct.Struct.{within}
-use denote.Struct.Owning.{shape}
 use Rattle.core.proofs.{alloc.Calls.Al, alloc.Calls.handle_tells, cell.Inside.Good}
 use Rattle.std.specs.{declared.option.Option.TheVariants.None, declared.option.Option.TheVariants.Some, contracts.impls.GlobalAllocator.TheImpl.ghosts, contracts.option.Option.the_row as option_row}
 use Rattle.std.specs.contracts.alloc.Global as heap
@@ -29,8 +18,7 @@ use Rattle.std.proofs.GlobalToken.{dealloc_token-Testable}
 use Rattle.std_alloc.proofs.ResultValues.{and_tt}
 use Rattle.queue_c.specs.contracts.handle.Handle as handle
 use Rattle.queue_c.specs.contracts.end.End as end
-use Rattle.queue_c.specs.Held.{boxed, held}
-use Rattle.queue_c.proofs.Values.{both}
+use Rattle.queue_c.{specs.Held.boxed, specs.Held.held, proofs.Values.both}
 
 abbrev pub Z : RattleType
 Z = heap.the_row

@@ -1,7 +1,6 @@
 -- A split that is done, and one that is refused.
 use Rattle.std.proofs.Common.{◌≡◌, ℕ, true, sym, subst}
-use Rattle.std.specs.{Prelude.Option, Prelude.Some, Prelude.None, Prelude.Ok, Prelude.Err, Option.is_none}
-use Rattle.std.proofs.lemmas.Bool.{false≢true}
+use Rattle.std.{specs.Prelude.Option, specs.Prelude.Some, specs.Prelude.None, specs.Prelude.Ok, specs.Prelude.Err, specs.Option.is_none, proofs.lemmas.Bool.false≢true}
 use Rattle.queue_c.specs.{declared.end.End.End, declared.end.Refusal.Refusal, Ends.SplitsEnd, Handles.refusal_number, Handles.split_number, Handles.Splits}
 
 pub refused : (party out out' after : Option End) (n : ℕ) (e f : End) (why : Refusal)

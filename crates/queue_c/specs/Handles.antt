@@ -2,7 +2,8 @@
 use Rattle.std.specs.Prelude.{◌≡◌, ℕ, Option, Some, None, Result, Ok, Err}
 use Rattle.std.specs.{Result.result_ok, Arc.arc_value}
 use Rattle.queue_steps.specs.declared.model.Call.{Call}
-use Rattle.queue_c.specs.{declared.answers.Answer.Answer, declared.answers.Answer.Answer as answer, declared.end.End.End, declared.end.Refusal.Refusal, declared.end.Refusal.Refusal as refusal, declared.end.Finished.Finished, declared.end.Finished.Finished as finished, Answers.number_of, Answers.written, Ends.IsNew, Ends.Takes, Ends.Resumes, Ends.SplitsEnd, Ends.FinishesEnd}
+use Rattle.queue_c.specs.declared.{answers.Answer.Answer, answers.Answer.Answer as answer, end.End.End, end.Refusal.Refusal, end.Refusal.Refusal as refusal, end.Finished.Finished, end.Finished.Finished as finished}
+use Rattle.queue_c.specs.{Answers.number_of, Answers.written, Ends.IsNew, Ends.Takes, Ends.Resumes, Ends.SplitsEnd, Ends.FinishesEnd}
 use Rattle.queue_c.specs.Numbers.{DONE, YES, NO_MEMORY, NO_PARTY, TAKEN, TOO_MANY, SHARED, LOST, BUSY}
 
 -- a new queue of this capacity: its first party is in the handle, which had none; or nothing is changed

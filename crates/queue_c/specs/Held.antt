@@ -1,7 +1,6 @@
 -- What a handle owns that C keeps: nothing at null, and else a box with a party or none, whose address can be compared with null.
 use base.Fml.{Fml, ftrue, fsep, fex}
-use denote.RattleType.{RattleType}
-use denote.RawPtr.{Ptr, block_ptr, null_ptr, Testable}
+use denote.{RattleType.RattleType, RawPtr.Ptr, RawPtr.block_ptr, RawPtr.null_ptr, RawPtr.Testable}
 use Rattle.std.specs.{Prelude.Option, Prelude.Some, Prelude.None, contracts.option.Option.the_row as option_row, declared.alloc.Global.Global, contracts.impls.GlobalAllocator.TheImpl.ghosts}
 use Rattle.std_alloc.specs.Box.Ownership.{box_owns}
 

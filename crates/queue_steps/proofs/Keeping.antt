@@ -1,7 +1,8 @@
 -- What the effects keep, and what the one-owner table keeps.
 use Rattle.std.specs.Prelude.{◌≡◌, ◌⊎◌, ℕ, ◌+◌, ◌-◌, ◌≤◌, Bool, true, false, not, ◌&&◌, ◌==◌, List, [], ◌∷◌, ◌++◌, length, Option, Some, None, if◌then◌else◌, nat_eq}
 use Rattle.std.proofs.Common.{refl, inl, inr, ap, ◌∙◌, arith, length-append}
-use Rattle.queue_steps.specs.{declared.sizes.TheConstants.LIMIT, declared.model.Effect.Effect, declared.model.Effect.Effect as effect, declared.model.Call.Call, declared.model.Call.Call as call, State.State, State.start, State.is_slot_cap, State.fills, State.is_full, Effect.Fits, Effect.made, Effect.rest, Effect.with_coming, Effect.Runs, Effect.after_from, Laws.StaysClosed, Laws.StaysWithin, Legal.IsSound, Legal.IsWithin, Legal.KeepsSound}
+use Rattle.queue_steps.specs.declared.{sizes.TheConstants.LIMIT, model.Effect.Effect, model.Effect.Effect as effect, model.Call.Call, model.Call.Call as call}
+use Rattle.queue_steps.specs.{State.State, State.start, State.is_slot_cap, State.fills, State.is_full, Laws.StaysClosed, Laws.StaysWithin, Legal.IsSound, Legal.IsWithin, Legal.KeepsSound, Effect.Fits, Effect.made, Effect.rest, Effect.with_coming, Effect.Runs, Effect.after_from}
 use Rattle.queue_steps.proofs.TableCases.{table_cases}
 use Rattle.queue_steps.specs.Sequential.{Owned, HoldsBlocks, moved, spanned, blocks_of, sequential_state, is_spent, shut, appended, displaced}
 

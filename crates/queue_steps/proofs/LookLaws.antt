@@ -1,7 +1,9 @@
 -- Which replies a call that changes nothing may have: it has no effect, and answers what the state shows.
 use Rattle.std.proofs.Common.{◌≡◌, ◌==◌, ℕ, List, [], ◌∷◌, length, Option, Some, None, refl, sym, ap, ◌∙◌, subst, arith, Bool, true, false}
 use Rattle.std.proofs.lemmas.Bool.{ne_eqb}
-use Rattle.queue_steps.specs.{State.State, Replies.is_empty, Replies.IsRightAt, Replies.Tells, Kinds.call_value, Kinds.filled, Sequential.sequential_reply, Sequential.sequential_state, Looks.IsLook, Looks.IsGlance, Looks.IsCount, Looks.is_wait_free, Looks.look_reply, Looks.call_of_look, Looks.reply_of_look, declared.model.Call.Call, declared.model.Call.Call as call, declared.model.Reply.Reply, declared.model.Reply.Reply as reply, declared.model.Effect.Effect, declared.steps.looks.Look.Look, declared.steps.looks.Look.Look as look}
+use Rattle.queue_steps.specs.{State.State, Kinds.call_value, Kinds.filled, Sequential.sequential_reply, Sequential.sequential_state, Replies.is_empty, Replies.IsRightAt, Replies.Tells}
+use Rattle.queue_steps.specs.Looks.{IsLook, IsGlance, IsCount, is_wait_free, look_reply, call_of_look, reply_of_look}
+use Rattle.queue_steps.specs.declared.{model.Call.Call, model.Call.Call as call, model.Reply.Reply, model.Reply.Reply as reply, model.Effect.Effect, steps.looks.Look.Look, steps.looks.Look.Look as look}
 
 module _ {T : Type 0} where
   -- its reply stands for no effect

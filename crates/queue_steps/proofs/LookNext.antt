@@ -1,6 +1,9 @@
 -- A call that changes nothing takes such steps alone.
 use Rattle.std.specs.Prelude.{ℕ, ◌-◌, ◌==◌, Bool, true, false, refl, Some, None, if◌then◌else◌}
-use Rattle.queue_steps.specs.{declared.model.Call.Call, declared.model.Call.Call as call, declared.steps.types.Answer.Answer, declared.steps.types.Answer.Answer as answer, declared.steps.types.Kind.Kind, declared.steps.types.Kind.Kind as kind, declared.steps.types.Local.Local, declared.steps.types.Local.Local as local, declared.steps.slot.SlotLocal.SlotLocal as slot, declared.steps.ring.RingLocal.RingLocal as ring, declared.steps.ring.RingLocal.RingLocal, declared.steps.types.Word.Word as word, declared.model.Reply.Reply, declared.steps.looks.Look.Look, declared.steps.chain.ChainLocal.ChainLocal, declared.steps.chain.ChainLocal.ChainLocal as chain, Words.position_of, Words.is_shut, ChainWords.items_before, ChainNext.chain_next, ChainNext.FitsChain, RingNext.ends, RingNext.loads, RingNext.ring_next, RingNext.FitsRing, Looks.IsLook, Looks.reply_of_look, Next.CanNext, Next.next_of, Next.first_local, LookNext.IsLookLocal, LookNext.IsLookNext}
+use Rattle.queue_steps.specs.{declared.model.Call.Call, declared.model.Call.Call as call, declared.model.Reply.Reply, RingNext.ends, RingNext.loads, RingNext.ring_next, RingNext.FitsRing}
+use Rattle.queue_steps.specs.declared.steps.types.{Answer.Answer, Answer.Answer as answer, Kind.Kind, Kind.Kind as kind, Local.Local, Local.Local as local, Word.Word as word}
+use Rattle.queue_steps.specs.declared.steps.{slot.SlotLocal.SlotLocal as slot, looks.Look.Look, ring.RingLocal.RingLocal as ring, ring.RingLocal.RingLocal, chain.ChainLocal.ChainLocal, chain.ChainLocal.ChainLocal as chain}
+use Rattle.queue_steps.specs.{Words.position_of, Words.is_shut, ChainWords.items_before, Looks.IsLook, Looks.reply_of_look, LookNext.IsLookLocal, LookNext.IsLookNext, ChainNext.chain_next, ChainNext.FitsChain, Next.CanNext, Next.next_of, Next.first_local}
 use Rattle.queue_steps.specs.ChainNext as unbounded
 
 pub look_next-first : (B : Type 0) (k : Kind) (c : Call Unit) → IsLook c → IsLookNext (next_of {B = B} k (first_local c) answer.Start)

@@ -2,10 +2,8 @@
 use Rattle.std.proofs.Common.{◌≡◌, ℕ, zero, suc, ◌+◌, ◌<◌, ◌≤◌, ◌≢◌, List, [], ◌∷◌, ◌++◌, length, refl, ap, sym, ◌∙◌, subst, append_assoc, length-append, arith}
 use Rattle.std.specs.List.{All, AllPairs, Contains}
 use Rattle.std.proofs.lemmas.{List.Elements.All-nil, List.Elements.All-cons, List.Elements.All-weaker, List.Elements.All-contains, List.Kept.AllPairs-cons, Map.Made.Contains-tail}
-use mathlib.Core.Logic.{dite}
+use mathlib.Core.{Logic.dite, List.IsPrefix, Option.some, Option.some-injective, Option.some-ne-none}
 use native.Mathlib.Decide.{ℕ_discrete}
-use mathlib.Core.Option.{some, some-injective, some-ne-none}
-use mathlib.Core.List.{IsPrefix}
 use lib.ListN.{get_elem?}
 use Rattle.queue_steps.specs.{declared.model.Effect.Effect, Parties.StandAt}
 

@@ -1,6 +1,8 @@
 -- A call whose effects stand one after another, with nothing of another call between them, is a call of the one-owner table.
 use Rattle.std.proofs.Common.{◌≡◌, ◌⊎◌, ℕ, ◌+◌, ◌==◌, ◌&&◌, true, false, not, if◌then◌else◌, Some, None, Ok, Err, List, [], ◌∷◌, refl, sym, ap, subst, ⊎_elim, arith, inl, inr}
-use Rattle.queue_steps.specs.{declared.sizes.TheConstants.LIMIT, State.State, State.is_full, State.is_slot_cap, State.IsBelow, Effect.Runs, Effect.after_from, Legal.IsShown, Replies.IsRightAt, Replies.LacksMemory, Replies.Allows, Replies.Tells, Sequential.owner_table, Sequential.is_spent, Sequential.counted, declared.model.Call.Call, declared.model.Call.Call as call, declared.model.Reply.Reply, declared.model.Reply.Reply as reply, declared.model.Effect.Effect, declared.model.Effect.Effect as effect, declared.errors.PopError.PopError as pop, declared.errors.PushError.PushError as push, declared.errors.ForcePushError.ForcePushError as force}
+use Rattle.queue_steps.specs.declared.{sizes.TheConstants.LIMIT, errors.PopError.PopError as pop, errors.PushError.PushError as push, errors.ForcePushError.ForcePushError as force}
+use Rattle.queue_steps.specs.declared.model.{Call.Call, Call.Call as call, Reply.Reply, Reply.Reply as reply, Effect.Effect, Effect.Effect as effect}
+use Rattle.queue_steps.specs.{State.State, State.is_full, State.is_slot_cap, State.IsBelow, Effect.Runs, Effect.after_from, Legal.IsShown, Sequential.owner_table, Sequential.is_spent, Sequential.counted, Replies.IsRightAt, Replies.LacksMemory, Replies.Allows, Replies.Tells}
 use Rattle.queue_steps.proofs.{TableCases.at_shut, TableCases.at_spent, TableCases.at_full, TableCases.at_room, LookLaws.look_tells, LookLaws.look_right}
 
 -- the count agrees, but for a queue of one slot

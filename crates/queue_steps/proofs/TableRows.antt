@@ -1,7 +1,9 @@
 -- Each line of the one-owner table stands in a history.
 use Rattle.std.specs.Prelude.{◌≡◌, ◌⊎◌, ℕ, ◌+◌, ◌<◌, ◌≤◌, Bool, true, false, not, ◌&&◌, ◌==◌, List, [], ◌∷◌, ◌++◌, length, Option, Some, None, Ok, Err, if◌then◌else◌}
 use Rattle.std.proofs.Common.{refl, sym, inl, inr, ap, ◌∙◌, arith}
-use Rattle.queue_steps.specs.{declared.sizes.TheConstants.LIMIT, declared.model.Effect.Effect as effect, State.State, State.is_slot_cap, State.fills, State.is_full, Effect.rest, Replies.Allows, Replies.LacksMemory, Replies.Tells, Looks.look_reply, Sequential.owner_table, Sequential.is_spent, Sequential.shut, Sequential.appended, Sequential.displaced, Sequential.front, Sequential.pop_result, declared.errors.PushError.PushError as push, declared.errors.ForcePushError.ForcePushError as force, Legal.IsSound, Legal.IsWithin, Legal.Stands, Legal.SequentialStands, declared.model.Call.Call, declared.model.Call.Call as call, declared.model.Reply.Reply, declared.model.Reply.Reply as reply}
+use Rattle.queue_steps.specs.declared.{sizes.TheConstants.LIMIT, model.Effect.Effect as effect, errors.PushError.PushError as push, errors.ForcePushError.ForcePushError as force, model.Call.Call, model.Call.Call as call, model.Reply.Reply, model.Reply.Reply as reply}
+use Rattle.queue_steps.specs.{State.State, State.is_slot_cap, State.fills, State.is_full, Effect.rest, Looks.look_reply, Replies.Allows, Replies.LacksMemory, Replies.Tells, Legal.IsSound, Legal.IsWithin, Legal.Stands, Legal.SequentialStands}
+use Rattle.queue_steps.specs.Sequential.{owner_table, is_spent, shut, appended, displaced, front, pop_result}
 use Rattle.queue_steps.proofs.TableCases.{table_cases}
 
 abbrev RowStands : {T : Type 0} → State T → Call T → Reply T × State T → Type 0

@@ -4,7 +4,9 @@ use Rattle.std.proofs.Common.{refl, sym, inl, inr, ap, ◌∙◌, subst, ⊎_eli
 use Rattle.std.specs.List.{Contains}
 use Rattle.std.proofs.lemmas.List.{append-nil, Elements.All-contains, Elements.Contains-append_cases}
 use mathlib.Core.List.{IsPrefix}
-use Rattle.queue_steps.specs.{declared.model.Effect.Effect, declared.model.Effect.Effect as effect, declared.model.Call.Call, declared.model.Call.Call as call, declared.model.Reply.Reply, declared.model.Reply.Reply as reply, declared.errors.PushError.PushError as push, declared.errors.ForcePushError.ForcePushError as force, State.State, State.start, Effect.made, Effect.Runs, Effect.after_from, Effect.after, Effect.IsHistory, Replies.LacksMemory, Replies.Allows, Sequential.sequential_state, Legal.IsShown, Shares.IsEntire, Parties.View, Parties.IsView, Parties.StandAt, Parties.Displaces, Parties.SharedCall, SequentialCalls.WholeCalls}
+use Rattle.queue_steps.specs.declared.{model.Effect.Effect, model.Effect.Effect as effect, model.Call.Call, model.Call.Call as call, model.Reply.Reply, model.Reply.Reply as reply, errors.PushError.PushError as push, errors.ForcePushError.ForcePushError as force}
+use Rattle.queue_steps.specs.{State.State, State.start, Sequential.sequential_state, SequentialCalls.WholeCalls, Legal.IsShown, Shares.IsEntire, Replies.LacksMemory, Replies.Allows, Effect.made, Effect.Runs, Effect.after_from, Effect.after, Effect.IsHistory}
+use Rattle.queue_steps.specs.Parties.{View, IsView, StandAt, Displaces, SharedCall}
 use Rattle.queue_steps.proofs.{Places.Fills, Places.first_place, Places.only_these, Rows.Does, Rows.does_row}
 
 module _ {T : Type 0} where

@@ -1,6 +1,11 @@
 -- The steps of a chain of blocks.
 use Rattle.std.specs.Prelude.{◌≡◌, ℕ, ◌+◌, ◌-◌, ◌*◌, ◌%◌, ◌<◌, ◌≤◌, Bool, false, not, bit_and, ◌==◌, Option, Some, None, Ok, Err, IsSome, is_some, nat_lt, if◌then◌else◌}
-use Rattle.queue_steps.specs.{declared.sizes.TheConstants.LIMIT, declared.sizes.TheConstants.BLOCK_SLOTS, declared.model.Call.Call, declared.model.Reply.Reply, declared.model.Reply.Reply as reply, declared.errors.PopError.PopError as pop, declared.errors.PushError.PushError as push, declared.errors.ForcePushError.ForcePushError as force, declared.steps.types.Answer.Answer, declared.steps.types.Answer.TheVariants.Found, declared.steps.types.Answer.TheVariants.Linked, declared.steps.types.Answer.TheVariants.Granted, declared.steps.types.Answer.TheVariants.Refused, declared.steps.types.Answer.TheVariants.Done, declared.steps.types.Link.Link as link, declared.steps.types.Local.Local as local, declared.steps.types.Next.Next, declared.steps.types.Next.Next as next, declared.steps.types.Op.Op, declared.steps.types.Op.Op as op, declared.steps.types.Touch.Touch, declared.steps.types.Touch.Touch as touch, declared.steps.types.Word.Word, declared.steps.types.Word.Word as word, declared.steps.ring.TheConstants.MARK, declared.steps.ring.TheConstants.TAIL_STEP, declared.steps.ring.PushKind.PushKind, declared.steps.ring.PushKind.PushKind as kind, declared.steps.chain.TheConstants.WRITE, declared.steps.chain.TheConstants.READ, declared.steps.chain.TheConstants.DESTROY, declared.steps.chain.ChainLocal.ChainLocal, declared.steps.chain.ChainLocal.ChainLocal as chain, declared.steps.looks.CallView.CallView, declared.steps.looks.CallView.CallView as view, declared.steps.looks.Look.Look, declared.steps.looks.Look.Look as look, Looks.call_view, Looks.reply_of_look, Words.IsWord, Words.position_of, Words.is_shut, ChainWords.block_at, ChainWords.offset_of, ChainWords.items_before, ChainWords.over_end, RingNext.closed_reply, RingNext.pushed_reply}
+use Rattle.queue_steps.specs.declared.{sizes.TheConstants.LIMIT, sizes.TheConstants.BLOCK_SLOTS, model.Call.Call, model.Reply.Reply, model.Reply.Reply as reply, errors.PopError.PopError as pop, errors.PushError.PushError as push, errors.ForcePushError.ForcePushError as force}
+use Rattle.queue_steps.specs.declared.steps.types.Answer.{Answer, TheVariants.Found, TheVariants.Linked, TheVariants.Granted, TheVariants.Refused, TheVariants.Done}
+use Rattle.queue_steps.specs.declared.steps.types.{Link.Link as link, Local.Local as local, Op.Op, Op.Op as op, Next.Next, Next.Next as next, Word.Word, Word.Word as word, Touch.Touch, Touch.Touch as touch}
+use Rattle.queue_steps.specs.declared.steps.{ring.TheConstants.MARK, ring.TheConstants.TAIL_STEP, ring.PushKind.PushKind, ring.PushKind.PushKind as kind, looks.CallView.CallView, looks.CallView.CallView as view, looks.Look.Look, looks.Look.Look as look}
+use Rattle.queue_steps.specs.declared.steps.chain.{TheConstants.WRITE, TheConstants.READ, TheConstants.DESTROY, ChainLocal.ChainLocal, ChainLocal.ChainLocal as chain}
+use Rattle.queue_steps.specs.{Looks.call_view, Looks.reply_of_look, RingNext.closed_reply, RingNext.pushed_reply, Words.IsWord, Words.position_of, Words.is_shut, ChainWords.block_at, ChainWords.offset_of, ChainWords.items_before, ChainWords.over_end}
 
 -- one step, after which the call waits at l
 abbrev pub at : {B : Type 0} → ChainLocal B → Touch → Op B → Next B

@@ -1,6 +1,8 @@
 -- The steps that a push and a pop take which find room, or an item, and meet no other call. The rest are steps like any other, and rare.
 use Rattle.std.specs.Prelude.{ℕ, ◌+◌, ◌==◌, Bool, true, false, not, ◌&&◌, ◌||◌, bit_and, Some, is_some, nat_lt}
-use Rattle.queue_steps.specs.{declared.sizes.TheConstants.LIMIT, declared.sizes.TheConstants.BLOCK_SLOTS, declared.steps.types.Kind.Kind, declared.steps.types.Kind.Kind as kind, declared.steps.types.Answer.Answer, declared.steps.types.Answer.TheVariants.Found, declared.steps.types.Answer.TheVariants.Linked, declared.steps.types.Answer.TheVariants.Granted, declared.steps.types.Answer.TheVariants.Done, declared.steps.types.Local.Local, declared.steps.types.Local.Local as local, declared.steps.ring.RingLocal.RingLocal, declared.steps.ring.RingLocal.RingLocal as ring, declared.steps.chain.TheConstants.WRITE, declared.steps.chain.TheConstants.READ, declared.steps.chain.TheConstants.DESTROY, declared.steps.chain.ChainLocal.ChainLocal, declared.steps.chain.ChainLocal.ChainLocal as chain, Words.position_of, Words.is_shut, Words.stamp_free, Words.stamp_filled, ChainWords.offset_of, ChainWords.items_before, ChainNext.is_last_slot}
+use Rattle.queue_steps.specs.{declared.sizes.TheConstants.LIMIT, declared.sizes.TheConstants.BLOCK_SLOTS, Words.position_of, Words.is_shut, Words.stamp_free, Words.stamp_filled, ChainWords.offset_of, ChainWords.items_before, ChainNext.is_last_slot}
+use Rattle.queue_steps.specs.declared.steps.types.{Kind.Kind, Kind.Kind as kind, Answer.Answer, Answer.TheVariants.Found, Answer.TheVariants.Linked, Answer.TheVariants.Granted, Answer.TheVariants.Done, Local.Local, Local.Local as local}
+use Rattle.queue_steps.specs.declared.steps.{ring.RingLocal.RingLocal, ring.RingLocal.RingLocal as ring, chain.TheConstants.WRITE, chain.TheConstants.READ, chain.TheConstants.DESTROY, chain.ChainLocal.ChainLocal, chain.ChainLocal.ChainLocal as chain}
 
 -- whether a push that found this tail of a ring goes on to its slot
 abbrev pub is_open_tail : ℕ → Bool

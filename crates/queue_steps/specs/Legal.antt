@@ -1,6 +1,7 @@
 -- The one-owner table and the effects agree: each call of the table stands in a history, with a reply that is right there.
 use Rattle.std.specs.Prelude.{◌≡◌, ◌⊎◌, ℕ, ◌<◌, ◌≤◌, true, List, [], length, Option, Some, None}
-use Rattle.queue_steps.specs.{declared.sizes.TheConstants.LIMIT, State.State, State.is_slot_cap, declared.model.Effect.Effect, Effect.Runs, Effect.after_from, Replies.Allows, Replies.Tells, Sequential.Owned, Sequential.HoldsBlocks, Sequential.Sequential, declared.model.Call.Call, declared.model.Reply.Reply}
+use Rattle.queue_steps.specs.declared.{sizes.TheConstants.LIMIT, model.Effect.Effect, model.Call.Call, model.Reply.Reply}
+use Rattle.queue_steps.specs.{State.State, State.is_slot_cap, Effect.Runs, Effect.after_from, Replies.Allows, Replies.Tells, Sequential.Owned, Sequential.HoldsBlocks, Sequential.Sequential}
 
 -- n items fit into a queue of this capacity, which has a slot at least
 abbrev pub IsWithin : Option ℕ → ℕ → Type 0

@@ -1,6 +1,7 @@
 -- The steps of the calls that change nothing: they load words and touch no slot.
 use Rattle.std.specs.Prelude.{◌≡◌, true, None}
-use Rattle.queue_steps.specs.{declared.steps.types.Local.Local, declared.steps.types.Local.Local as local, declared.steps.types.Next.Next, declared.steps.types.Next.Next as next, declared.steps.types.Op.Op, declared.steps.types.Op.Op as op, declared.steps.types.Touch.Touch as touch, declared.steps.slot.SlotLocal.SlotLocal as slot, declared.steps.ring.RingLocal.RingLocal as ring, declared.steps.types.Word.Word as word, declared.steps.chain.ChainLocal.ChainLocal as chain, CallAt.is_ring_rest, CallAt.is_chain_rest}
+use Rattle.queue_steps.specs.declared.steps.types.{Local.Local, Local.Local as local, Next.Next, Next.Next as next, Op.Op, Op.Op as op, Touch.Touch as touch, Word.Word as word}
+use Rattle.queue_steps.specs.{declared.steps.slot.SlotLocal.SlotLocal as slot, declared.steps.ring.RingLocal.RingLocal as ring, declared.steps.chain.ChainLocal.ChainLocal as chain, CallAt.is_ring_rest, CallAt.is_chain_rest}
 
 -- a load of a word that is in no block
 abbrev pub IsLoad : {B : Type 0} → Op B → Type 0

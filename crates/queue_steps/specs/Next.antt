@@ -1,6 +1,7 @@
 -- What a call does next, from where it stands and the answer to its last step.
 use Rattle.std.specs.Prelude.{ℕ, Option, Some, None}
-use Rattle.queue_steps.specs.{declared.model.Call.Call, declared.model.Reply.Reply as reply, declared.steps.types.Kind.Kind, declared.steps.types.Kind.Kind as kind, declared.steps.types.Answer.Answer, declared.steps.types.Answer.Answer as answer, declared.steps.types.Local.Local, declared.steps.types.Local.Local as local, declared.steps.types.Next.Next, declared.steps.types.Next.Next as next, Words.IsRing, SlotNext.slot_begin, SlotNext.slot_next, RingNext.ring_begin, RingNext.ring_next, RingNext.FitsRing, ChainNext.chain_begin, ChainNext.chain_next, ChainNext.FitsChain}
+use Rattle.queue_steps.specs.{declared.model.Call.Call, declared.model.Reply.Reply as reply, Words.IsRing, SlotNext.slot_begin, SlotNext.slot_next, RingNext.ring_begin, RingNext.ring_next, RingNext.FitsRing, ChainNext.chain_begin, ChainNext.chain_next, ChainNext.FitsChain}
+use Rattle.queue_steps.specs.declared.steps.types.{Kind.Kind, Kind.Kind as kind, Answer.Answer, Answer.Answer as answer, Local.Local, Local.Local as local, Next.Next, Next.Next as next}
 
 -- the capacity of a queue of this kind
 abbrev pub capacity_of : Kind → Option ℕ

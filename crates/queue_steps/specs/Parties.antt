@@ -1,10 +1,10 @@
 -- What the parties of a queue know of its one history, what a shared call adds to that, and how parties are parted and brought together.
 use Rattle.std.specs.Prelude.{◌≡◌, ◌≢◌, ◌⊎◌, ℕ, ◌+◌, ◌<◌, ◌≤◌, false, List, [], ◌∷◌, ◌++◌, length, Option}
 use Rattle.std.specs.List.{All, AllPairs, Contains}
-use mathlib.Core.Option.{some}
-use mathlib.Core.List.{IsPrefix}
+use mathlib.Core.{Option.some, List.IsPrefix}
 use lib.ListN.{get_elem?}
-use Rattle.queue_steps.specs.{State.State, declared.model.Call.Call, declared.model.Reply.Reply, declared.model.Effect.Effect, declared.model.Effect.Effect as effect, Effect.IsHistory, Effect.after, Replies.Allows, Replies.Tells, Shares.Share, Shares.half, Shares.plus, Shares.IsEntire, Shares.IsSome, Shares.IsPart}
+use Rattle.queue_steps.specs.{State.State, Effect.IsHistory, Effect.after, Replies.Allows, Replies.Tells, Shares.Share, Shares.half, Shares.plus, Shares.IsEntire, Shares.IsSome, Shares.IsPart}
+use Rattle.queue_steps.specs.declared.model.{Call.Call, Reply.Reply, Effect.Effect, Effect.Effect as effect}
 
 -- a party's view: the beginning of the history that it has seen, its own places in that, and which part it is of all parties
 pub record View (T : Type 0) : Type 0 where

@@ -1,6 +1,7 @@
 -- Where a reply is right, where a push may lack memory, and which effects a reply stands for. A reply of another call is none of these.
 use Rattle.std.specs.Prelude.{◌≡◌, ◌⊎◌, ◌-◌, ◌%◌, Bool, true, false, List, [], ◌∷◌, length, Some, None, Ok, Err}
-use Rattle.queue_steps.specs.{declared.sizes.TheConstants.BLOCK_SLOTS, State.State, State.is_full, State.IsBelow, declared.model.Call.Call, declared.model.Call.Call as call, declared.model.Effect.Effect, declared.model.Effect.Effect as effect, declared.model.Reply.Reply, declared.model.Reply.Reply as reply, declared.errors.PopError.PopError as pop, declared.errors.PushError.PushError as push, declared.errors.ForcePushError.ForcePushError as force}
+use Rattle.queue_steps.specs.{declared.sizes.TheConstants.BLOCK_SLOTS, declared.errors.PopError.PopError as pop, declared.errors.PushError.PushError as push, declared.errors.ForcePushError.ForcePushError as force, State.State, State.is_full, State.IsBelow}
+use Rattle.queue_steps.specs.declared.model.{Call.Call, Call.Call as call, Effect.Effect, Effect.Effect as effect, Reply.Reply, Reply.Reply as reply}
 
 abbrev pub is_empty : {T : Type 0} → List T → Bool
 is_empty [] = true

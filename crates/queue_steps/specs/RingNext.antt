@@ -1,6 +1,10 @@
 -- The steps of a ring.
 use Rattle.std.specs.Prelude.{◌≡◌, ℕ, ◌+◌, ◌-◌, ◌%◌, ◌≤◌, ◌==◌, Some, None, Ok, Err, if◌then◌else◌}
-use Rattle.queue_steps.specs.{declared.sizes.TheConstants.LIMIT, declared.model.Call.Call, declared.model.Reply.Reply, declared.model.Reply.Reply as reply, declared.errors.PopError.PopError as pop, declared.errors.PushError.PushError as push, declared.errors.ForcePushError.ForcePushError as force, declared.steps.types.Answer.Answer, declared.steps.types.Answer.TheVariants.Found, declared.steps.types.Answer.TheVariants.Done, declared.steps.types.Local.Local as local, declared.steps.types.Next.Next, declared.steps.types.Next.Next as next, declared.steps.types.Op.Op, declared.steps.types.Op.Op as op, declared.steps.types.Touch.Touch, declared.steps.types.Touch.Touch as touch, declared.steps.types.Word.Word, declared.steps.types.Word.Word as word, declared.steps.ring.TheConstants.MARK, declared.steps.ring.TheConstants.TAIL_STEP, declared.steps.ring.PushKind.PushKind, declared.steps.ring.PushKind.PushKind as kind, declared.steps.ring.RingLocal.RingLocal, declared.steps.ring.RingLocal.RingLocal as ring, declared.steps.looks.CallView.CallView, declared.steps.looks.CallView.CallView as view, declared.steps.looks.Look.Look, declared.steps.looks.Look.Look as look, Looks.call_view, Looks.reply_of_look, Words.IsWord, Words.position_of, Words.is_shut, Words.slot_at, Words.stamp_free, Words.stamp_filled, Words.stamp_emptied}
+use Rattle.queue_steps.specs.declared.{sizes.TheConstants.LIMIT, model.Call.Call, model.Reply.Reply, model.Reply.Reply as reply, errors.PopError.PopError as pop, errors.PushError.PushError as push, errors.ForcePushError.ForcePushError as force}
+use Rattle.queue_steps.specs.declared.steps.types.{Answer.Answer, Answer.TheVariants.Found, Answer.TheVariants.Done, Local.Local as local, Next.Next, Next.Next as next, Op.Op, Op.Op as op, Touch.Touch, Touch.Touch as touch, Word.Word, Word.Word as word}
+use Rattle.queue_steps.specs.declared.steps.ring.{TheConstants.MARK, TheConstants.TAIL_STEP, PushKind.PushKind, PushKind.PushKind as kind, RingLocal.RingLocal, RingLocal.RingLocal as ring}
+use Rattle.queue_steps.specs.declared.steps.looks.{CallView.CallView, CallView.CallView as view, Look.Look, Look.Look as look}
+use Rattle.queue_steps.specs.{Looks.call_view, Looks.reply_of_look, Words.IsWord, Words.position_of, Words.is_shut, Words.slot_at, Words.stamp_free, Words.stamp_filled, Words.stamp_emptied}
 
 -- one step, after which the call waits at l
 abbrev pub at : {B : Type 0} → RingLocal → Touch → Op B → Next B

@@ -1,6 +1,8 @@
 -- What each call of a queue with one owner answers, and what it leaves: the first line that fits decides.
 use Rattle.std.specs.Prelude.{◌≡◌, ◌⊎◌, ℕ, ◌+◌, ◌-◌, ◌/◌, Bool, true, not, ◌&&◌, ◌==◌, if◌then◌else◌, List, [], ◌∷◌, ◌++◌, length, Option, Some, None, Result, Ok, Err}
-use Rattle.queue_steps.specs.{declared.sizes.TheConstants.LIMIT, declared.sizes.TheConstants.BLOCK_SLOTS, State.State, State.start, State.is_full, State.is_slot_cap, Effect.rest, Replies.LacksMemory, Looks.look_reply, declared.model.Call.Call, declared.model.Reply.Reply, declared.model.Call.Call as call, declared.model.Reply.Reply as reply, declared.errors.PopError.PopError, declared.errors.PopError.PopError as pop, declared.errors.PushError.PushError as push, declared.errors.ForcePushError.ForcePushError as force}
+use Rattle.queue_steps.specs.declared.{sizes.TheConstants.LIMIT, sizes.TheConstants.BLOCK_SLOTS, model.Call.Call, model.Reply.Reply, model.Call.Call as call, model.Reply.Reply as reply}
+use Rattle.queue_steps.specs.declared.errors.{PopError.PopError, PopError.PopError as pop, PushError.PushError as push, ForcePushError.ForcePushError as force}
+use Rattle.queue_steps.specs.{State.State, State.start, State.is_full, State.is_slot_cap, Effect.rest, Looks.look_reply, Replies.LacksMemory}
 
 -- the queue has accepted all that it ever will
 abbrev pub is_spent : {T : Type 0} → State T → Bool

@@ -1,6 +1,7 @@
 -- A call of the only party of a queue is a call of one owner.
 use Rattle.std.specs.Prelude.{◌≡◌, ◌⊎◌, ℕ, List, [], ◌++◌, Option, None}
-use Rattle.queue_steps.specs.{declared.model.Call.Call, declared.model.Reply.Reply, declared.model.Effect.Effect, Effect.after, Replies.LacksMemory, Replies.Tells, Sequential.sequential_reply, Sequential.sequential_state, Legal.IsShown, Shares.IsEntire, Parties.View, Parties.IsView, Parties.SharedCall}
+use Rattle.queue_steps.specs.declared.model.{Call.Call, Reply.Reply, Effect.Effect}
+use Rattle.queue_steps.specs.{Effect.after, Legal.IsShown, Shares.IsEntire, Replies.LacksMemory, Replies.Tells, Sequential.sequential_reply, Sequential.sequential_state, Parties.View, Parties.IsView, Parties.SharedCall}
 
 -- what the party has then seen is what it had seen and its own effects. The reply and the next state are those of the table of one owner,
 -- or a queue without a capacity was refused a block, and nothing changed

@@ -1,6 +1,10 @@
 -- The steps of a queue of one slot.
 use Rattle.std.specs.Prelude.{ℕ, Bool, not, bit_and, bit_or, ◌==◌, Some, None, Ok, Err, if◌then◌else◌}
-use Rattle.queue_steps.specs.{declared.model.Call.Call, declared.model.Reply.Reply, declared.model.Reply.Reply as reply, declared.errors.PopError.PopError as pop, declared.errors.PushError.PushError as push, declared.errors.ForcePushError.ForcePushError as force, declared.steps.types.Local.Local as local, declared.steps.ring.PushKind.PushKind as kind, declared.steps.looks.CallView.CallView, declared.steps.looks.CallView.CallView as view, declared.steps.looks.Look.Look, declared.steps.types.Next.Next, declared.steps.types.Next.Next as next, declared.steps.types.Op.Op, declared.steps.types.Op.Op as op, declared.steps.types.Touch.Touch, declared.steps.types.Touch.Touch as touch, declared.steps.types.Word.TheVariants.Lock, Looks.call_view, Looks.reply_of_look, declared.steps.slot.TheConstants.LOCKED, declared.steps.slot.TheConstants.PUSHED, declared.steps.slot.TheConstants.CLOSED, declared.steps.slot.TheConstants.UNLOCKED, declared.steps.slot.TheConstants.UNPUSHED, declared.steps.slot.SlotLocal.SlotLocal, declared.steps.slot.SlotLocal.TheVariants.Pushing, declared.steps.slot.SlotLocal.TheVariants.Pushed, declared.steps.slot.SlotLocal.TheVariants.Forcing, declared.steps.slot.SlotLocal.TheVariants.Forced, declared.steps.slot.SlotLocal.TheVariants.Popping, declared.steps.slot.SlotLocal.TheVariants.Popped, declared.steps.slot.SlotLocal.TheVariants.Closing, declared.steps.slot.SlotLocal.TheVariants.Looking}
+use Rattle.queue_steps.specs.declared.{model.Call.Call, model.Reply.Reply, model.Reply.Reply as reply, errors.PopError.PopError as pop, errors.PushError.PushError as push, errors.ForcePushError.ForcePushError as force}
+use Rattle.queue_steps.specs.declared.steps.types.{Local.Local as local, Next.Next, Next.Next as next, Op.Op, Op.Op as op, Touch.Touch, Touch.Touch as touch, Word.TheVariants.Lock}
+use Rattle.queue_steps.specs.declared.steps.{ring.PushKind.PushKind as kind, looks.CallView.CallView, looks.CallView.CallView as view, looks.Look.Look, slot.TheConstants.LOCKED, slot.TheConstants.PUSHED, slot.TheConstants.CLOSED, slot.TheConstants.UNLOCKED, slot.TheConstants.UNPUSHED}
+use Rattle.queue_steps.specs.declared.steps.slot.SlotLocal.{SlotLocal, TheVariants.Pushing, TheVariants.Pushed, TheVariants.Forcing, TheVariants.Forced, TheVariants.Popping, TheVariants.Popped, TheVariants.Closing, TheVariants.Looking}
+use Rattle.queue_steps.specs.Looks.{call_view, reply_of_look}
 
 -- one step, after which the call waits at l
 abbrev pub at : {B : Type 0} → SlotLocal → Touch → Op B → Next B

@@ -1,6 +1,7 @@
 -- What it is that a call ends by its second step, whatever other parties do in between.
 use Rattle.std.specs.Prelude.{ℕ, zero, suc, ◌+◌}
-use Rattle.queue_steps.specs.{declared.sizes.TheConstants.WAIT_FREE_STEPS, declared.model.Call.Call, declared.steps.types.Kind.Kind, declared.steps.types.Answer.Answer, declared.steps.types.Answer.Answer as answer, declared.steps.types.Next.Next, declared.steps.types.Next.Next as next, Next.CanNext, Next.next_of, Next.first_local}
+use Rattle.queue_steps.specs.declared.{sizes.TheConstants.WAIT_FREE_STEPS, model.Call.Call, steps.types.Kind.Kind, steps.types.Answer.Answer, steps.types.Answer.Answer as answer, steps.types.Next.Next, steps.types.Next.Next as next}
+use Rattle.queue_steps.specs.Next.{CanNext, next_of, first_local}
 pub use Rattle.queue_steps.specs.Looks.{is_wait_free}
 
 -- the reply comes before n more steps, whatever they answer

@@ -75,7 +75,8 @@ module _ {T A Q : Type 0} (w : ChainWeb T A) (p s : Asking T A Q) (c : Call T) (
   pub looked : (q : WebSeat T (CallState T) A) → Same q s.seat → q.sitter ≡ s.seat.sitter → ChainStands w p.seat c l.progress.local l.progress.answer q l.carried
   looked q same is = (
     (same.0 ∙ stands.0.0, same.1 ∙ stands.0.1),
-    subst (λ (m : Sitter T (CallState T)). (d : InCall T) × (d.call ≡ c) × (begun_at d ≡ view_of p.seat.sitter.view.known) × ((i : Local ℕ) × (b : Answer ℕ) × (local_map link_of i ≡ l.progress.local) × (l.progress.answer ≡ answer_map link_of b) × CanNext Kind.Unbounded i b × chain.After d l.carried (next_of Kind.Unbounded i b) m))
+    subst (λ (m : Sitter T (CallState T)). (d : InCall T) × (d.call ≡ c) × (begun_at d ≡ view_of p.seat.sitter.view.known) × ((i : Local ℕ) × (b : Answer ℕ)
+        × (local_map link_of i ≡ l.progress.local) × (l.progress.answer ≡ answer_map link_of b) × CanNext Kind.Unbounded i b × chain.After d l.carried (next_of Kind.Unbounded i b) m))
         (sym is) stands.1,
   )
 

@@ -1,6 +1,7 @@
 -- What a shared chain owes of its calls: no step of another party takes away what a call knows, and where each call begins.
 use Rattle.std.proofs.Common.{ℕ, ◌%◌, ◌≡◌, ◌≢◌, ◌∙◌, inl, inr, true, false, List, [], ◌∷◌, Option, Some, None, refl, sym, ap, subst}
-use Rattle.queue_laws.specs.{Common.Vocabulary.Call, Common.Vocabulary.Kind, Common.Vocabulary.Op, Common.Vocabulary.Local, Common.Vocabulary.Next, Common.Vocabulary.BLOCK_SLOTS, Common.Effects.IsBetween, Common.Stand.Stand, Chain.ChainFacts.place, Chain.ChainFacts.open_tail_of, Chain.ChainAt.Only, Chain.ChainAt.At, Chain.ChainAt.push_tail, Chain.ChainAt.writing, Chain.ChainAt.reading, Chain.ChainAt.beginning, Chain.ChainPasses.Spares, Chain.ChainPasses.spare_in}
+use Rattle.queue_laws.specs.Common.{Vocabulary.Call, Vocabulary.Kind, Vocabulary.Op, Vocabulary.Local, Vocabulary.Next, Vocabulary.BLOCK_SLOTS, Effects.IsBetween, Stand.Stand}
+use Rattle.queue_laws.specs.Chain.{ChainFacts.place, ChainFacts.open_tail_of, ChainAt.Only, ChainAt.At, ChainAt.push_tail, ChainAt.writing, ChainAt.reading, ChainAt.beginning, ChainPasses.Spares, ChainPasses.spare_in}
 use Rattle.queue_steps.specs.{State.State, ChainWords.offset_at, ChainWords.offset_of}
 use Rattle.queue_laws.proofs.{Common.Tails.position_tail, Chain.ChainPlaces.place_offset, Chain.ChainFacts.holds_stays, Chain.ChainAnswers.head_offset, Chain.ChainAt.at_stays, Chain.ChainGiven.spares_stay, Chain.ChainStart.Begins, Chain.ChainStart.OnPosition, Chain.ChainStart.at_begun}
 use Rattle.queue_laws.specs.Chain.ChainCells.{Wrote, Reader, Reading, Chain, Part, Write, Read, HoldsOnly, Nothing, writer_of, reader_of}

@@ -55,7 +55,7 @@ module _ {T : Type 0} (te he : Ptr) where
   pub recounts : (id : ℕ) (m : Sitter T (CallState T)) (p : Ptr) (c : Change) (told : ℕ → CallState T → CallState T → Type 0) → p ≡ te → MayAct c told id m.view → Allows (Rule te he) id m p PARTIES (changed c) (λ n. OfView (told n) m)
   recounts id m p c told is does s r at =
       let n : ℕ = word_of s.blocks 0 PARTIES in let d = does n s.views (shares s r) at in
-      (0, (r.codes.tail.lives.0, r.codes.tail.lives.1 ∙ sym is), λ fits. (d.0, [], tt, keeps_parties s r (changed c n) (set s.views id d.0) d.1, (d.2, refl, refl)))
+      (0, ((r.codes.tail.lives.0, r.codes.tail.lives.1 ∙ sym is), omega (arith, r.codes.tail.words)), λ fits. (d.0, [], tt, keeps_parties s r (changed c n) (set s.views id d.0) d.1, (d.2, refl, refl)))
 
   -- the seats change, and the count does not
   seats_change : (s : State T (CallState T)) (r : Rule te he s) (vs : List (CallState T)) → Regroups (shares s r) (word_of s.blocks 0 PARTIES) vs → Rule te he record { blocks = s.blocks; views = vs }

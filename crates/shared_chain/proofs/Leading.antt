@@ -2,8 +2,7 @@
 use Rattle.std.proofs.Common.{ℕ, ◌≡◌, ◌∙◌, Option, Some, None, List, [], refl, sym, ap, subst, inl, inr}
 use Rattle.queue_laws.specs.Common.Vocabulary.{Call, Reply, Kind, Op, Touch, Word, Answer, Local, Next}
 use Rattle.queue_steps.specs.{Effect.after, Kinds.call_kind, Kinds.call_value, Kinds.filled, Next.CanNext, Next.next_of, Next.first_local, Parties.View, Parties.SharedCall, ChainNext.chain_begin, Replies.Tells, Replies.IsRightAt, State.State}
-use Rattle.queue_laws.proofs.{Common.Runs.cap_after, Chain.ChainStart.Begins, Chain.ChainStart.OnPosition, Chain.ChainStart.at_begun}
-use Rattle.queue_laws.specs.Chain.ChainPasses.{spare_in}
+use Rattle.queue_laws.{proofs.Common.Runs.cap_after, proofs.Chain.ChainStart.Begins, proofs.Chain.ChainStart.OnPosition, proofs.Chain.ChainStart.at_begun, specs.Chain.ChainPasses.spare_in}
 use Rattle.mem_blocks.specs.{Web.Sitter, Web.sitter, Seats.Sits, declared.block.BlockPtr.BlockPtr as Place, declared.web.Seat.Seat}
 use Rattle.shared_parties.specs.{declared.known.CallState.CallState, declared.known.InCall.InCall, Known.party, Known.view_of, CallStates.idle, Calling.handed_by, Calling.first_of, CallsAt.begun_at, Called.call_of_work, Called.begun_by}
 use Rattle.shared_parties.proofs.{Called.whole, Histories.prefix_self, SharedCalls.quiet}

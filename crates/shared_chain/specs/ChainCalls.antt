@@ -1,6 +1,7 @@
 -- A chain that parties share, as a kind of queue.
 use Rattle.std.specs.Prelude.{◌≡◌, ◌≢◌, ◌⊎◌, ℕ, ◌%◌, Bool, true, false, List, [], ◌∷◌, Option, Some, None}
-use Rattle.queue_laws.specs.{Common.Vocabulary.Kind, Common.Vocabulary.Local, Common.Vocabulary.BLOCK_SLOTS, Common.Stand.Stand, Chain.ChainCells.Wrote, Chain.ChainCells.Reading, Chain.ChainCells.Chain, Chain.ChainCells.queue_of, Chain.ChainCells.ChainOk, Chain.ChainCells.HoldsOnly, Chain.ChainCells.Nothing, Chain.ChainCells.writer_of, Chain.ChainPasses.Passes, Chain.ChainPasses.Spares, Chain.ChainPasses.spare_in, Chain.ChainAt.At}
+use Rattle.queue_laws.specs.Common.{Vocabulary.Kind, Vocabulary.Local, Vocabulary.BLOCK_SLOTS, Stand.Stand}
+use Rattle.queue_laws.specs.Chain.{ChainCells.Wrote, ChainCells.Reading, ChainCells.Chain, ChainCells.queue_of, ChainCells.ChainOk, ChainCells.HoldsOnly, ChainCells.Nothing, ChainCells.writer_of, ChainPasses.Passes, ChainPasses.Spares, ChainPasses.spare_in, ChainAt.At}
 use Rattle.queue_steps.specs.{declared.steps.chain.ChainLocal.ChainLocal as chain, State.State}
 use Rattle.shared_parties.specs.Calling.{CallsOf}
 

@@ -1,9 +1,10 @@
 -- What the step of a call does to the blocks of a web, and what it tells its seat.
-use Rattle.std.specs.Prelude.{◌≡◌, ◌≢◌, ℕ, ◌+◌, ◌-◌, ◌<◌, Bool, true, false, List, [], ◌∷◌, replicate, length, Option, Some, None}
+use Rattle.std.specs.Prelude.{◌≡◌, ◌≢◌, ℕ, ◌+◌, ◌-◌, ◌<◌, Bool, true, List, [], ◌∷◌, replicate, length, Option, Some, None}
 use denote.RawPtr.{Ptr, null_ptr}
 use Rattle.queue_laws.specs.Common.Vocabulary.{Kind, Word, Link, Op, Touch, Answer, Local, Next, BLOCK_SLOTS}
 use Rattle.queue_steps.specs.{declared.steps.chain.ChainLocal.ChainLocal as chain, Next.CanNext, Next.next_of, State.State, ChainNext.chain_next}
-use Rattle.queue_laws.specs.{Common.Stand.Stand, Chain.ChainCells.Reading, Chain.ChainCells.Chain, Chain.ChainAt.At, Chain.ChainAnswers.Answers, Chain.ChainAnswers.last_of, Chain.ChainAnswers.shown_of, Chain.ChainAnswers.linked_of, Chain.ChainPasses.spare_in, Chain.ChainAfter.left_by, Chain.ChainAfter.chain_of, Chain.ChainAfter.after_of, Common.Operations.op_word, Common.Operations.op_makes, Common.Operations.answer_for}
+use Rattle.queue_laws.specs.Common.{Stand.Stand, Operations.op_word, Operations.op_makes, Operations.answer_for}
+use Rattle.queue_laws.specs.Chain.{ChainCells.Reading, ChainCells.Chain, ChainAt.At, ChainAnswers.Answers, ChainAnswers.last_of, ChainAnswers.shown_of, ChainAnswers.linked_of, ChainPasses.spare_in, ChainAfter.left_by, ChainAfter.chain_of, ChainAfter.after_of}
 use Rattle.mem_blocks.specs.Web.{Block, Hand, Sitter, Act, block, Lives, word_of, with_word, with_next, if_unset, alive_at, vacant, AllVacant, Mays, blocks_after, sitter_after}
 use Rattle.shared_parties.specs.{declared.known.CallState.CallState, declared.known.InCall.InCall, Calling.handed_by, CallsAt.Told}
 use Rattle.shared_chain.specs.{Spots.spot, Names.state_block, ChainCalls.OutChain, ChainCalls.SlotsAs, ChainCalls.ChainLent, ChainCalls.chain_calls, Rule.lead_of, Rule.Codes}
@@ -112,7 +113,7 @@ SlotsFor g who (Next.Reply x spare) = Unit {0}
 pub record BlockStep {T : Type 0} (tail_end head_end : Ptr) (g : OutChain T) (who : ℕ) (bs : List (Block T)) (m : Sitter T (CallState T)) {ms : List (State T)} {k : Stand T} (here : At g.chain who ms k) : Type 0 where
   pub number : ℕ
   pub lives : Lives bs number (op_place tail_end head_end k.op)
-  pub counts : number ≡ 0 → word_index (op_word k.op) ≡ 0
+  pub counts : number < 2 → word_index (op_word k.op) ≡ 0
   pub leads : LeadsThere g.chain bs k.op number
   pub found : Answers g.chain k.op (answered g.chain bs k.op number)
   pub out : ℕ → Bool

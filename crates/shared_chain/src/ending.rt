@@ -1,7 +1,7 @@
 //! How a shared chain ends: as a queue with one owner, or dropped.
 ghost use Rattle.std.specs.Prelude.{◌≡◌, ◌+◌, ◌*◌, ◌<◌, ◌≤◌, not, None};
 ghost use denote.RawPtr.{InBlock, Testable};
-ghost use Rattle.mem_blocks.specs.Web.{block, Lives, word_of, without};
+ghost use Rattle.mem_blocks.specs.Web.{block, Lives, HoldsWord, word_of, without};
 ghost use Rattle.mem_blocks.specs.Laid.{head_of};
 ghost use Rattle.mem_blocks.specs.Seats.{Sits};
 ghost use Rattle.mem_blocks.specs.declared.hub.TheConstants.{TAIL as SPEC_TAIL, HEAD as SPEC_HEAD};
@@ -52,7 +52,7 @@ fn take_ends<T, A: Allocator>(
 ) -> Rest<T>
     requires heap { (chain.old.heap ≡ alloc.now) × (hub.heap ≡ alloc.now) }
     requires ends { InBlock tail.ptr × (hub.at ≡ tail.ptr) × (head.ptr ≡ head_of tail.ptr) }
-    requires lives { Lives chain.old.blocks 0 tail.ptr × Lives chain.old.blocks 1 head.ptr }
+    requires lives { HoldsWord chain.old.blocks 0 tail.ptr SPEC_TAIL × HoldsWord chain.old.blocks 1 head.ptr SPEC_HEAD }
     requires tested { Testable (block chain.old.blocks 0).next × Testable (block chain.old.blocks 1).next }
     ensures chain { (chain.new.heap ≡ chain.old.heap) × (chain.new.blocks ≡ without (without chain.old.blocks 0) 1) }
     ensures words { (result.tail ≡ word_of chain.old.blocks 0 SPEC_TAIL) × (result.head ≡ word_of chain.old.blocks 1 SPEC_HEAD) }
@@ -217,7 +217,7 @@ fn empty_slot<T: Drop, A: Allocator>(
     taken: u64,
     accepted: u64,
 ) -> bool
-    requires place { InBlock link.ptr × Lives chain.old.blocks number link.ptr × (slot < SLOTS) }
+    requires place { InBlock link.ptr × HoldsWord chain.old.blocks number link.ptr slot × (slot < SLOTS) }
     requires left { SlotLeft taken accepted item slot (block chain.old.blocks number) }
     ensures chain { (chain.new.heap ≡ chain.old.heap) × SameBut number chain.old.blocks chain.new.blocks }
     ensures emptied { Emptied (λ j. j ≡ slot) result (block chain.old.blocks number) (block chain.new.blocks number) }

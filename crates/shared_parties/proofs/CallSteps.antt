@@ -1,17 +1,15 @@
 -- A step of a call keeps what is so of all calls, and tells its seat where the call stands then or how it ended: the laws of its kind say so, wherever it stands.
 use Rattle.std.proofs.Common.{◌≡◌, ◌≢◌, ℕ, zero, suc, ◌<◌, ◌||◌, not, inl, inr, true, false, List, [], ◌∷◌, ◌++◌, map, length, set, Option, Some, None, refl, ap, sym, ◌∙◌, subst, ⊎_elim, arith}
 use Rattle.std.proofs.lemmas.List.{append-nil}
-use mathlib.Core.Option.{some, some-injective, some-ne-none}
-use mathlib.Core.List.{IsPrefix}
-use lib.ListN.{get_elem?}
-use lib.Seq.{map-set}
-use mathlib.Core.Logic.{dite}
+use mathlib.Core.{Option.some, Option.some-injective, Option.some-ne-none, List.IsPrefix, Logic.dite}
+use lib.{ListN.get_elem?, Seq.map-set}
 use native.Mathlib.Decide.{ℕ_discrete}
 use Rattle.atomic_table.proofs.Lists.{at_set, at_map, set_else}
 use Rattle.queue_laws.specs.Common.{Vocabulary.Call, Vocabulary.Effect, Vocabulary.Op, Vocabulary.Touch, Vocabulary.Local, Vocabulary.Next, Effects.Leads, Effects.with_effect, Effects.MayFront, Stand.stand}
 use Rattle.queue_steps.specs.{State.State, State.start, Effect.Fits, Effect.IsHistory, Effect.made, Effect.after, Kinds.call_value, Shares.Share, Shares.IsEntire, Parties.IsWhole}
 use Rattle.queue_laws.proofs.Common.Runs.{after_snoc, runs_snoc}
-use Rattle.shared_parties.specs.{declared.known.Known.Known, declared.known.InCall.InCall, declared.known.Work.Work, declared.known.CallState.CallState, Known.party, Known.view_of, Known.Kept, CallStates.is_busy, CallStates.idle, CallStates.known_by, CallStates.IsResting, Calling.CallsOf, Calling.CallLaws, Calling.cap_of, Calling.Standing, Calling.NextOk, Calling.first_of, Calling.Opens, CallsAt.CallsAt, CallsAt.IsFirst, CallsAt.Ready, CallsAt.Told}
+use Rattle.shared_parties.specs.{declared.known.Known.Known, declared.known.InCall.InCall, declared.known.Work.Work, declared.known.CallState.CallState, Calling.CallsOf, Calling.CallLaws, Calling.cap_of, Calling.Standing, Calling.NextOk, Calling.first_of, Calling.Opens}
+use Rattle.shared_parties.specs.{Known.party, Known.view_of, Known.Kept, CallsAt.CallsAt, CallsAt.IsFirst, CallsAt.Ready, CallsAt.Told, CallStates.is_busy, CallStates.idle, CallStates.known_by, CallStates.IsResting}
 use Rattle.shared_parties.proofs.{Histories.prefix_self, Keeping.looks, Keeping.gains, Alone.alone, Callings.grown, Callings.others_stay, Owns.known_after, Owns.call_after, Owns.with_place, Owns.knows_after, Owns.own_stands, Owns.own_ends}
 
 pub set_at : {A : Type 0} (l : List A) (i : ℕ) (a b : A) → get_elem? l i ≡ some a → get_elem? (set l i b) i ≡ some b

@@ -1,12 +1,10 @@
 -- What is so of a call in progress stays so at the steps of others, as the history grows.
 use Rattle.std.proofs.Common.{◌≡◌, ◌≢◌, ℕ, zero, suc, ◌+◌, ◌<◌, ◌≤◌, Bool, List, [], ◌∷◌, ◌++◌, length, Option, Some, None, ap, sym, ◌∙◌, ⊎_elim, arith, length-append}
-use mathlib.Core.Option.{some}
-use mathlib.Core.List.{IsPrefix}
+use mathlib.Core.{Option.some, List.IsPrefix}
 use lib.ListN.{get_elem?}
 use Rattle.atomic_table.proofs.Lists.{at_longer, at_snoc}
 use Rattle.queue_laws.specs.Common.{Vocabulary.Effect, Moments.seen_by, Effects.IsBetween}
-use Rattle.queue_steps.specs.{State.State, Effect.after, Parties.StandAt}
-use Rattle.queue_steps.proofs.Places.{below_at}
+use Rattle.queue_steps.{specs.State.State, specs.Effect.after, specs.Parties.StandAt, proofs.Places.below_at}
 use Rattle.shared_parties.specs.declared.known.{Known.Known, InCall.InCall}
 use Rattle.shared_parties.proofs.Histories.{prefix_self, prefix_trans, prefix_more}
 use Rattle.shared_parties.specs.Calling.{CallsOf, CallLaws, cap_of, IsMoment, AreMoments, WasOpen, Opened, Waits, stand_of, Standing}

@@ -2,8 +2,7 @@
 use Rattle.std.proofs.Common.{◌≡◌, ◌≢◌, ℕ, zero, suc, ◌+◌, ◌<◌, ◌≤◌, ◌==◌, if◌then◌else◌, List, [], ◌∷◌, arith}
 use Rattle.std.specs.List.{All, AllPairs, Contains}
 use Rattle.std.proofs.lemmas.{Bool.Decides.nat_tests, List.Elements.All-weaker, List.Elements.All-contains_itself, List.Kept.AllPairs-cons, List.Sums.sum_by-append}
-use mathlib.Core.Bool.{cond}
-use mathlib.Core.Logic.{dite}
+use mathlib.Core.{Bool.cond, Logic.dite}
 use native.Mathlib.Decide.{ℕ_discrete}
 use Rattle.shared_parties.specs.Counting.{times, once_below}
 

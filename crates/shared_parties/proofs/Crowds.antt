@@ -1,12 +1,8 @@
 -- The steps that count parties, part them and bring them together, whatever the queue is made of: which seats they leave, and what they tell.
 use Rattle.std.proofs.Common.{◌≡◌, ◌≢◌, ℕ, ◌+◌, ◌-◌, ◌*◌, ◌%◌, ◌^◌, ◌<◌, ◌≤◌, true, false, List, [], ◌∷◌, ◌++◌, map, set, None, refl, ap, sym, ◌∙◌, subst, ⊎_elim, arith, mod-eq_of_lt}
-use mathlib.Core.Option.{some, some-injective}
-use mathlib.Core.List.{map-append}
-use lib.ListN.{get_elem?}
-use lib.Seq.{map-set}
-use mathlib.Core.Logic.{dite}
-use native.Mathlib.Decide.{dec_le}
-use native.Mathlib.Nat.{add-mod_right}
+use mathlib.Core.{Option.some, Option.some-injective, List.map-append, Logic.dite}
+use lib.{ListN.get_elem?, Seq.map-set}
+use native.Mathlib.{Decide.dec_le, Nat.add-mod_right}
 use Rattle.atomic_table.proofs.Lists.{at_set, at_snoc, at_map, set_again, set_else, at_longer}
 use Rattle.queue_laws.specs.Common.Vocabulary.{MAX_PARTIES}
 use Rattle.shared_parties.specs.{declared.known.Known.Known, declared.known.CallState.CallState, CallStates.is_busy, CallStates.known_by, CallStates.idle, CallStates.empty_seat, CallStates.IsResting, CallStates.SameCalls, CallStates.Sharing}

@@ -1,8 +1,7 @@
 -- The end of a shared queue, whatever it is made of: where one party that is at nothing has all of the share, every place of the history is its own, no call is on
 -- its way, and nobody has a part in the cells.
 use Rattle.std.proofs.Common.{◌≡◌, ◌≢◌, ◌<◌, ℕ, Bool, true, false, List, map, ap, sym, ◌∙◌, refl, arith}
-use mathlib.Core.Option.{some, some-injective}
-use mathlib.Core.Logic.{dite}
+use mathlib.Core.{Option.some, Option.some-injective, Logic.dite}
 use native.Mathlib.Decide.{ℕ_discrete}
 use lib.ListN.{get_elem?}
 use Rattle.atomic_table.proofs.Lists.{at_map}

@@ -1,17 +1,14 @@
 -- What the parties know stays true when one looks, adds an effect, is split or joined.
 use Rattle.std.proofs.Common.{◌≡◌, ℕ, zero, suc, ◌+◌, ◌-◌, ◌*◌, ◌^◌, ◌<◌, ◌≤◌, ◌≢◌, ◌⊎◌, List, [], ◌∷◌, ◌++◌, length, set, Option, refl, ap, sym, ◌∙◌, subst, ⊎_elim, inl, inr, arith, length-append}
 use Rattle.std.proofs.{lemmas.Bool.Decides.nat_tests, lemmas.List.append-nil, lemmas.Nat.pow-add, Math.Nat.add-mul, Math.Nat.eq-zero-or-pos}
-use mathlib.Core.Option.{some}
-use mathlib.Core.List.{IsPrefix}
+use mathlib.Core.{Option.some, Logic.dite, List.IsPrefix}
 use lib.ListN.{get_elem?}
-use mathlib.Core.Logic.{dite}
 use native.Mathlib.Decide.{dec_le}
 use Rattle.atomic_table.proofs.Lists.{at_set, at_snoc}
-use Rattle.queue_laws.specs.Common.Vocabulary.{Effect, MAX_PARTIES}
+use Rattle.queue_laws.{specs.Common.Vocabulary.Effect, specs.Common.Vocabulary.MAX_PARTIES, proofs.Common.Runs.runs_snoc}
 use Rattle.queue_steps.specs.{Effect.Fits, Effect.IsHistory, Effect.after, Shares.Share, Shares.nothing, Shares.IsEntire, Shares.IsSome, Shares.IsPart, Shares.weight}
 use Rattle.shared_parties.specs.{Counting.times, Counting.once_below, declared.known.Known.Known}
 use Rattle.queue_steps.proofs.ShareLaws.{weight_deeper, weight_plus, weight_halves, weight_none, none_weight, weight_entire, entire_weight, part_weight, plus_some, entire_plus}
-use Rattle.queue_laws.proofs.Common.Runs.{runs_snoc}
 use Rattle.shared_parties.specs.Known.{total, party, nobody, has, share_of, portion, IsTrueOf, Divided, Kept, looked, gained, granted, refused, withdrawn, united, one_of, other_of, pair_of, Sees, Gains}
 use Rattle.shared_parties.proofs.Histories.{prefix_self, prefix_more, prefix_length, prefix_whole}
 use Rattle.shared_parties.proofs.Totals.{total_set, total_snoc, total_at, total_two, total_most, total_solo, total_times, times_snoc, times_append, once_more, once_when, once_most}

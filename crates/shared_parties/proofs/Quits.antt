@@ -1,17 +1,15 @@
 -- A call that has had no effect, and whose party has no part in the cells, is given up: its seat is at nothing again, and all other calls stand as they stood.
 use Rattle.std.proofs.Common.{◌≡◌, ◌≢◌, ℕ, List, [], ◌∷◌, ◌++◌, map, length, set, refl, ap, sym, ◌∙◌, subst, ⊎_elim}
 use Rattle.std.proofs.lemmas.List.{append-nil}
-use mathlib.Core.Option.{some}
-use mathlib.Core.List.{IsPrefix}
-use lib.ListN.{get_elem?}
-use lib.Seq.{map-set}
-use mathlib.Core.Logic.{dite}
+use mathlib.Core.{Option.some, Logic.dite, List.IsPrefix}
+use lib.{ListN.get_elem?, Seq.map-set}
 use native.Mathlib.Decide.{ℕ_discrete}
 use Rattle.atomic_table.proofs.Lists.{at_set, at_map, set_else, set_again}
 use Rattle.queue_laws.specs.Common.Vocabulary.{Call, Reply, Effect}
 use Rattle.queue_steps.specs.Parties.{View, StandAt, SharedCall}
 use Rattle.queue_laws.proofs.Common.Runs.{cap_after, history_before}
-use Rattle.shared_parties.specs.{declared.known.Known.Known, declared.known.InCall.InCall, declared.known.Work.Work as work, declared.known.CallState.CallState, Known.party, Known.view_of, Known.Kept, CallStates.idle, CallStates.known_by, Calling.CallsOf, Calling.cap_of, Calling.Standing, CallsAt.CallsAt, CallsAt.begun_at, Quitting.Quit}
+use Rattle.shared_parties.specs.declared.known.{Known.Known, InCall.InCall, Work.Work as work, CallState.CallState}
+use Rattle.shared_parties.specs.{Known.party, Known.view_of, Known.Kept, CallStates.idle, CallStates.known_by, CallsAt.CallsAt, CallsAt.begun_at, Quitting.Quit, Calling.CallsOf, Calling.cap_of, Calling.Standing}
 use Rattle.shared_parties.proofs.{Alone.alone, Histories.prefix_self, SharedCalls.quiet}
 
 -- no effects stand at no places

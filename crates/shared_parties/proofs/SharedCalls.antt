@@ -5,7 +5,7 @@ use mathlib.Core.List.{IsPrefix}
 use Rattle.atomic_table.proofs.Lists.{at_last}
 use Rattle.queue_laws.specs.Common.Vocabulary.{Call, Reply, Effect}
 use Rattle.queue_steps.specs.{Effect.IsHistory, Effect.after, Replies.IsRightAt, Replies.Tells, Parties.View, Parties.SharedCall}
-use Rattle.shared_parties.proofs.{Histories.prefix_trans, Histories.prefix_more, Histories.prefix_length}
+use Rattle.shared_parties.proofs.Histories.{prefix_trans, prefix_more, prefix_length}
 
 module _ {T : Type 0} where
   -- a call that adds nothing, whose reply was right after the history h

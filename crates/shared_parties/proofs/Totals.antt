@@ -1,11 +1,9 @@
 -- Sums over lists of views.
 use Rattle.std.proofs.Common.{◌≡◌, ℕ, zero, suc, ◌+◌, ◌*◌, ◌<◌, ◌≤◌, ◌≢◌, ◌==◌, if◌then◌else◌, List, [], ◌∷◌, ◌++◌, set, refl, ap, sym, ◌∙◌, arith}
 use Rattle.std.proofs.{Math.Nat.zero-mul, Math.Nat.add-mul, lemmas.List.Sums.sum_by-append, lemmas.Bool.Decides.nat_tests}
-use mathlib.Core.Bool.{cond}
-use mathlib.Core.Option.{some, some-injective, some-ne-none}
+use mathlib.Core.{Bool.cond, Option.some, Option.some-injective, Option.some-ne-none}
 use lib.ListN.{get_elem?}
-use Rattle.shared_parties.specs.{Counting.times, Counting.once_below, Known.total}
-use Rattle.shared_parties.proofs.Counting.{times_cons}
+use Rattle.shared_parties.{specs.Counting.times, specs.Counting.once_below, specs.Known.total, proofs.Counting.times_cons}
 
 module _ {A : Type 0} (f : A → ℕ) where
   pub total_set : (l : List A) (i : ℕ) (a b : A) → get_elem? l i ≡ some a → total f (set l i b) + f a ≡ total f l + f b

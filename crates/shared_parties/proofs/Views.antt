@@ -5,8 +5,7 @@ use Rattle.std.proofs.lemmas.List.{Elements.All-append, Elements.All-weaker, Ele
 use Rattle.queue_laws.specs.Common.Vocabulary.{Call, Reply}
 use Rattle.queue_steps.specs.{Shares.IsEntire, Shares.IsSome, Shares.IsPart, Parties.View, Parties.IsView, Parties.IsWhole, Parties.SharedCall}
 use Rattle.queue_steps.proofs.Places.{stand_from, stand_once, stand_inside}
-use Rattle.shared_parties.specs.{declared.known.CallState.CallState, Known.view_of, CallStates.IsResting, CallStates.HasAll, Parting.IsParty}
-use Rattle.shared_parties.proofs.Histories.{prefix_length}
+use Rattle.shared_parties.{specs.declared.known.CallState.CallState, specs.Known.view_of, specs.CallStates.IsResting, specs.CallStates.HasAll, specs.Parting.IsParty, proofs.Histories.prefix_length}
 
 -- places below n and others from n on, none twice
 apart_append : (xs ys : List ℕ) (n : ℕ) → AllPairs (λ p q. p ≢ q) xs → All (λ p. p < n) xs → AllPairs (λ p q. p ≢ q) ys → All (λ p. n ≤ p) ys → AllPairs (λ p q. p ≢ q) (xs ++ ys)

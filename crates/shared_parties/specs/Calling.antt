@@ -1,7 +1,6 @@
 -- A call of a party on its way, between two of its steps, and what is so of it, whatever the queue is made of.
 use Rattle.std.specs.Prelude.{◌≡◌, ◌≢◌, ℕ, ◌<◌, ◌≤◌, Bool, true, false, List, [], ◌∷◌, ◌++◌, length, Option, Some, None}
-use mathlib.Core.Option.{some}
-use mathlib.Core.List.{IsPrefix}
+use mathlib.Core.{Option.some, List.IsPrefix}
 use lib.ListN.{get_elem?}
 use Rattle.atomic_table.specs.Table.{rest}
 use Rattle.queue_laws.specs.Common.{Vocabulary.Call, Vocabulary.Reply, Vocabulary.Effect, Vocabulary.Kind, Vocabulary.Op, Vocabulary.Touch, Vocabulary.Answer, Vocabulary.Next, Effects.IsBetween, Effects.Touches, Moments.SeenIn, Moments.seen_by, Stand.Stand, Stand.stand}

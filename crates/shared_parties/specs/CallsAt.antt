@@ -4,7 +4,8 @@ use mathlib.Core.Option.{some}
 use lib.ListN.{get_elem?}
 use Rattle.queue_laws.specs.Common.Vocabulary.{Reply, Effect, Next}
 use Rattle.queue_steps.specs.{Effect.after, Kinds.call_value, Kinds.filled, Parties.View, Parties.SharedCall}
-use Rattle.shared_parties.specs.{declared.known.CallState.CallState, declared.known.InCall.InCall, declared.known.Work.Work as work, Known.party, Known.view_of, Known.Kept, CallStates.is_busy, CallStates.known_by, CallStates.idle, CallStates.IsResting, CallStates.HasAll, Calling.CallsOf, Calling.cap_of, Calling.Standing, Calling.first_of}
+use Rattle.shared_parties.specs.{declared.known.CallState.CallState, declared.known.InCall.InCall, declared.known.Work.Work as work, Known.party, Known.view_of, Known.Kept, Calling.CallsOf, Calling.cap_of, Calling.Standing, Calling.first_of}
+use Rattle.shared_parties.specs.CallStates.{is_busy, known_by, idle, IsResting, HasAll}
 
 -- The cells are those of the state after the one history h. Each call stands at them where the laws of its kind have it, and whoever is at nothing has no part in
 -- them. What the seats know is true of the history, and n counts the parties

@@ -1,7 +1,6 @@
 -- What the parties of one queue know, whatever the queue is made of.
 use Rattle.std.specs.Prelude.{◌≡◌, ◌⊎◌, ℕ, ◌+◌, ◌^◌, ◌<◌, ◌≤◌, List, [], ◌∷◌, ◌++◌, length, Option}
-use mathlib.Core.Option.{some}
-use mathlib.Core.List.{IsPrefix}
+use mathlib.Core.{Option.some, List.IsPrefix}
 use lib.ListN.{get_elem?}
 use Rattle.queue_laws.specs.Common.Vocabulary.{Effect, MAX_PARTIES}
 use Rattle.queue_steps.specs.{Effect.IsHistory, Shares.Share, Shares.nothing, Shares.half, Shares.plus, Shares.IsEntire, Shares.IsSome, Shares.IsPart, Shares.weight, Parties.View}

@@ -5,8 +5,7 @@ use mathlib.Core.Option.{some}
 use lib.ListN.{get_elem?}
 use Rattle.atomic_table.specs.Table.{keeps, Allows, Splits, Joins}
 use Rattle.shared_parties.specs.{declared.known.CallState.CallState, CallStates.Sharing, declared.count.Change.Change, Parting.Regroups, PartyCount.changed, PartyCount.MayAct}
-use Rattle.shared_tables.specs.{Seats.Table, Seats.Seated, Seats.count_of, Seats.OfView, TableRule.TableOf, TableRule.Rule}
-use Rattle.shared_tables.proofs.TableParties.{table_keeps_parties}
+use Rattle.shared_tables.{specs.Seats.Table, specs.Seats.Seated, specs.Seats.count_of, specs.Seats.OfView, specs.TableRule.TableOf, specs.TableRule.Rule, proofs.TableParties.table_keeps_parties}
 
 module _ {T : Type 0} (K : TableOf T) where
   -- a step on the count

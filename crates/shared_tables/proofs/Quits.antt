@@ -2,8 +2,7 @@
 use Rattle.std.proofs.Common.{ℕ, List, set, refl, sym, ◌∙◌, subst}
 use Rattle.std.proofs.lemmas.List.{set-get_or}
 use Rattle.atomic_table.specs.Table.{keeps, Allows}
-use Rattle.shared_parties.specs.{CallStates.idle, Calling.stand_of, Quitting.its_call}
-use Rattle.shared_parties.proofs.Quits.{quit, quits}
+use Rattle.shared_parties.{specs.CallStates.idle, specs.Calling.stand_of, specs.Quitting.its_call, proofs.Quits.quit, proofs.Quits.quits}
 use Rattle.shared_tables.specs.{Seats.Seated, Seats.count_of, TableRule.TableOf, TableRule.TableLaws, TableRule.Rule, Quitting.MayQuit, Quitting.HasQuit}
 
 module _ {T : Type 0} (K : TableOf T) (words : ℕ) (laws : TableLaws K words) where

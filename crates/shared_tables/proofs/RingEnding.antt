@@ -5,11 +5,9 @@ use Rattle.atomic_table.specs.Table.{opening}
 use Rattle.queue_steps.specs.{Words.IsRing, Shares.entire}
 use Rattle.queue_laws.specs.Ring.RingOpening.{numbers_below, opening_ring, opening_shared}
 use Rattle.queue_laws.proofs.Ring.RingOpening.{opening_ok, opening_codes}
-use Rattle.own_cells.specs.OneRing.RingWords.{words_behind}
-use Rattle.own_cells.proofs.OneRing.Openings.{homes_at}
-use Rattle.shared_parties.specs.{declared.known.CallState.CallState, Known.party, CallStates.idle, CallStates.is_busy}
+use Rattle.own_cells.{specs.OneRing.RingWords.words_behind, proofs.OneRing.Openings.homes_at}
+use Rattle.shared_parties.{specs.declared.known.CallState.CallState, specs.Known.party, specs.CallStates.idle, specs.CallStates.is_busy, proofs.FirstParty.first_rests, proofs.FirstParty.first_kept}
 use Rattle.shared_tables.specs.{TableRule.Rule, RingTable.ring_table, RingOpening.first_words}
-use Rattle.shared_parties.proofs.FirstParty.{first_rests, first_kept}
 
 homes_long : {A : Type 0} (n : ℕ) (a : A) → length (map some (replicate n a)) ≡ n
 homes_long zero a = refl

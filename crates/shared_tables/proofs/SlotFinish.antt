@@ -7,10 +7,9 @@ use Rattle.queue_steps.specs.{Effect.after, Legal.IsShown, Parties.IsWhole, Shar
 use Rattle.queue_laws.specs.Slot.{SlotHolder.SlotHolder, SlotHolder.Nobody, SlotRows.Codes, SlotRows.free_empty, SlotRows.free_full, SlotRows.single, SlotCells.Slot, SlotCells.queue_of, SlotCells.lent_by}
 use Rattle.queue_laws.proofs.Slot.SlotCells.{all_nobody}
 use Rattle.shared_parties.specs.{declared.known.CallState.CallState, Known.party, Known.view_of, CallStates.idle, CallStates.is_busy, CallStates.IsLoneSeat}
-use Rattle.shared_tables.specs.{Seats.count_of, TableRule.Rule, SlotTable.home_under, SlotTable.slot_table}
+use Rattle.shared_tables.{specs.Seats.count_of, specs.TableRule.Rule, specs.SlotTable.home_under, specs.SlotTable.slot_table, proofs.TableRests.table_ends}
 use Rattle.own_cells.specs.OneSlot.OwnSlotCells.{state_of, word_for}
 use Rattle.shared_parties.proofs.FirstParty.{first_rests, first_kept}
-use Rattle.shared_tables.proofs.TableRests.{table_ends}
 
 module _ (T : Type 0) where
   abbrev pub seat : CallState T

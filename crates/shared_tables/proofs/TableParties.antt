@@ -1,7 +1,6 @@
 -- The rule of a shared table stays true where only the views change.
 use Rattle.std.proofs.Common.{◌≡◌, ℕ, List, ◌∷◌, ap, sym, ◌∙◌, subst, set, get_or}
-use Rattle.shared_parties.specs.{declared.known.CallState.CallState, CallStates.Sharing, Parting.Regroups, CallsAt.CallsAt}
-use Rattle.shared_parties.proofs.Sharings.{sharing, regrouped}
+use Rattle.shared_parties.{specs.declared.known.CallState.CallState, specs.CallStates.Sharing, specs.Parting.Regroups, specs.CallsAt.CallsAt, proofs.Sharings.sharing, proofs.Sharings.regrouped}
 use Rattle.shared_tables.specs.{Seats.Table, Seats.count_of, TableRule.TableOf, TableRule.Rule}
 
 -- the table with another count, and other views

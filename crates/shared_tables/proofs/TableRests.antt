@@ -1,15 +1,13 @@
 -- The end of a queue in a table: where one party that is at nothing has all of the share, every place of the history is its own, no call is on its way, and
 -- nobody has a slot.
 use Rattle.std.proofs.Common.{◌≡◌, ◌≢◌, ℕ, false, map, ap, sym, ◌∙◌, arith}
-use mathlib.Core.Option.{some, some-injective}
-use mathlib.Core.Logic.{dite}
+use mathlib.Core.{Option.some, Option.some-injective, Logic.dite}
 use native.Mathlib.Decide.{ℕ_discrete}
 use lib.ListN.{get_elem?}
 use Rattle.atomic_table.proofs.Lists.{at_map}
 use Rattle.queue_steps.specs.Parties.{IsWhole}
 use Rattle.shared_parties.specs.{declared.known.CallState.CallState, Known.view_of, CallStates.is_busy, CallStates.known_by, CallStates.IsLoneSeat, Calling.cap_of}
-use Rattle.shared_tables.specs.{Seats.Table, Seats.count_of, TableRule.TableOf, TableRule.Rule}
-use Rattle.shared_tables.proofs.TableParties.{table_keeps_parties}
+use Rattle.shared_tables.{specs.Seats.Table, specs.Seats.count_of, specs.TableRule.TableOf, specs.TableRule.Rule, proofs.TableParties.table_keeps_parties}
 use Rattle.shared_parties.proofs.{Sharings.false_if, Alone.Alone, Alone.alone}
 
 -- what is so of a table by its rule, where the seat id has all of the share

@@ -3,7 +3,8 @@ use Rattle.std.specs.Prelude.{◌≡◌, ℕ, ◌+◌, ◌<◌, List, [], length
 use mathlib.Core.Option.{some}
 use mathlib.Core.Option as maybe
 use lib.ListN.{get_elem?}
-use Rattle.queue_laws.specs.{Common.Vocabulary.Kind, Common.Vocabulary.Word, Ring.RingCells.Cell, Ring.RingCells.Ring, Ring.RingCells.queue_of, Ring.RingCells.RingOk, Ring.RingCells.owner, Ring.RingShared.Shared, Ring.RingShared.HasPlace, Ring.RingWords.Codes, Ring.RingWords.item_in, Ring.RingPasses.Passes, Ring.RingPasses.Lent, Ring.RingAt.At}
+use Rattle.queue_laws.specs.Common.Vocabulary.{Kind, Word}
+use Rattle.queue_laws.specs.Ring.{RingCells.Cell, RingCells.Ring, RingCells.queue_of, RingCells.RingOk, RingCells.owner, RingShared.Shared, RingShared.HasPlace, RingWords.Codes, RingWords.item_in, RingPasses.Passes, RingPasses.Lent, RingAt.At}
 use Rattle.own_cells.specs.{OneRing.RingWords.words_behind, declared.ring.ring_words.TheConstants.TAIL, declared.ring.ring_words.TheConstants.HEAD, declared.ring.ring_words.TheConstants.STAMPS}
 use Rattle.shared_parties.specs.Calling.{CallsOf}
 use Rattle.shared_tables.specs.TableRule.{TableOf}

@@ -1,7 +1,6 @@
 -- The rule of a queue that parties share over a table, whatever its kind: the first word counts the parties, the other words and the slots are the kind's.
 use Rattle.std.specs.Prelude.{None, ◌≡◌, ℕ, ◌+◌, ◌<◌, ◌||◌, not, Bool, true, List, [], ◌∷◌, Option, slice_index_or, slice_set, bit_and}
 use Rattle.std.specs.Int.{w64, bit_not}
-use mathlib.Core.Option.{some}
 use mathlib.Core.Option as maybe
 use Rattle.atomic_table.specs.Table.{Act, Valid, carried_after, homes_after}
 use Rattle.queue_laws.specs.Common.{Vocabulary.Call, Vocabulary.Effect, Vocabulary.Word, Vocabulary.Op, Vocabulary.Answer, Effects.Leads, Effects.with_effect, Effects.MayFront, Stand.Stand, Operations.OnWord, Operations.op_word, Operations.op_makes, Operations.answer_for}

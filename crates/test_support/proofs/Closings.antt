@@ -1,16 +1,14 @@
 -- Each step of a party keeps the rule of the one history.
 use Rattle.std.proofs.Common.{◌≡◌, ◌≢◌, ℕ, zero, suc, ◌<◌, ◌⊎◌, inl, inr, ⊎_elim, true, List, [], ◌∷◌, ◌++◌, length, set, sym, refl, ap, ◌∙◌, subst, arith, length-set, get_or, get_or-set_same, append-nil, replicate, lit<}
-use Rattle.std.specs.Prelude.{bit_or}
-use Rattle.std.proofs.lemmas.List.{append_assoc}
+use Rattle.std.{specs.Prelude.bit_or, proofs.lemmas.List.append_assoc}
 use mathlib.Core.Option.{some, some-injective, some-ne-none}
-use lib.ListN.{get_elem?}
-use lib.Seq.{set-get_or}
+use lib.{ListN.get_elem?, Seq.set-get_or}
 use denote.RawPtr.{Ptr}
 use Rattle.atomic_table.proofs.Lists.{at_set, at_snoc}
-use Rattle.mem_blocks.specs.Web.{Block, State, Sitter, block, Lives, word_of, with_word, KeepsRule, Allows, CanFork, CanMerge}
+use Rattle.mem_blocks.specs.{Web.Block, Web.State, Web.Sitter, Web.block, Web.Lives, Web.word_of, Web.with_word, Web.KeepsRule, Web.Allows, Web.CanFork, Web.CanMerge, declared.sizes.TheConstants.SLOTS}
 use Rattle.test_support.specs.ClosingRule as told
 use Rattle.test_support.specs.{ClosingRule.mark, ClosingRule.Begins, ClosingRule.view, ClosingRule.IsViewOf, ClosingRule.ClosingHolds, declared.closing_rule.View.View, declared.closing_rule.QueueEnds.QueueEnds}
-use Rattle.mem_blocks.specs.declared.sizes.TheConstants.{SLOTS}
+use Rattle.mem_blocks.specs.declared.sizes.TheConstants.{END_WORDS}
 
 mark_is : (log : List ℕ) → (mark log ≡ 0) ⊎ (mark log ≡ 1)
 mark_is [] = inl refl
@@ -92,7 +90,7 @@ module _ {S : Type 0} (key : QueueEnds S) (id : ℕ) (m : Sitter S View) (p : Pt
   pub closes : Allows (ClosingHolds key) id m p 0 (λ n. bit_or n 1) (told.closes m)
   closes s r here = (
     0,
-    (r.tail.0, r.tail.1 ∙ sym ep),
+    ((r.tail.0, r.tail.1 ∙ sym ep), r.long),
     λ small. let n : ℕ = word_of s.blocks 0 0 in let begins = (r.views id v here).0 in ⊎_elim
         (λ (clear : mark r.log ≡ 0). let e : n ≡ 0 = r.word ∙ clear in (
           view (r.log ++ id ∷ []) (v.mine ++ length r.log ∷ []),
@@ -108,7 +106,7 @@ module _ {S : Type 0} (key : QueueEnds S) (id : ℕ) (m : Sitter S View) (p : Pt
   pub looks : Allows (ClosingHolds key) id m p 0 (λ n. n) (told.looks m)
   looks s r here = (
     0,
-    (r.tail.0, r.tail.1 ∙ sym ep),
+    ((r.tail.0, r.tail.1 ∙ sym ep), r.long),
     λ small. let n : ℕ = word_of s.blocks 0 0 in let begins = (r.views id v here).0 in let is = r.word in
         stays s r (λ x. x) (told.looks m n) refl here ((refl, refl), (λ e. (begins, sym is ∙ e, refl)), λ ne. (begins, ⊎_elim (λ (clear : mark r.log ≡ 0). absurd (ne (is ∙ clear))) (λ shut. shut) (mark_is r.log), refl)),
   )
@@ -147,7 +145,7 @@ module _ {S : Type 0} (key : QueueEnds S) (id : ℕ) (m : Sitter S View) (p : Pt
 
 -- an open queue, whose two ends were laid one after the other
 pub begins : {S : Type 0} (key : QueueEnds S) (none one two : List (Block S)) (x y : Block S) → none ≡ [] → one ≡ none ++ x ∷ [] → two ≡ one ++ y ∷ [] → x.alive ≡ true → y.alive ≡ true → x.at ≡ key.tail.ptr → y.at ≡ key.head.ptr
-    → x.words ≡ replicate SLOTS 0 → ClosingHolds key record { blocks = two; views = told.nothing ∷ [] }
+    → x.words ≡ replicate END_WORDS 0 → ClosingHolds key record { blocks = two; views = told.nothing ∷ [] }
 begins key none one two x y e₀ e₁ e₂ x_lives y_lives tail head words = subst (λ (bs : List (Block _)). ClosingHolds key record { blocks = bs; views = told.nothing ∷ [] }) (sym (e₂ ∙ ap (λ bs. bs ++ y ∷ []) (e₁ ∙ ap (λ bs. bs ++ x ∷ []) e₀))) record {
   log = [];
   tail = (x_lives, tail);

@@ -1,23 +1,14 @@
 -- The tally at a call: what `is_refused` and `give_back` are handed, and what is had of them afterwards. Assumes `Logic`.
 use Rattle.std.proofs.Common.{◌≡◌, ℕ, zero, suc, ◌+◌, ◌^◌, ◌<◌, Bool, List, [], ◌∷◌, refl, ap, w64}
 use seplogic.Ra.Ura.{Ura}
-use mir.Syntax.{Body, seq}
-use mir.Val.{Val, vunit, vbool, vint, vptr}
+use mir.{Syntax.Body, Syntax.seq, Val.Val, Val.vunit, Val.vbool, Val.vint, Val.vptr}
 use base.Logic.{SProp, ent, ex, sep, guard, id⊢}
 use base.Fml.{Lft, Share, ftrue, fsep, flft}
-use prog.Memory.{Memory, size, align, up}
-use prog.Routine.{Routine}
+use prog.{Memory.Memory, Memory.size, Memory.align, Memory.up, Routine.Routine}
 use types.Logic.{Logic, sem}
 use contract.Monad.{Fun}
 use types.Kit.{‵, ◌⊛◌, some, later, raw, ◌$◌, ◌∵◌, !, qed, done, move, keep, use1, split, join, pick, check, show, fjoin, feq_i, feq_l, flt_i, fsplit, await, updating, now as at_once}
-use denote.RattleType.{RattleType}
-use denote.Memory.{hidden_shr}
-use denote.Builtin.{bool, unit}
-use denote.Steps.{nothing, only}
-use denote.Opens.{unhide}
-use denote.Param.{param}
-use denote.Triple.Statement.{Contract}
-use denote.Triple.Spec.{triple_of}
+use denote.{RattleType.RattleType, Memory.hidden_shr, Opens.unhide, Param.param, Steps.nothing, Steps.only, Triple.Statement.Contract, Triple.Spec.triple_of, Builtin.bool, Builtin.unit}
 use Rattle.std.proofs.alloc.Calls.{Al, α, seen}
 use Rattle.test_support.specs.contracts.allocators.Tally as tally
 use Rattle.test_support.specs.contracts.allocators.Refusing as refusing

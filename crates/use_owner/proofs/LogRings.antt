@@ -1,8 +1,9 @@
 -- What the calls of a ring do to the log that it keeps.
-use Rattle.std.proofs.Common.{◌≡◌, ℕ, ◌+◌, ◌<◌, ◌≤◌, true, false, List, [], ◌∷◌, ◌++◌, length, Option, Some, None, Result, Err, refl, ap, sym, subst, ◌∙◌, inl, inr, arith, length-append, append-nil, append_assoc, add-zero}
-use Rattle.std.specs.Prelude.{◌⊎◌, IfSome}
+use Rattle.std.proofs.Common.{◌≡◌, ℕ, ◌+◌, ◌<◌, ◌≤◌, true, false, List, [], ◌∷◌, ◌++◌, length, Option, Some, None, refl, ap, sym, subst, ◌∙◌, arith, length-append, append-nil, append_assoc, add-zero}
+use Rattle.std.specs.Prelude.{IfSome}
 use Rattle.std.specs.Option.{option_to_list, unwrap_or}
-use Rattle.queue_steps.specs.{declared.sizes.TheConstants.LIMIT, State.State, State.is_slot_cap, Errors.force_push_error_value, Legal.IsSound, Legal.IsSoundOwned, Legal.IsWithin, Sequential.Owned, Sequential.counted, declared.errors.ForcePushError.ForcePushError, declared.errors.ForcePushError.ForcePushError as force}
+use Rattle.queue_steps.specs.declared.{sizes.TheConstants.LIMIT}
+use Rattle.queue_steps.specs.{State.is_slot_cap, Sequential.Owned, Sequential.counted, Legal.IsSound, Legal.IsSoundOwned, Legal.IsWithin}
 use Rattle.use_owner.specs.{Log.Held, Log.newest, Log.with_all, Log.Appends, LogRings.capacity_of, LogRings.held_by, LogRings.IsLog}
 use Rattle.use_owner.proofs.Newest.{newest_all, newest_on, newest_one}
 

@@ -3,7 +3,8 @@ use Rattle.std.proofs.Common.{◌≡◌, ℕ, zero, suc, ◌+◌, ◌<◌, ◌�
 use Rattle.std.specs.Prelude.{◌⊎◌, IfOk}
 use Rattle.std.specs.{Option.unwrap_or, Result.result_ok, List.All}
 use Rattle.std.proofs.lemmas.List.Elements.{All-push, All-tail}
-use Rattle.queue_steps.specs.{declared.sizes.TheConstants.LIMIT, declared.sizes.TheConstants.MAX_CAPACITY, State.State, State.is_slot_cap, Errors.push_error_value, Sequential.Owned, Sequential.counted, declared.errors.PopError.PopError, declared.errors.PopError.PopError as pop, declared.errors.PushError.PushError, declared.errors.PushError.PushError as push}
+use Rattle.queue_steps.specs.declared.{sizes.TheConstants.LIMIT, sizes.TheConstants.MAX_CAPACITY, errors.PopError.PopError, errors.PopError.PopError as pop, errors.PushError.PushError, errors.PushError.PushError as push}
+use Rattle.queue_steps.specs.{State.State, State.is_slot_cap, Errors.push_error_value, Sequential.Owned, Sequential.counted}
 use Rattle.queue_laws.proofs.History.Numbers.{AreDistinct}
 use Rattle.use_owner.specs.{Pool.numbers, Pool.IsOut, Pool.TakesOne, Pool.Takes, Pool.GivesBack, PoolRings.count_of, PoolRings.places_of, PoolRings.IsPool}
 use Rattle.use_owner.proofs.Places.{numbers_below, numbers_once, once_more, once_less, fits, takes_first, gives_last}

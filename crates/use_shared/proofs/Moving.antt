@@ -1,11 +1,11 @@
 -- What the calls of a worker move.
 use Rattle.std.proofs.Common.{◌≡◌, ℕ, ◌+◌, ◌==◌, Bool, false, cond, List, [], ◌∷◌, Ok, Err, refl, ap, sym, subst, ◌∙◌, ⊎_elim, add-one, arith}
 use Rattle.std.specs.List.{count_by}
-use Rattle.queue_steps.specs.{declared.model.Call.Call, declared.model.Reply.Reply, declared.model.Effect.Effect, declared.model.Call.Call as call, declared.model.Reply.Reply as reply, declared.model.Effect.Effect as effect, declared.errors.PopError.PopError, declared.errors.PushError.PushError, declared.errors.PushError.PushError as push, Errors.push_error_value, Effect.after, Effect.rest, Sequential.pop_result, Shares.Share, Shares.SamePart, Shares.IsEntire, Parties.IsView}
+use Rattle.queue_steps.specs.declared.{model.Call.Call, model.Reply.Reply, model.Effect.Effect, model.Call.Call as call, model.Reply.Reply as reply, model.Effect.Effect as effect, errors.PopError.PopError, errors.PushError.PushError, errors.PushError.PushError as push}
+use Rattle.queue_steps.specs.{Errors.push_error_value, Sequential.pop_result, Parties.IsView, Effect.after, Effect.rest, Shares.Share, Shares.SamePart, Shares.IsEntire}
 use Rattle.queue_steps.proofs.ShareLaws.{same_refl, same_trans}
 use Rattle.concurrent_queue.specs.Shared.{QueueId, PartyView, Calls}
-use Rattle.law_parties.specs.Doings.{hands_in_such, hands_out_such, Acts}
-use Rattle.law_parties.proofs.Doings.{single, acts}
+use Rattle.law_parties.{specs.Doings.hands_in_such, specs.Doings.hands_out_such, specs.Doings.Acts, proofs.Doings.single, proofs.Doings.acts}
 use Rattle.use_shared.specs.{Sharing.none, Sharing.one, Sharing.below, Sharing.came, Sharing.went, Sharing.Moves, Sharing.SeesNone, declared.tasks.executor.Worker.Worker}
 
 -- a call of the party v, which is then p: so many of each number were handed in, and out

@@ -1,7 +1,6 @@
 -- Workers that part and are joined, and what is there when all is done.
 use Rattle.std.proofs.Common.{◌≡◌, ◌≢◌, ◌⊎◌, ℕ, zero, suc, ◌+◌, ◌<◌, ◌≤◌, ◌==◌, Bool, cond, List, [], refl, ap, sym, subst, ◌∙◌, inl, inr, arith}
-use Rattle.std.specs.List.{count_by}
-use Rattle.std.proofs.lemmas.Bool.Decides.{eqb_tells}
+use Rattle.std.{specs.List.count_by, proofs.lemmas.Bool.Decides.eqb_tells}
 use lib.ListN.{get_elem?}
 use Rattle.queue_steps.specs.{declared.model.Effect.Effect, Effect.after, Legal.IsSoundOwned, Shares.Share, Shares.SamePart, Shares.IsEntire, Sequential.Owned, Parties.IsView}
 use Rattle.queue_steps.proofs.ShareLaws.{same_sym, same_trans, same_refl, halves_joined, entire_same}

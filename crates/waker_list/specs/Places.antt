@@ -1,7 +1,8 @@
 -- Where a future is between its steps.
 use Rattle.std.specs.Prelude.{◌≡◌, ◌⊎◌, Bool, true, false, Option, Some, None, IsTrue, is_some, if◌then◌else◌}
 use Rattle.futures.specs.declared.util.wait_list.Ticket.{Ticket}
-use Rattle.event_count.specs.{declared.wakes.seats.Seat.Seat, declared.wakes.seats.Seat.TheVariants.Away, declared.wakes.seats.Seat.TheVariants.Looking, declared.wakes.seats.Seat.TheVariants.Asleep, declared.wakes.seats.Seat.TheVariants.Told, declared.wakes.seats.Seat.TheVariants.Given, Sleep.Lists.is_on, Sleep.Seats.taken_off_of, Sleep.Seats.left_of}
+use Rattle.event_count.specs.declared.wakes.seats.Seat.{Seat, TheVariants.Away, TheVariants.Looking, TheVariants.Asleep, TheVariants.Told, TheVariants.Given}
+use Rattle.event_count.specs.Sleep.{Lists.is_on, Seats.taken_off_of, Seats.left_of}
 
 abbrev pub is_away : Seat → Bool
 is_away Away = true

@@ -1,7 +1,8 @@
 -- A run of one owner that ends is a call that leads on at every step.
 use Rattle.std.specs.Prelude.{◌≡◌, ℕ, zero, suc, Option, Some, None}
 use Rattle.std.proofs.Common.{sym, subst}
-use Rattle.queue_steps.specs.{declared.model.Call.Call, declared.model.Reply.Reply, declared.steps.types.Kind.Kind, declared.steps.types.Answer.Answer, declared.steps.types.Answer.Answer as answer, declared.steps.types.Next.Next, declared.steps.types.Next.Next as next, declared.steps.types.Op.Op, declared.steps.types.Touch.Touch, declared.steps.types.Local.Local, Next.next_of, Next.first_local, Kinds.call_kind, Kinds.call_value, Kinds.filled, Sequential.Owned}
+use Rattle.queue_steps.specs.declared.{model.Call.Call, model.Reply.Reply, steps.types.Kind.Kind, steps.types.Answer.Answer, steps.types.Answer.Answer as answer, steps.types.Next.Next, steps.types.Next.Next as next, steps.types.Op.Op, steps.types.Touch.Touch, steps.types.Local.Local}
+use Rattle.queue_steps.specs.{Next.next_of, Next.first_local, Sequential.Owned, Kinds.call_kind, Kinds.call_value, Kinds.filled}
 use Rattle.call_driver.specs.{EndsIn.EndsIn, EndsIn.EndsRight, EndsIn.Answered, Leads.Leads, Leads.GoesOn, Leads.Begins, Own.MayTake, Own.Took, Own.EndsRightFrom, Own.Ended}
 
 module _ {T B C : Type 0} (can_touch : C → Touch → Op B → Type 0) (touches : C → Touch → Op B → Option T → C → Option T → Type 0)

@@ -1,9 +1,9 @@
 -- A party whose call closed the queue, or found it closed, has seen it closed.
 use Rattle.std.proofs.Common.{◌≡◌, ◌⊎◌, inl, inr, ℕ, zero, suc, Bool, true, false, Option, Err, List, [], ◌∷◌, ◌++◌, length, refl, sym, subst, ⊎_elim}
-use mathlib.Core.Option.{some, some-injective, some-ne-none}
-use mathlib.Core.List.{IsPrefix}
+use mathlib.Core.{Option.some, Option.some-injective, Option.some-ne-none, List.IsPrefix}
 use lib.ListN.{get_elem?}
-use Rattle.queue_steps.specs.{declared.model.Call.Call, declared.model.Call.Call as call, declared.model.Reply.Reply, declared.model.Reply.Reply as reply, declared.model.Effect.Effect, declared.model.Effect.Effect as effect, declared.errors.PushError.PushError as push, declared.errors.ForcePushError.ForcePushError as force, State.State, State.start, Effect.Runs, Effect.IsHistory, Effect.made, Effect.after_from, Effect.after, Replies.Tells, Replies.Allows, Parties.View, Parties.StandAt, Parties.SharedCall}
+use Rattle.queue_steps.specs.declared.{model.Call.Call, model.Call.Call as call, model.Reply.Reply, model.Reply.Reply as reply, model.Effect.Effect, model.Effect.Effect as effect, errors.PushError.PushError as push, errors.ForcePushError.ForcePushError as force}
+use Rattle.queue_steps.specs.{State.State, State.start, Replies.Tells, Replies.Allows, Parties.View, Parties.StandAt, Parties.SharedCall, Effect.Runs, Effect.IsHistory, Effect.made, Effect.after_from, Effect.after}
 use Rattle.queue_steps.proofs.Keeping.{stays_closed}
 use Rattle.concurrent_queue.specs.Shared.{QueueId, PartyView, Calls}
 use Rattle.counted_channel.specs.QueueCalls.Calls.{Ends, HasSeenClosed}

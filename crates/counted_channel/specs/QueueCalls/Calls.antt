@@ -2,7 +2,8 @@
 use Rattle.std.specs.Prelude.{◌≡◌, Bool, true, false, Result, Ok, Err, Option}
 use Rattle.queue_steps.specs.{declared.model.Call.Call as call, declared.model.Reply.Reply, declared.model.Reply.Reply as reply, declared.errors.PopError.PopError as pop, declared.errors.PushError.PushError as push, declared.errors.ForcePushError.ForcePushError as force, Effect.after}
 use Rattle.concurrent_queue.specs.Shared.{PartyView, Calls}
-use Rattle.counted_channel.specs.declared.calls.{errors.SendError.SendError, errors.SendError.SendError as send, errors.Disconnected.Disconnected, waited.Pushed.Pushed, waited.Pushed.Pushed as put, waited.ForcePushed.ForcePushed, waited.ForcePushed.ForcePushed as forced, waited.Popped.Popped, waited.Popped.Popped as taken}
+use Rattle.counted_channel.specs.declared.calls.errors.{SendError.SendError, SendError.SendError as send, Disconnected.Disconnected}
+use Rattle.counted_channel.specs.declared.calls.waited.{Pushed.Pushed, Pushed.Pushed as put, ForcePushed.ForcePushed, ForcePushed.ForcePushed as forced, Popped.Popped, Popped.Popped as taken}
 
 -- the replies of the queue that the channel's answers stand for
 abbrev pub sent : {T : Type 0} → Result (Unit {0}) (SendError T) → Reply T

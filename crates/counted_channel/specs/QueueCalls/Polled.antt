@@ -4,40 +4,41 @@ use Rattle.queue_steps.specs.declared.{model.Call.Call, model.Call.Call as call,
 use Rattle.concurrent_queue.specs.{SawMore.SawMore, Shared.QueueId, Shared.PartyView, Shared.IsPartyOf, Shared.Calls}
 use Rattle.event_count.specs.Sleep.Seats.{looked_of}
 use Rattle.waker_list.specs.declared.place.{Place.Place, Look.Look, Missed.Missed}
-use Rattle.counted_channel.specs.declared.calls.{waited.Items.Items, waited.Room.Room, polled.At.At, polled.At.At as at, polled.Attempt.Attempt, polled.Attempt.Attempt as attempt, polled.PolledPop.PolledPop, polled.PolledPop.PolledPop as popped, polled.PolledPush.PolledPush, polled.PolledPush.PolledPush as pushed}
+use Rattle.counted_channel.specs.declared.calls.waited.{Items.Items, Room.Room}
+use Rattle.counted_channel.specs.declared.calls.polled.{PollState.PollState, PollState.PollState as poll, Attempt.Attempt, Attempt.Attempt as attempt, PolledPop.PolledPop, PolledPop.PolledPop as popped, PolledPush.PolledPush, PolledPush.PolledPush as pushed}
 
 module _ {T A : Type 0} where
   -- the party, as it was before the pop that it is in
-  abbrev pub party_at : At T A → PartyView T
-  party_at (at.Between p) = p
-  party_at (at.Popping p) = p.party
+  abbrev pub party_at : PollState T A → PartyView T
+  party_at (poll.Between p) = p
+  party_at (poll.Popping p) = p.party
 
   -- the call that it is in; where it is in none, this one
-  abbrev pub call_at : At T A → Call T
-  call_at (at.Between p) = call.Pop
-  call_at (at.Popping p) = p.call
+  abbrev pub call_at : PollState T A → Call T
+  call_at (poll.Between p) = call.Pop
+  call_at (poll.Popping p) = p.call
 
   -- it is one of the queue's, and is in no call but a pop
-  abbrev pub IsAt : At T A → QueueId → Type 0
-  IsAt a q = IsPartyOf (party_at a) q × (call_at a ≡ call.Pop)
+  abbrev pub IsStateOf : PollState T A → QueueId → Type 0
+  IsStateOf a q = IsPartyOf (party_at a) q × (call_at a ≡ call.Pop)
 
   -- the party is in a pop, and is otherwise as it was
-  abbrev pub IsPopping : PartyView T → At T A → Type 0
-  IsPopping v (at.Between p) = ⊥
-  IsPopping v (at.Popping p) = p.party ≡ v
+  abbrev pub IsPopping : PartyView T → PollState T A → Type 0
+  IsPopping v (poll.Between p) = ⊥
+  IsPopping v (poll.Popping p) = p.party ≡ v
 
   -- the party is between two calls, and this is true of it
-  abbrev pub IsBetween : At T A → (PartyView T → Type 0) → Type 0
-  IsBetween (at.Between p) P = P p
-  IsBetween (at.Popping p) P = ⊥
+  abbrev pub IsBetween : PollState T A → (PartyView T → Type 0) → Type 0
+  IsBetween (poll.Between p) P = P p
+  IsBetween (poll.Popping p) P = ⊥
 
   -- the try of a pop took the party from v on
-  abbrev pub Attempts : PartyView T → Attempt T → At T A → Type 0
+  abbrev pub Attempts : PartyView T → Attempt T → PollState T A → Type 0
   Attempts v (attempt.Answered r) a = IsBetween a (λ w. Calls v call.Pop (reply.Pop r) w)
   Attempts v attempt.Busy a = IsBetween a (λ w. SawMore v w)
   Attempts v attempt.Taken a = IsPopping v a
 
-  abbrev pub PollsPop : PartyView T → PolledPop T → At T A → Type 0
+  abbrev pub PollsPop : PartyView T → PolledPop T → PollState T A → Type 0
   PollsPop v (popped.Item x place owed) a = IsBetween a (λ w. Calls v call.Pop (reply.Pop (Ok x)) w)
   PollsPop v (popped.Closed place) a = IsBetween a (λ w. Calls v call.Pop (reply.Pop (Err pop.Closed)) w)
   PollsPop v (popped.Empty missed) a = IsBetween a (λ w. Calls v call.Pop (reply.Pop (Err pop.Empty)) w)

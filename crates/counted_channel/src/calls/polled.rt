@@ -4,7 +4,7 @@ ghost use Rattle.queue_steps.specs.declared.model.Call.TheVariants as call;
 ghost use Rattle.queue_steps.specs.declared.model.Reply.TheVariants as reply;
 ghost use Rattle.concurrent_queue.specs.Comes.{Comes};
 ghost use Rattle.concurrent_queue.specs.Shared.{PartyView, IsPartyOf, Calls};
-ghost use Rattle.counted_channel.specs.QueueCalls.Polled.{IsAt, party_at, Attempts, PollsPop, PollsPush, PopKeeps, PushKeeps};
+ghost use Rattle.counted_channel.specs.QueueCalls.Polled.{IsStateOf, party_at, Attempts, PollsPop, PollsPush, PopKeeps, PushKeeps};
 
 use crate::calls::waited::{Items, OwesEnd, Room, WaitedQueue, owes_end};
 use crate::calls::waiters::OwesOne;
@@ -17,7 +17,7 @@ use waker_list::{Look, Missed, Place};
 
 /// Where the party of a receiver in futures is.
 #[derive(Drop)]
-pub enum At<T, A: Allocator = Global> {
+pub enum PollState<T, A: Allocator = Global> {
     /// Between two calls.
     Between(Party<T>),
     /// In a pop that has taken its item, which is not written yet.
@@ -69,58 +69,58 @@ fn answer_of<T>(answer: Reply<T>) -> Result<T, PopError>
 
 impl<T, A: NullTestable + OneHeap> WaitedQueue<T, A> {
     /// Begins a pop, or takes it up again.
-    fn begin_pop(&self, at: At<T, A>) -> Outcome<T, A>
-        requires { IsAt at self.now }
+    fn begin_pop(&self, at: PollState<T, A>) -> Outcome<T, A>
+        requires { IsStateOf at self.now }
         ensures { Comes (party_at at) call.Pop result }
     {
         match at {
-            At::Between(party) => self.queue.begin(party, Call::Pop),
-            At::Popping(pending) => self.queue.resume(pending),
+            PollState::Between(party) => self.queue.begin(party, Call::Pop),
+            PollState::Popping(pending) => self.queue.resume(pending),
         }
     }
 
     /// One try of a pop. It is given up where it meets another call half done, unless it has its item.
-    fn attempt_pop(&self, at: At<T, A>) -> (At<T, A>, Attempt<T>)
-        requires { IsAt at self.now }
-        ensures of { IsAt result.0 self.now }
+    fn attempt_pop(&self, at: PollState<T, A>) -> (PollState<T, A>, Attempt<T>)
+        requires { IsStateOf at self.now }
+        ensures of { IsStateOf result.0 self.now }
         ensures attempts { Attempts (party_at at) result.1 result.0 }
     {
         match self.begin_pop(at) {
             Outcome::Pending(pending) => match self.queue.give_up(pending) {
                 Ok((party, value)) => {
                     let None = value else { unreachable!() };
-                    (At::Between(party), Attempt::Busy)
+                    (PollState::Between(party), Attempt::Busy)
                 }
-                Err(pending) => (At::Popping(pending), Attempt::Taken),
+                Err(pending) => (PollState::Popping(pending), Attempt::Taken),
             },
             Outcome::Done(party, answer) => {
                 let popped = answer_of(answer);
-                (At::Between(party), Attempt::Answered(popped))
+                (PollState::Between(party), Attempt::Answered(popped))
             }
         }
     }
 
     /// One try of a pop, of the party that is there.
-    fn attempt_at(&self, at: &mut At<T, A>) -> Attempt<T>
-        requires { IsAt at.old self.now }
-        ensures of { IsAt at.new self.now }
+    fn attempt_at(&self, at: &mut PollState<T, A>) -> Attempt<T>
+        requires { IsStateOf at.old self.now }
+        ensures of { IsStateOf at.new self.now }
         ensures attempts { Attempts (party_at at.old) result at.new }
     {
         replace_with(
             at,
             self,
-            |at, queue: &WaitedQueue<T, A>| -> (At<T, A>, Attempt<T>)
-                requires { IsAt at queue.now }
-                ensures of { IsAt result.0 queue.now }
+            |at, queue: &WaitedQueue<T, A>| -> (PollState<T, A>, Attempt<T>)
+                requires { IsStateOf at queue.now }
+                ensures of { IsStateOf result.0 queue.now }
                 ensures attempts { Attempts (party_at at) result.1 result.0 }
             { queue.attempt_pop(at) },
         )
     }
 
     /// Pops, or goes on with the pop that has taken its item.
-    pub fn poll_pop<'a>(&self, at: &mut At<T, A>, look: Look<'a, Items>) -> PolledPop<'a, T>
-        requires { IsAt at.old self.now }
-        ensures of { IsAt at.new self.now }
+    pub fn poll_pop<'a>(&self, at: &mut PollState<T, A>, look: Look<'a, Items>) -> PolledPop<'a, T>
+        requires { IsStateOf at.old self.now }
+        ensures of { IsStateOf at.new self.now }
         ensures polls { PollsPop (party_at at.old) result at.new }
         ensures keeps { PopKeeps look.entry result }
     {
@@ -142,11 +142,11 @@ impl<T, A: NullTestable + OneHeap> WaitedQueue<T, A> {
     }
 
     /// Goes on with the pop that has taken its item, if there is one. Gives the item once it is written.
-    pub fn settle(&self, at: &mut At<T, A>) -> Option<(T, OwesOne<Room>)>
-        requires { IsAt at.old self.now }
-        ensures { IsAt at.new self.now }
+    pub fn settle(&self, at: &mut PollState<T, A>) -> Option<(T, OwesOne<Room>)>
+        requires { IsStateOf at.old self.now }
+        ensures { IsStateOf at.new self.now }
     {
-        let At::Popping(_) = at else {
+        let PollState::Popping(_) = at else {
             return None;
         };
         match self.attempt_at(at) {

@@ -1,6 +1,7 @@
 -- How many parties are on the way to sleep, and how many go to wake them.
 use Rattle.std.proofs.Common.{◌≡◌, ◌⊎◌, inl, inr, ℕ, ◌+◌, ◌≤◌, ◌==◌, Bool, true, false, Some, List, count_by, slice_get, slice_set, arith, le_refl}
-use Rattle.event_count.specs.{declared.wakes.steps.Phase.TheVariants.Prepared, declared.wakes.steps.Phase.TheVariants.Missed, declared.wakes.steps.Phase.TheVariants.Given, declared.wakes.steps.Phase.TheVariants.Taking, declared.wakes.steps.Phase.TheVariants.Moving, declared.wakes.steps.Phase.TheVariants.Waking, declared.wakes.steps.Whom.TheVariants.One, declared.wakes.steps.Whom.TheVariants.All, Sleep.World.Party, Sleep.World.Awake, Sleep.World.is_asleep, Sleep.Laws.is_woken, Sleep.Laws.is_rousing}
+use Rattle.event_count.specs.declared.wakes.steps.{Phase.TheVariants.Prepared, Phase.TheVariants.Missed, Phase.TheVariants.Given, Phase.TheVariants.Taking, Phase.TheVariants.Moving, Phase.TheVariants.Waking, Whom.TheVariants.One, Whom.TheVariants.All}
+use Rattle.event_count.specs.Sleep.{World.Party, World.Awake, World.is_asleep, Laws.is_woken, Laws.is_rousing}
 use Rattle.event_count.proofs.Sleep.Counts.{one, count_set}
 
 -- its ticket is what `EVENTS` is, so it may come to sleep

@@ -1,6 +1,7 @@
 -- Each event keeps that no item is left to nobody, while no party slept on a ticket that `EVENTS` was no longer.
 use Rattle.std.proofs.Common.{◌≡◌, ℕ, zero, suc, ◌+◌, ◌-◌, ◌≤◌, ◌==◌, Bool, true, false, if◌then◌else◌, Option, Some, None, slice_get, refl, arith, le_refl, eqb-true}
-use Rattle.event_count.specs.{declared.wakes.steps.Phase.Phase, declared.wakes.steps.Phase.TheVariants.Idle, declared.wakes.steps.Phase.TheVariants.Starting, declared.wakes.steps.Phase.TheVariants.Prepared, declared.wakes.steps.Phase.TheVariants.Missed, declared.wakes.steps.Phase.TheVariants.Returned, declared.wakes.steps.Phase.TheVariants.Given, declared.wakes.steps.Phase.TheVariants.Clearing, Sleep.Steps.step_of}
+use Rattle.event_count.specs.declared.wakes.steps.Phase.{Phase, TheVariants.Idle, TheVariants.Starting, TheVariants.Prepared, TheVariants.Missed, TheVariants.Returned, TheVariants.Given, TheVariants.Clearing}
+use Rattle.event_count.specs.Sleep.Steps.{step_of}
 use Rattle.event_count.specs.Sleep.World.{Party, Awake, Asleep, World, Event, Steps, Rises, Prepares, Looks, Leaves, Gives, Tells, put, takes, rises, looks, leaves, prepares, gives, tells, happens}
 use Rattle.event_count.proofs.Sleep.{Told.Told, Telling.acts_keeps, HeedSteps.Heeded, HeedSteps.turns, HeedSteps.turns_empty, HeedSteps.takes_keeps, Heed.part, Heed.alike}
 

@@ -1,8 +1,10 @@
 -- The laws of every run.
 use Rattle.std.proofs.Common.{◌≡◌, ◌⊎◌, inl, inr, ℕ, ◌+◌, ◌≤◌, ◌∙◌, Bool, List, [], ◌∷◌, count_by, refl, sym, ap, subst, arith, le_refl}
-use Rattle.event_count.specs.{declared.wakes.steps.Phase.TheVariants.Idle, declared.wakes.steps.Phase.TheVariants.Given, declared.wakes.steps.Phase.TheVariants.Taking, declared.wakes.steps.Phase.TheVariants.Moving, declared.wakes.steps.Phase.TheVariants.Waking, declared.wakes.steps.Whom.TheVariants.One, declared.wakes.steps.Whom.TheVariants.All, Sleep.Laws.is_giving, Sleep.Laws.is_telling, Sleep.Laws.HasMissedNothing, Sleep.Laws.NobodySleepsThrough, Sleep.Laws.AreHeeded, Sleep.Laws.AreRoused, Sleep.Laws.NoItemIsLeft, Sleep.Examples.Examples}
+use Rattle.event_count.specs.declared.wakes.steps.{Phase.TheVariants.Idle, Phase.TheVariants.Given, Phase.TheVariants.Taking, Phase.TheVariants.Moving, Phase.TheVariants.Waking, Whom.TheVariants.One, Whom.TheVariants.All}
+use Rattle.event_count.specs.Sleep.{Laws.is_giving, Laws.is_telling, Laws.HasMissedNothing, Laws.NobodySleepsThrough, Laws.AreHeeded, Laws.AreRoused, Laws.NoItemIsLeft, Examples.Examples}
 use Rattle.event_count.specs.Sleep.World.{Party, Awake, Asleep, World, Event, is_asleep, start, happens, run}
-use Rattle.event_count.proofs.Sleep.{Counts.one, Counts.count_at, Counts.count_le, Counts.count_none, Counts.some_counted, Counts.replicate_get, Counts.count_cons, Told.MaySleep, Told.Relies, Told.Told, Heed.is_near, Heed.is_parking, Heed.is_unmoved, Heed.is_moving, Heed.is_waking, Heed.tally_of, Heed.Heeds, HeedSteps.Heeded}
+use Rattle.event_count.proofs.Sleep.Counts.{one, count_at, count_le, count_none, some_counted, replicate_get, count_cons}
+use Rattle.event_count.proofs.Sleep.{Told.MaySleep, Told.Relies, Told.Told, HeedSteps.Heeded, Heed.is_near, Heed.is_parking, Heed.is_unmoved, Heed.is_moving, Heed.is_waking, Heed.tally_of, Heed.Heeds}
 use Rattle.event_count.proofs.Sleep.Telling as telling
 use Rattle.event_count.proofs.Sleep.Heeding as heeding
 

@@ -1,6 +1,7 @@
 -- What each event keeps for those that wait for what all wait for.
 use Rattle.std.proofs.Common.{◌≡◌, ◌⊎◌, inl, inr, ℕ, ◌+◌, ◌^◌, ◌<◌, ◌≤◌, ◌==◌, Bool, true, false, Some, count_by, slice_get, slice_set, refl, sym, subst, arith}
-use Rattle.event_count.specs.{declared.wakes.steps.Phase.TheVariants.Loaded, declared.wakes.steps.Phase.TheVariants.Prepared, declared.wakes.steps.Phase.TheVariants.Missed, declared.wakes.steps.Phase.TheVariants.Clearing, declared.wakes.steps.Phase.TheVariants.Moving, declared.wakes.steps.Phase.TheVariants.Waking, declared.wakes.steps.Whom.TheVariants.All, Sleep.World.Party, Sleep.World.Awake, Sleep.World.Asleep, Sleep.World.World, Sleep.World.is_asleep, Sleep.Laws.is_telling}
+use Rattle.event_count.specs.declared.wakes.steps.{Phase.TheVariants.Loaded, Phase.TheVariants.Prepared, Phase.TheVariants.Missed, Phase.TheVariants.Clearing, Phase.TheVariants.Moving, Phase.TheVariants.Waking, Whom.TheVariants.All}
+use Rattle.event_count.specs.Sleep.{World.Party, World.Awake, World.Asleep, World.World, World.is_asleep, Laws.is_telling}
 use Rattle.event_count.proofs.Sleep.Counts.{one, count_at, count_set, set_get}
 
 -- it made what all wait for come for the n-th time, and has not moved `EVENTS`

@@ -1,6 +1,7 @@
 -- What holds in every run.
 use Rattle.std.specs.Prelude.{◌≡◌, ℕ, ◌+◌, ◌^◌, ◌<◌, ◌≤◌, ◌==◌, ◌⊎◌, Bool, true, false, Some, List, count_by, slice_get}
-use Rattle.event_count.specs.{declared.wakes.steps.Phase.TheVariants.Returned, declared.wakes.steps.Phase.TheVariants.Given, declared.wakes.steps.Phase.TheVariants.Taking, declared.wakes.steps.Phase.TheVariants.Clearing, declared.wakes.steps.Phase.TheVariants.Moving, declared.wakes.steps.Phase.TheVariants.Waking, declared.wakes.steps.Whom.TheVariants.One, declared.wakes.steps.Whom.TheVariants.All, Sleep.World.Party, Sleep.World.Awake, Sleep.World.Asleep, Sleep.World.World, Sleep.World.Event, Sleep.World.is_asleep, Sleep.World.start, Sleep.World.run}
+use Rattle.event_count.specs.declared.wakes.steps.{Phase.TheVariants.Returned, Phase.TheVariants.Given, Phase.TheVariants.Taking, Phase.TheVariants.Clearing, Phase.TheVariants.Moving, Phase.TheVariants.Waking, Whom.TheVariants.One, Whom.TheVariants.All}
+use Rattle.event_count.specs.Sleep.World.{Party, Awake, Asleep, World, Event, is_asleep, start, run}
 
 -- it was woken, and its caller has not looked again
 abbrev pub is_woken : Party → Bool

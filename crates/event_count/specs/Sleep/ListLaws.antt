@@ -1,6 +1,7 @@
 -- What holds in every run of parties at a list of wakers.
 use Rattle.std.specs.Prelude.{◌≡◌, ℕ, ◌+◌, ◌≤◌, ◌⊎◌, Bool, true, false, Some, List, count_by, slice_get}
-use Rattle.event_count.specs.{declared.wakes.seats.Seat.TheVariants.Asleep, declared.wakes.seats.Seat.TheVariants.Told, declared.wakes.seats.Seat.TheVariants.Given, declared.wakes.seats.Seat.TheVariants.Waking, declared.wakes.seats.Seat.TheVariants.Telling, declared.wakes.seats.Seat.TheVariants.Calling, Sleep.Lists.Party, Sleep.Lists.At, Sleep.Lists.Event, Sleep.Lists.start, Sleep.Lists.run}
+use Rattle.event_count.specs.declared.wakes.seats.Seat.TheVariants.{Asleep, Told, Given, Waking, Telling, Calling}
+use Rattle.event_count.specs.Sleep.Lists.{Party, At, Event, start, run}
 
 abbrev pub is_asleep : Party → Bool
 is_asleep (At Asleep m) = true

@@ -1,6 +1,8 @@
 -- Any number of parties at a list of wakers, and what one event makes of them.
 use Rattle.std.specs.Prelude.{ℕ, ◌+◌, ◌-◌, ◌==◌, Bool, true, false, Option, Some, None, List, [], ◌∷◌, map, replicate, count_by, slice_get, slice_set}
-use Rattle.event_count.specs.{declared.wakes.seats.Seat.Seat, declared.wakes.seats.Seat.TheVariants.Away, declared.wakes.seats.Seat.TheVariants.Looking, declared.wakes.seats.Seat.TheVariants.Asleep, declared.wakes.seats.Seat.TheVariants.Told, declared.wakes.seats.Seat.TheVariants.Taken, declared.wakes.seats.Seat.TheVariants.Given, declared.wakes.seats.Seat.TheVariants.Waking, declared.wakes.seats.Seat.TheVariants.Telling, declared.wakes.seats.ListStep.ListStep, declared.wakes.seats.ListStep.TheVariants.Rest, declared.wakes.seats.ListStep.TheVariants.Load, declared.wakes.seats.ListStep.TheVariants.TakeOne, declared.wakes.seats.ListStep.TheVariants.TakeAll, Sleep.Seats.step_of, Sleep.Seats.entered_of, Sleep.Seats.looked_of, Sleep.Seats.taken_off_of, Sleep.Seats.left_of, Sleep.Seats.next_of}
+use Rattle.event_count.specs.declared.wakes.seats.Seat.{Seat, TheVariants.Away, TheVariants.Looking, TheVariants.Asleep, TheVariants.Told, TheVariants.Taken, TheVariants.Given, TheVariants.Waking, TheVariants.Telling}
+use Rattle.event_count.specs.declared.wakes.seats.ListStep.{ListStep, TheVariants.Rest, TheVariants.Load, TheVariants.TakeOne, TheVariants.TakeAll}
+use Rattle.event_count.specs.Sleep.Seats.{step_of, entered_of, looked_of, taken_off_of, left_of, next_of}
 
 -- where a party is, and how often what all wait for had come when it looked last
 pub data Party : Type 0 where

@@ -1,6 +1,7 @@
 -- A future learns at its next lock that a notify has taken it off the list. Where it is until then, and where it takes itself to be.
 use Rattle.std.specs.Prelude.{◌≡◌, ◌⊎◌, Bool, true, false}
-use Rattle.event_count.specs.{declared.wakes.seats.Seat.Seat, declared.wakes.seats.Seat.TheVariants.Away, declared.wakes.seats.Seat.TheVariants.Looking, declared.wakes.seats.Seat.TheVariants.Asleep, declared.wakes.seats.Seat.TheVariants.Told, declared.wakes.seats.Seat.TheVariants.Taken, declared.wakes.seats.Seat.TheVariants.Given, Sleep.Lists.is_on, Sleep.Seats.entered_of, Sleep.Seats.looked_of, Sleep.Seats.taken_off_of, Sleep.Seats.left_of}
+use Rattle.event_count.specs.declared.wakes.seats.Seat.{Seat, TheVariants.Away, TheVariants.Looking, TheVariants.Asleep, TheVariants.Told, TheVariants.Taken, TheVariants.Given}
+use Rattle.event_count.specs.Sleep.{Lists.is_on, Seats.entered_of, Seats.looked_of, Seats.taken_off_of, Seats.left_of}
 
 -- it is at the first seat, takes itself to be at the second, and has not learned all
 abbrev pub is_behind : Seat → Seat → Bool

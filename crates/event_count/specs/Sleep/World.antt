@@ -1,6 +1,8 @@
 -- Any number of parties over the two words, and what one event makes of them.
 use Rattle.std.specs.Prelude.{ℕ, ◌+◌, ◌-◌, ◌==◌, Bool, true, false, if◌then◌else◌, Option, Some, List, [], ◌∷◌, map, replicate, count_by, slice_get, slice_set}
-use Rattle.event_count.specs.{declared.wakes.steps.Phase.Phase, declared.wakes.steps.Phase.TheVariants.Idle, declared.wakes.steps.Phase.TheVariants.Starting, declared.wakes.steps.Phase.TheVariants.Prepared, declared.wakes.steps.Phase.TheVariants.Missed, declared.wakes.steps.Phase.TheVariants.Given, declared.wakes.steps.Phase.TheVariants.Clearing, declared.wakes.steps.Step.Step, declared.wakes.steps.Step.TheVariants.Rest, declared.wakes.steps.Step.TheVariants.Load, declared.wakes.steps.Step.TheVariants.Add, declared.wakes.steps.Step.TheVariants.Take, declared.wakes.steps.Step.TheVariants.Clear, declared.wakes.steps.Step.TheVariants.Park, declared.wakes.steps.Step.TheVariants.Wake, declared.wakes.steps.Word.Word, declared.wakes.steps.Word.Word as word, declared.wakes.steps.Whom.TheVariants.One, declared.wakes.steps.Whom.TheVariants.All, Sleep.Steps.low, Sleep.Steps.step_of, Sleep.Steps.after_of, Sleep.Steps.looked_of}
+use Rattle.event_count.specs.declared.wakes.steps.Phase.{Phase, TheVariants.Idle, TheVariants.Starting, TheVariants.Prepared, TheVariants.Missed, TheVariants.Given, TheVariants.Clearing}
+use Rattle.event_count.specs.declared.wakes.steps.{Step.Step, Step.TheVariants.Rest, Step.TheVariants.Load, Step.TheVariants.Add, Step.TheVariants.Take, Step.TheVariants.Clear, Step.TheVariants.Park, Step.TheVariants.Wake, Word.Word, Word.Word as word, Whom.TheVariants.One, Whom.TheVariants.All}
+use Rattle.event_count.specs.Sleep.Steps.{low, step_of, after_of, looked_of}
 
 -- a party: where it is; or that it sleeps, the ticket on which it parked, and what `EVENTS` was then. The mark is what `times` was when its caller last looked, or once it had raised it
 pub data Party : Type 0 where

@@ -82,7 +82,7 @@ module _ {A : Type 0} (c : Chain A) (who : ℕ) (ms : List (State A)) (ok : Bool
           (λ w y after none changed left. codes_walked b slot name w (place_in at_walk.x slot) y at_walk.x right at_walk.low named at_walk.block (λ j ne. none j ∙ sym (ap (λ v. waits_at v j) is)) refl
           (state_done c (walked c b w) b slot (place_in at_walk.x slot).state refl read read state) changed left codes))
 
-  -- W2: the reader of a passed block's slot is told to go on with the walk
+  -- W2: the reader of a passed block's slot has to go on with the walk
   pub coded_destroying : (x : A) (b name slot : ℕ) (holds : HoldsOnly c who (Only (Passed b))) (is : c.walks b ≡ Walker who slot) (named : IsNamed c b name)
       → ChainOk c → CodesShared s c → Coded c who ms ok s (destroying x b name slot holds is named)
   coded_destroying x b name slot holds is named right codes = record {

@@ -2,8 +2,8 @@
 use Rattle.std.proofs.Common.{◌≡◌, ◌⊎◌, ℕ, ◌+◌, ◌-◌, ◌/◌, ◌<◌, ◌≤◌, ◌^◌, List, length, Option, Some, None, arith, sym, ap, ◌∙◌, inl, inr}
 use Rattle.queue_steps.specs.{declared.sizes.TheConstants.BLOCK_SLOTS, Words.position_of, ChainWords.offset_at, ChainWords.block_at, ChainWords.items_before}
 use Rattle.mem_blocks.specs.{Web.Block, declared.block.BlockPtr.BlockPtr}
-use Rattle.own_cells.specs.{declared.chain.own_chain.Name.Name, OneChain.OwnChainCells.OwnChain, OneChain.OwnChainCells.piece_at, OneChain.OwnChain.pieces_of, OneChain.OwnChainOwned.taken, OneChain.OwnChainOwned.accepted, OneChain.OwnChainOwned.IsBare, OneChain.OwnChainOwned.IsLaid, OneChain.OwnChainOwned.IsIdle, OneChain.ChainMemory.block_of, OneChain.ChainMemory.named_by, OneChain.ChainMemory.own_chain_in}
-use Rattle.own_cells.proofs.OneChain.Pieces.{length-pieces_of}
+use Rattle.own_cells.{specs.declared.chain.own_chain.Name.Name, proofs.OneChain.Pieces.length-pieces_of}
+use Rattle.own_cells.specs.OneChain.{OwnChainCells.OwnChain, OwnChainCells.piece_at, OwnChain.pieces_of, OwnChainOwned.taken, OwnChainOwned.accepted, OwnChainOwned.IsBare, OwnChainOwned.IsLaid, OwnChainOwned.IsIdle, ChainMemory.block_of, ChainMemory.named_by, ChainMemory.own_chain_in}
 
 -- at no block's end the items before a position tell its block
 block_before : (p : ℕ) → offset_at p < BLOCK_SLOTS → items_before p / BLOCK_SLOTS ≡ block_at p

@@ -1,7 +1,9 @@
 -- Reading goes from item to item, and from block to block.
 use Rattle.std.proofs.Common.{◌≡◌, ℕ, suc, ◌+◌, ◌-◌, ◌/◌, ◌%◌, ◌<◌, ◌≤◌, ◌∷◌, length, Option, Some, arith, sym, ap, ◌∙◌, subst, inl, inr}
 use Rattle.queue_steps.specs.{declared.sizes.TheConstants.BLOCK_SLOTS, ChainWords.offset_of}
-use Rattle.own_cells.specs.{OneRing.RingOwned.put_in, declared.chain.own_chain.Name.Name, OneChain.OwnChainCells.OwnChain, OneChain.OwnChainCells.piece_at, OneChain.OwnChainCells.piece_of, OneChain.OwnChainCells.place_of, OneChain.OwnChainCells.item_in, OneChain.OwnChainCells.Named, OneChain.OwnChainCells.CanTake, OneChain.OwnChainCells.CanFollow, OneChain.OwnChainOwned.taken, OneChain.OwnChainOwned.accepted, OneChain.OwnChainOwned.cell_of, OneChain.OwnChainOwned.items_from, OneChain.OwnChainOwned.IsIdle, OneChain.ItemsLeft.next_item, OneChain.ItemsLeft.items_left, OneChain.ItemsLeft.Reads, OneChain.Laws.OwnChainLeaves.Laid, OneChain.Laws.OwnChainLeaves.head-offset, OneChain.Laws.OwnChainPushes.place-is, OneChain.Laws.OwnChainPushes.named-at, OneChain.Laws.OwnChainPops.can-follow}
+use Rattle.own_cells.specs.{OneRing.RingOwned.put_in, declared.chain.own_chain.Name.Name, OneChain.OwnChainOwned.taken, OneChain.OwnChainOwned.accepted, OneChain.OwnChainOwned.cell_of, OneChain.OwnChainOwned.items_from, OneChain.OwnChainOwned.IsIdle}
+use Rattle.own_cells.specs.OneChain.OwnChainCells.{OwnChain, piece_at, piece_of, place_of, item_in, Named, CanTake, CanFollow}
+use Rattle.own_cells.specs.OneChain.{ItemsLeft.next_item, ItemsLeft.items_left, ItemsLeft.Reads, Laws.OwnChainLeaves.Laid, Laws.OwnChainLeaves.head-offset, Laws.OwnChainPushes.place-is, Laws.OwnChainPushes.named-at, Laws.OwnChainPops.can-follow}
 
 module _ {T : Type 0} (r : OwnChain T) where
   -- where an item is left, blocks were laid

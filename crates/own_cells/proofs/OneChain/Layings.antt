@@ -2,11 +2,13 @@
 use Rattle.std.proofs.Common.{◌≡◌, ◌≢◌, ◌⊎◌, ℕ, ◌+◌, ◌-◌, ◌%◌, ◌^◌, ◌<◌, ◌≤◌, List, [], ◌∷◌, ◌++◌, length, replicate, Some, None, refl, arith, sym, ap, ◌∙◌, subst, inl, inr, get_or, set, bit_or, length-append}
 use Rattle.std.proofs.lemmas.List.{get_or-set_other, length-set, get_or_append_left, get_or-append_right}
 use denote.RawPtr.{Ptr, null_ptr, InBlock}
-use Rattle.mem_blocks.specs.{Web.Block, Web.AllVacant, Web.Lives, Web.block, Web.alive_at, Web.vacant, Web.with_word, Web.without, declared.sizes.TheConstants.SLOTS, declared.chain.Chain.Chain}
+use Rattle.mem_blocks.specs.{Web.Block, Web.AllVacant, Web.HoldsWord, Web.block, Web.alive_at, Web.vacant, Web.with_word, Web.without, declared.sizes.TheConstants.SLOTS, declared.chain.Chain.Chain}
 use Rattle.queue_steps.specs.{Effect.rest, declared.sizes.TheConstants.LIMIT, declared.sizes.TheConstants.BLOCK_SLOTS, declared.steps.chain.TheConstants.WRITE, declared.steps.chain.TheConstants.READ}
-use Rattle.own_cells.specs.{declared.chain.own_chain.Name.Name, declared.chain.own_chain.Spare.Spare, declared.chain.own_chain.OwnChain.TheInside.Inside, OneChain.OwnChainCells.Piece, OneChain.OwnChainCells.OwnChain, OneChain.OwnChainCells.fresh_piece, OneChain.OwnChainCells.laid, OneChain.OwnChainCells.piece_of, OneChain.OwnChainCells.IsEmptied, OneChain.OwnChainOwned.IsIdle}
+use Rattle.own_cells.specs.declared.chain.own_chain.{Name.Name, Spare.Spare, OwnChain.TheInside.Inside}
+use Rattle.own_cells.specs.OneChain.{OwnChainCells.Piece, OwnChainCells.OwnChain, OwnChainCells.fresh_piece, OwnChainCells.laid, OwnChainCells.piece_of, OwnChainCells.IsEmptied, OwnChainOwned.IsIdle}
 use Rattle.own_cells.specs.OneChain.OwnChain.{IsHeld, IsLinked, IsFresh, spare_name, own_chain_view, name_at, piece, pieces_of, contents}
-use Rattle.own_cells.proofs.OneChain.{Pieces.append-pieces_of, Pieces.rest-pieces_of, Pieces.vacant-at_home, Linked.oldest, Linked.block_of, Linked.Knows, OwnChainBegins.HasRead, OwnChainBegins.HasRead-none, OwnChainBegins.HasRead-more, OwnChainBegins.unread, OwnChainBegins.begun, OwnChainBegins.begun_piece, OwnChainBegins.begun-idle}
+use Rattle.own_cells.proofs.OneChain.{Pieces.append-pieces_of, Pieces.rest-pieces_of, Pieces.vacant-at_home, Linked.oldest, Linked.block_of, Linked.Knows}
+use Rattle.own_cells.proofs.OneChain.OwnChainBegins.{HasRead, HasRead-none, HasRead-more, unread, begun, begun_piece, begun-idle}
 
 module _ {T : Type 0} where
   -- a block as it is made, at p
@@ -117,8 +119,8 @@ module _ {T : Type 0} where
     read = HasRead-more o.states k below o.read;
   }
 
-  pub Opened-lives : (p : Ptr) (k : ℕ) (blocks : List (Block T)) → Opened p k blocks → Lives blocks 0 p
-  Opened-lives p k blocks o = subst (λ bs. Lives bs 0 p) (sym o.is) (refl, refl)
+  pub Opened-holds : (p : Ptr) (k slot : ℕ) (blocks : List (Block T)) → slot < SLOTS → Opened p k blocks → HoldsWord blocks 0 p slot
+  Opened-holds p k slot blocks below o = subst (λ bs. HoldsWord bs 0 p slot) (sym o.is) ((refl, refl), omega (arith, below, o.read.long))
 
   -- what it shows
   abbrev pub opened_own_chain : Name T → List (Block T) → ℕ → OwnChain T

@@ -5,7 +5,7 @@ use Rattle.atomic_table.proofs.Lists.{set_here}
 use mathlib.Core.Option.{some}
 use lib.ListN.{get_elem?}
 use denote.RawPtr.{Ptr, block_ptr, null_ptr, InBlock}
-use Rattle.mem_blocks.specs.Web.{Block, Home, Content, vacant, full, block, Lives, Rests, word_of, with_word, with_next, with_home, worded, linked, homed}
+use Rattle.mem_blocks.specs.Web.{Block, Home, Content, vacant, full, block, Lives, HoldsWord, Rests, word_of, with_word, with_next, with_home, worded, linked, homed}
 use Rattle.mem_blocks.specs.declared.{sizes.TheConstants.SLOTS, chain.Chain.Chain, block.BlockPtr.BlockPtr as Place}
 use Rattle.queue_steps.specs.declared.steps.types.{Answer.Answer, Answer.Answer as answer, Link.Link as link, Op.Op as op, Word.Word as word}
 use Rattle.own_cells.specs.declared.chain.own_chain.{Name.Name, OwnChain.TheInside.Inside}
@@ -87,6 +87,10 @@ module _ {T A : Type 0} where
   -- its block is in the chain
   pub lives : (s : Inside T A) (b : Name T) → Knows s b → Lives s.chain.blocks b.number b.link.ptr
   lives s b k = (k.held.alive, k.place)
+
+  -- it has a word for each of its slots
+  pub holds_word : (s : Inside T A) (b : Name T) (slot : ℕ) → Knows s b → slot < SLOTS → HoldsWord s.chain.blocks b.number b.link.ptr slot
+  holds_word s b slot k below = (lives s b k, omega (arith, below, k.held.words))
 
   pub in_block : (s : Inside T A) (b : Name T) → Knows s b → InBlock b.link.ptr
   in_block s b k = subst InBlock k.place k.held.place

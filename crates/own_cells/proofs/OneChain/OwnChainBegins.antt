@@ -1,9 +1,11 @@
 -- How a chain of blocks with one owner begins, and what is left of it once it has no items.
-use Rattle.std.proofs.Common.{◌≡◌, ◌≢◌, ◌⊎◌, ℕ, zero, suc, ◌+◌, ◌-◌, ◌*◌, ◌/◌, ◌%◌, ◌<◌, ◌≤◌, ◌==◌, Bool, false, List, [], ◌∷◌, length, replicate, bit_or, Option, Some, None, refl, arith, sym, ap, ◌∙◌, subst, inl, inr, get_or, set}
+use Rattle.std.proofs.Common.{◌≡◌, ◌≢◌, ◌⊎◌, ℕ, zero, suc, ◌+◌, ◌-◌, ◌*◌, ◌/◌, ◌%◌, ◌<◌, ◌≤◌, List, [], ◌∷◌, length, replicate, bit_or, Option, Some, None, refl, arith, sym, ap, ◌∙◌, subst, inl, inr, get_or, set}
 use Rattle.std.proofs.lemmas.List.{get_or-replicate, get_or-set_same, get_or-set_other, length-set, get_or_past}
-use Rattle.queue_steps.specs.{declared.sizes.TheConstants.LIMIT, declared.sizes.TheConstants.BLOCK_SLOTS, declared.sizes.TheConstants.BLOCK_POSITIONS, declared.steps.ring.TheConstants.TAIL_STEP, declared.steps.chain.TheConstants.WRITE, declared.steps.chain.TheConstants.READ, State.start, Sequential.Owned, Words.position_of, Words.is_shut, ChainWords.offset_of, ChainWords.items_before}
-use Rattle.own_cells.specs.{declared.chain.own_chain.Name.Name, OneChain.OwnChainCells.Piece, OneChain.OwnChainCells.OwnChain, OneChain.OwnChainCells.Named, OneChain.OwnChainCells.piece_at, OneChain.OwnChainCells.piece_of, OneChain.OwnChainCells.state_in, OneChain.OwnChainCells.item_in, OneChain.OwnChainCells.IsEmptied, OneRing.Laws.Numbers.same_or_not, OneChain.Laws.OwnChainChains.IsEmptied-all, OneChain.Laws.OwnChainSequential.length-items}
-use Rattle.own_cells.specs.OneChain.OwnChainOwned.{taken, accepted, cell_of, items_from, own_chain_queue, own_chain_owned, HoldsItems, Linked, IsBare, IsLaid, IsIdle}
+use Rattle.queue_steps.specs.declared.{sizes.TheConstants.LIMIT, sizes.TheConstants.BLOCK_SLOTS, sizes.TheConstants.BLOCK_POSITIONS, steps.ring.TheConstants.TAIL_STEP, steps.chain.TheConstants.WRITE, steps.chain.TheConstants.READ}
+use Rattle.queue_steps.specs.{Words.position_of, ChainWords.offset_of, ChainWords.items_before}
+use Rattle.own_cells.specs.{declared.chain.own_chain.Name.Name, OneRing.Laws.Numbers.same_or_not}
+use Rattle.own_cells.specs.OneChain.{OwnChainCells.Piece, OwnChainCells.OwnChain, OwnChainCells.Named, OwnChainCells.piece_at, OwnChainCells.piece_of, OwnChainCells.state_in, OwnChainCells.item_in, OwnChainCells.IsEmptied, Laws.OwnChainChains.IsEmptied-all, Laws.OwnChainSequential.length-items}
+use Rattle.own_cells.specs.OneChain.OwnChainOwned.{taken, accepted, cell_of, own_chain_queue, HoldsItems, Linked, IsBare, IsLaid, IsIdle}
 
 -- the states of a block whose first k slots count as read
 pub record HasRead (states : List ℕ) (k : ℕ) : Type 0 where

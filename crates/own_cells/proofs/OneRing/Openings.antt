@@ -1,7 +1,6 @@
 -- The words of a ring that opens at some position, and the ring that they are with empty slots.
 use Rattle.std.proofs.Common.{◌≡◌, ◌⊎◌, ℕ, zero, suc, ◌+◌, ◌-◌, ◌*◌, ◌%◌, ◌<◌, ◌≤◌, List, [], ◌∷◌, ◌++◌, length, map, get_or, Option, None, Some, false, refl, ap, arith, sym, ◌∙◌, mod-lt, inl, inr, length-append}
-use Rattle.std.specs.Prelude.{replicate}
-use Rattle.std.proofs.lemmas.List.{get_or_append_left, get_or-append_right}
+use Rattle.std.{specs.Prelude.replicate, proofs.lemmas.List.get_or_append_left, proofs.lemmas.List.get_or-append_right}
 use mathlib.Core.Option.{some}
 use lib.ListN.{get_elem?}
 use Rattle.atomic_table.specs.Table.{Final}

@@ -1,13 +1,8 @@
 -- What a ring with one owner owns may go to another thread where its items and its allocator may: what the memory of a closed table owns names no thread.
 use Rattle.std.proofs.Common.{◌+◌, Bool, true, false, List, [], ◌∷◌}
-use base.Fraction.{full_share}
-use base.Fml.{Lft, Fml, ftrue}
-use base.Shift.{Keyless}
-use mir.Raw.{raw}
-use mir.Syntax.{ty_ptr, ty_int, w64}
-use denote.Builtin.{u64}
-use denote.RattleType.{RattleType}
-use denote.Struct.Field.{row_field}
+use base.{Fraction.full_share, Shift.Keyless, Fml.Lft, Fml.Fml, Fml.ftrue}
+use mir.{Raw.raw, Syntax.ty_ptr, Syntax.ty_int, Syntax.w64}
+use denote.{Builtin.u64, RattleType.RattleType, Struct.Field.row_field}
 use denote.RawPtr.{Ptr, block_ptr, null_ptr, block_of, count_of, in_block, ◌+ₚ◌}
 use denote.Param.Send.{IsSend, IsSync, Frees, part_keyless, whole-keyless, cell_keyless, view_send, view_sync, sendable}
 use denote.Param.SendFields.{declared_send, declared_sync, as_row_send, as_row_sync}
@@ -60,7 +55,10 @@ closed_sync S A g s t f = declared_sync (the_type S A g) (
   record { shared = λ d b o κ. ((((λ vs. (tt, λ q. cell_keyless q (raw ty_ptr ∷ []) vs b (o + 0))), ((λ vs. ((tt, tt), λ q. cell_keyless q (raw (ty_int w64) ∷ []) vs b (o + 8))), tt)), λ q. tt), (tt, slots_shared u64 (search sendable) d.ptr d.items d.filled κ)) },
   (
     record { shared = λ d b o κ. ((((λ vs. (tt, λ q. cell_keyless q (raw ty_ptr ∷ []) vs b (o + 0))), ((λ vs. ((tt, tt), λ q. cell_keyless q (raw (ty_int w64) ∷ []) vs b (o + 8))), tt)), λ q. tt), (tt, slots_shared S s d.ptr d.items d.filled κ)) },
-    (record { shared = λ d b o κ q. whole-keyless _ _ (λ x vs. ((λ vss. (tt, (tt, ((tt, tt), ((λ uss. (tt, tt)), tt))))), f.frees x.alloc _ x.ptr)) q d b o }, (record { shared = λ d b o κ q. whole-keyless _ _ (λ x vs. ((λ vss. (tt, (tt, ((tt, tt), ((λ uss. (tt, tt)), tt))))), f.frees x.alloc _ x.ptr)) q d b o }, (as_row_sync (row_field A) t, tt))),
+    (
+      record { shared = λ d b o κ q. whole-keyless _ _ (λ x vs. ((λ vss. (tt, (tt, ((tt, tt), ((λ uss. (tt, tt)), tt))))), f.frees x.alloc _ x.ptr)) q d b o },
+      (record { shared = λ d b o κ q. whole-keyless _ _ (λ x vs. ((λ vss. (tt, (tt, ((tt, tt), ((λ uss. (tt, tt)), tt))))), f.frees x.alloc _ x.ptr)) q d b o }, (as_row_sync (row_field A) t, tt)),
+    ),
   ),
 )
 

@@ -1,7 +1,8 @@
 -- What the steps of a call do on a chain of blocks with one owner.
 use Rattle.std.specs.Prelude.{◌≡◌, ℕ, ◌+◌, ◌-◌, ◌^◌, ◌<◌, ◌≤◌, ◌==◌, ◌⊎◌, ◌≢◌, bit_or, List, [], ◌∷◌, ◌++◌, length, replicate, slice_set, get_or, Option, Some, None, IsSome, if◌then◌else◌}
 use denote.RawPtr.{null_ptr}
-use Rattle.queue_steps.specs.{declared.sizes.TheConstants.BLOCK_SLOTS, declared.steps.types.Kind.Kind, declared.steps.types.Kind.Kind as kind, declared.steps.types.Answer.Answer, declared.steps.types.Answer.Answer as answer, declared.steps.types.Link.Link as link, declared.steps.types.Op.Op, declared.steps.types.Op.Op as op, declared.steps.types.Word.Word as word, declared.steps.types.Touch.Touch, declared.steps.types.Touch.Touch as touch, Effect.rest}
+use Rattle.queue_steps.specs.{declared.sizes.TheConstants.BLOCK_SLOTS, Effect.rest}
+use Rattle.queue_steps.specs.declared.steps.types.{Kind.Kind, Kind.Kind as kind, Answer.Answer, Answer.Answer as answer, Link.Link as link, Op.Op, Op.Op as op, Word.Word as word, Touch.Touch, Touch.Touch as touch}
 use Rattle.own_cells.specs.declared.chain.own_chain.Name.{Name}
 
 -- a block of the chain: its name, the one behind it once they are linked, and the state and the content of each slot

@@ -1,6 +1,7 @@
 -- What the steps of a call do on one slot.
 use Rattle.std.specs.Prelude.{◌≡◌, ℕ, Bool, true, false, bit_and, bit_or, ◌==◌, List, [], ◌∷◌, Option, Some, None, if◌then◌else◌}
-use Rattle.queue_steps.specs.{declared.steps.types.Kind.Kind, declared.steps.types.Kind.Kind as kind, declared.steps.types.Answer.Answer, declared.steps.types.Answer.Answer as answer, declared.steps.types.Op.Op, declared.steps.types.Op.Op as op, declared.steps.types.Touch.Touch, declared.steps.types.Touch.Touch as touch, declared.steps.types.Word.TheVariants.Lock, declared.steps.slot.TheConstants.PUSHED, declared.steps.slot.TheConstants.CLOSED, State.State, Sequential.Owned, SlotNext.is_marked}
+use Rattle.queue_steps.specs.declared.steps.{types.Kind.Kind, types.Kind.Kind as kind, types.Answer.Answer, types.Answer.Answer as answer, types.Op.Op, types.Op.Op as op, types.Touch.Touch, types.Touch.Touch as touch, types.Word.TheVariants.Lock, slot.TheConstants.PUSHED, slot.TheConstants.CLOSED}
+use Rattle.queue_steps.specs.{State.State, Sequential.Owned, SlotNext.is_marked}
 use Rattle.own_cells.specs.{declared.slot.own_slot.OwnSlot.OwnSlot, OneSlot.ComputedSteps.CanTouch, OneSlot.ComputedSteps.Touches, OneSlot.ComputedSteps.CanPerform, OneSlot.ComputedSteps.Performs}
 
 abbrev pub kind_of_slot : {T : Type 0} → OwnSlot T → Kind

@@ -6,8 +6,7 @@ use Rattle.mem_blocks.specs.{Web.sitter, declared.block.BlockPtr.BlockPtr as Pla
 use Rattle.shared_parties.specs.declared.known.CallState.{CallState}
 use Rattle.shared_chain.specs.{declared.web.ChainWeb.ChainWeb, Turning.SitsAt, Turning.ChainCan, Turning.ChainDoes, Turning.ChainRests, Turning.ChainStands, Turning.ChainEnded, Turning.GaveUp, Turning.ChainLeads}
 use Rattle.shared_chain.proofs.Leading as steps
-use Rattle.call_driver.specs.Leads.{Leads, GoesOn}
-use Rattle.call_driver.proofs.LeadsThrough.{leads-through}
+use Rattle.call_driver.{specs.Leads.Leads, specs.Leads.GoesOn, proofs.LeadsThrough.leads-through}
 use Rattle.shared_calls.specs.ChainSite.{ChainSpares, ChainGives, ChainOnWay}
 
 module _ {T A : Type 0} (left : ℕ) where

@@ -6,7 +6,8 @@ use lib.ListN.{get_elem?}
 use denote.RawPtr.{Ptr, null_ptr, InBlock}
 use Rattle.queue_laws.specs.{Common.Vocabulary.BLOCK_SLOTS, Common.Vocabulary.WRITE, Chain.ChainCells.Before, Chain.ChainCells.GivenUp, Chain.ChainCells.Chain, Chain.ChainCells.ChainOk, Chain.ChainCells.item_at, Chain.ChainAnswers.linked_of}
 use Rattle.mem_blocks.specs.{Web.Block, Web.Home, Web.Content, Web.block, declared.block.BlockPtr.BlockPtr}
-use Rattle.own_cells.specs.{OneChain.OwnChainCells.Piece, OneChain.OwnChainCells.piece_at, OneChain.OwnChainCells.state_in, OneChain.OwnChainCells.item_in, OneRing.RingOwned.put_in, OneChain.OwnChain.name_at, OneChain.OwnChain.linked_name, OneChain.OwnChain.content_of, OneChain.OwnChain.contents, OneChain.OwnChain.at_home, OneChain.OwnChain.piece, OneChain.OwnChain.pieces_of, OneChain.OwnChainOwned.cell_of, OneChain.OwnChainOwned.items_from, OneChain.OwnChainOwned.HoldsItems, OneChain.OwnChainOwned.Linked, OneChain.ChainMemory.named_by, OneChain.ChainMemory.AreHeld}
+use Rattle.own_cells.specs.OneChain.{OwnChainCells.Piece, OwnChainCells.piece_at, OwnChainCells.state_in, OwnChainCells.item_in, ChainMemory.named_by, ChainMemory.AreHeld, OwnChainOwned.cell_of, OwnChainOwned.items_from, OwnChainOwned.HoldsItems, OwnChainOwned.Linked}
+use Rattle.own_cells.specs.{OneChain.OwnChain.name_at, OneChain.OwnChain.linked_name, OneChain.OwnChain.content_of, OneChain.OwnChain.contents, OneChain.OwnChain.at_home, OneChain.OwnChain.piece, OneChain.OwnChain.pieces_of, OneRing.RingOwned.put_in}
 use Rattle.own_cells.proofs.OneChain.Pieces.{length-pieces_of, at-pieces_of, length-contents}
 use Rattle.shared_chain.specs.{Spots.spot, ChainCalls.OutChain, Ending.LeadsTo, Ending.IntoBlock, Rule.home_of, Rule.plain_state, Rule.lead_of, Rule.BlockIs, Rule.Codes}
 use Rattle.shared_chain.proofs.Frames.{Blocks.alive_is, Resting.AtRest}

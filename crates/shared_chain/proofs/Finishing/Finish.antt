@@ -1,13 +1,14 @@
 -- What is left of a shared chain that its only party ended is a chain with one owner, in the state after the history.
 use Rattle.std.proofs.Common.{◌≡◌, ◌⊎◌, ◌∙◌, inl, inr, ℕ, suc, ◌+◌, ◌-◌, ◌*◌, ◌/◌, ◌%◌, ◌<◌, ◌≤◌, ◌==◌, Bool, true, List, [], ◌∷◌, length, slice_get, Option, Some, None, refl, sym, ap, subst, arith}
 use denote.RawPtr.{Ptr}
-use Rattle.queue_laws.specs.{Common.Vocabulary.BLOCK_SLOTS, Chain.ChainFacts.place, Chain.ChainCells.Shown, Chain.ChainCells.Seen, Chain.ChainCells.Passer, Chain.ChainCells.Chain, Chain.ChainCells.queue_of, Chain.ChainCells.ChainOk, Chain.ChainCells.ShownOk, Chain.ChainAnswers.tail_word, Chain.ChainAnswers.head_word, Chain.ChainAnswers.last_of, Chain.ChainAnswers.shown_of}
+use Rattle.queue_laws.specs.Common.Vocabulary.{BLOCK_SLOTS}
+use Rattle.queue_laws.specs.Chain.{ChainFacts.place, ChainCells.Shown, ChainCells.Seen, ChainCells.Passer, ChainCells.Chain, ChainCells.queue_of, ChainCells.ChainOk, ChainCells.ShownOk, ChainAnswers.tail_word, ChainAnswers.head_word, ChainAnswers.last_of, ChainAnswers.shown_of}
 use Rattle.queue_steps.specs.{Legal.IsShown, Words.is_shut, Words.tail_of, ChainWords.offset_at, ChainWords.offset_of}
 use Rattle.queue_laws.proofs.{Common.Tails.position_tail, Common.Tails.shut_tail, Chain.ChainPlaces.place_offset, Chain.ChainAnswers.tail_items, Chain.ChainAnswers.head_items, Chain.ChainAnswers.resting_word, Chain.ChainAnswers.standing_word}
 use Rattle.mem_blocks.specs.{Web.Block, Web.block, Web.word_of, declared.block.BlockPtr.BlockPtr, declared.hub.TheConstants.TAIL, declared.hub.TheConstants.HEAD}
-use Rattle.own_cells.specs.OneChain.{OwnChainCells.Piece, OwnChainCells.OwnChain, OwnChainCells.piece_at, OwnChain.name_at, OwnChain.pieces_of, OwnChainOwned.taken, OwnChainOwned.accepted, OwnChainOwned.items_from, OwnChainOwned.own_chain_queue, OwnChainOwned.HoldsItems, OwnChainOwned.IsBare, OwnChainOwned.IsLaid, OwnChainOwned.IsIdle, ChainMemory.named_by, ChainMemory.own_chain_in}
-use Rattle.shared_chain.specs.{Spots.spot, ChainCalls.OutChain, Ending.LeadsTo, Ending.IntoBlock, Rule.lead_of, Rule.Codes}
-use Rattle.shared_chain.proofs.Frames.Resting.{AtRest}
+use Rattle.own_cells.specs.OneChain.{OwnChainCells.Piece, OwnChainCells.OwnChain, OwnChainCells.piece_at, OwnChain.name_at, OwnChain.pieces_of, ChainMemory.named_by, ChainMemory.own_chain_in}
+use Rattle.own_cells.specs.OneChain.OwnChainOwned.{taken, accepted, items_from, own_chain_queue, HoldsItems, IsBare, IsLaid, IsIdle}
+use Rattle.shared_chain.{specs.Spots.spot, specs.ChainCalls.OutChain, specs.Ending.LeadsTo, specs.Ending.IntoBlock, specs.Rule.lead_of, specs.Rule.Codes, proofs.Frames.Resting.AtRest}
 use Rattle.shared_chain.proofs.Finishing.Ended.{lead_named, lead_none, items_are, left, pieces, long, long_pieces, stays, piece_is, holds, held_is, linked}
 
 nil_if : {A : Type 0} (xs : List A) → length xs ≡ 0 → xs ≡ []

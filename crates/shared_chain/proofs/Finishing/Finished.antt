@@ -2,15 +2,15 @@
 -- after all that the party has seen.
 use Rattle.std.proofs.Common.{◌≡◌, ◌∙◌, inl, inr, ℕ, zero, suc, ◌+◌, ◌<◌, ◌≤◌, Bool, true, false, if◌then◌else◌, List, [], ◌∷◌, length, take, drop, Option, None, refl, sym, ap, subst, arith}
 use Rattle.std.proofs.lemmas.List.{drop-set-lt, length-set}
-use denote.RawPtr.{Ptr, Testable}
+use denote.RawPtr.{Ptr}
 use Rattle.queue_steps.specs.{Effect.after, Legal.IsShown, Parties.IsWhole, State.State as Queue}
 use Rattle.queue_laws.specs.Chain.ChainCells.{Before, GivenUp, queue_of}
-use Rattle.mem_blocks.specs.{Web.Block, Web.block, Web.gone, Web.Lives, Web.AllGone, Web.without, Web.word_of, Web.LastBlocksBy, declared.block.BlockPtr.BlockPtr, declared.hub.TheConstants.TAIL, declared.hub.TheConstants.PARTIES, declared.hub.TheConstants.HEAD}
+use Rattle.mem_blocks.specs.{Web.Block, Web.block, Web.gone, Web.AllGone, Web.without, Web.word_of, Web.LastBlocksBy, declared.block.BlockPtr.BlockPtr, declared.hub.TheConstants.TAIL, declared.hub.TheConstants.PARTIES, declared.hub.TheConstants.HEAD}
 use Rattle.own_cells.specs.OneChain.{OwnChainOwned.own_chain_queue, OwnChainOwned.IsIdle, ChainMemory.own_chain_in, ChainMemory.AreHeld}
-use Rattle.shared_parties.specs.{declared.known.CallState.CallState, Known.view_of, CallStates.IsLoneSeat}
-use Rattle.shared_parties.proofs.Endings.{OnlyParty, calls_end}
+use Rattle.shared_parties.{specs.declared.known.CallState.CallState, specs.Known.view_of, specs.CallStates.IsLoneSeat, proofs.Endings.OnlyParty, proofs.Endings.calls_end}
 use Rattle.shared_chain.specs.{ChainCalls.OutChain, ChainCalls.chain_calls, Ending.LeadsTo, Ending.IntoBlock, Ending.gone_first, Rule.IsThere, Rule.Codes, Rule.Rule}
-use Rattle.shared_chain.proofs.{Frames.Blocks.gone_here, Frames.Blocks.gone_else, Frames.Blocks.alive_is, Frames.Tested.next_tested, Frames.Resting.AtRest, Frames.Resting.at_rest, Finishing.Ended.all_held, Finishing.Ended.left, Finishing.Ended.within, Finishing.Finish.finish_idle, Finishing.Finish.finish_shown}
+use Rattle.shared_chain.proofs.Frames.{Blocks.gone_here, Blocks.gone_else, Blocks.alive_is, Resting.AtRest, Resting.at_rest}
+use Rattle.shared_chain.proofs.Finishing.{Ended.all_held, Ended.left, Ended.within, Finish.finish_idle, Finish.finish_shown}
 
 -- the blocks at the beginning that left the web did
 pub gone_take : {A : Type 0} (xs : List (Block A)) → AllGone (take (gone_first xs) xs)

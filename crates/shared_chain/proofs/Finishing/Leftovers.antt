@@ -6,8 +6,7 @@ use mathlib.Core.Option.{some, some-injective}
 use lib.ListN.{get_elem?}
 use denote.RawPtr.{Ptr, null_ptr, InBlock, Testable}
 use Rattle.queue_laws.specs.Common.Vocabulary.{LIMIT, BLOCK_SLOTS, WRITE, READ}
-use Rattle.mem_blocks.specs.Web.{Block, Home, block, homed, with_home, without, vacant, full, AllVacant, Lives}
-use Rattle.mem_blocks.specs.declared.{block.BlockPtr.BlockPtr, sizes.TheConstants.SLOTS}
+use Rattle.mem_blocks.specs.{Web.Block, Web.Home, Web.block, Web.homed, Web.with_home, Web.without, Web.vacant, Web.full, Web.AllVacant, Web.Lives, declared.block.BlockPtr.BlockPtr, declared.sizes.TheConstants.SLOTS}
 use Rattle.shared_parties.proofs.CallSteps.{set_at}
 use Rattle.shared_chain.specs.Leftover.{SlotLeft, BlockLeft, StaysLeft, BlocksLeft, SameBut, Emptied, IsHere, is_held, any_held}
 use Rattle.shared_chain.proofs.Frames.{Blocks.home_here, Blocks.gone_else, Tested.alive_within}

@@ -1,14 +1,15 @@
 -- What the steps on links share: what a step leaves for the next one, which blocks are alive, and what another link of an end or of a block leaves of the blocks.
 use Rattle.std.proofs.Common.{ℕ, ◌+◌, ◌≡◌, ◌≢◌, ◌∙◌, inl, inr, Option, List, [], refl, sym, ap, subst}
 use denote.RawPtr.{Ptr}
-use Rattle.queue_laws.specs.{Common.Vocabulary.Op, Common.Vocabulary.Touch, Common.Vocabulary.Local, Common.Vocabulary.Next, Common.Stand.Stand, Chain.ChainFacts.IsNamed, Chain.ChainAt.At, Chain.ChainAnswers.Answers, Chain.ChainAfter.left_by, Chain.ChainAfter.chain_of, Chain.ChainAfter.after_of, Common.Operations.op_word}
+use Rattle.queue_laws.specs.Common.{Vocabulary.Op, Vocabulary.Touch, Vocabulary.Local, Vocabulary.Next, Stand.Stand, Operations.op_word}
+use Rattle.queue_laws.specs.Chain.{ChainFacts.IsNamed, ChainAt.At, ChainAnswers.Answers, ChainAfter.left_by, ChainAfter.chain_of, ChainAfter.after_of}
 use Rattle.queue_steps.specs.{State.State, ChainNext.chain_next}
 use Rattle.queue_laws.specs.Chain.ChainCells.{GivenUp, Chained, Chain, ChainOk, Write, Read, reader_of, HoldsOnly, Nothing}
 use Rattle.mem_blocks.specs.Web.{Block, Sitter, Act, block, Lives, Mays, blocks_after, sitter_after}
 use Rattle.shared_parties.specs.declared.known.CallState.{CallState}
-use Rattle.shared_chain.specs.{Spots.spot, ChainCalls.OutChain, ChainCalls.SlotsAs, ChainCalls.ChainLent, Rule.BlockIs, Rule.Codes}
+use Rattle.shared_chain.{specs.Spots.spot, specs.ChainCalls.OutChain, specs.ChainCalls.SlotsAs, specs.ChainCalls.ChainLent, specs.Rule.BlockIs, specs.Rule.Codes, proofs.Frames.Blocks.alive_is}
 use Rattle.shared_chain.specs.Steps.{HoldsBy, HoldsFor, op_place, word_index, blocks_made, answered, LeadsThere, SlotsFor, BlockStep}
-use Rattle.shared_chain.proofs.Frames.{Blocks.alive_is, Slots.step_by as step_told}
+use Rattle.shared_chain.proofs.Frames.{Slots.step_by as step_told}
 
 -- the chain once a call that goes on so has given up what its reply gives up
 abbrev pub left : {A : Type 0} → OutChain A → Next ℕ → OutChain A
@@ -36,7 +37,7 @@ module _ (tail_end head_end : Ptr) {A : Type 0} where
 
   -- a step that takes and gives no slot
   pub step_by : (g : OutChain A) (who : ℕ) (bs : List (Block A)) (m : Sitter A (CallState A)) {ms : List (State A)} {k : Stand A}
-      (here : At g.chain who ms k) (number : ℕ) → Lives bs number (op_place tail_end head_end k.op) → (number ≡ 0 → word_index (op_word k.op) ≡ 0) → LeadsThere g.chain bs k.op number → Answers g.chain k.op (answered g.chain bs k.op number)
+      (here : At g.chain who ms k) (number : ℕ) → Lives bs number (op_place tail_end head_end k.op) → (number < 2 → word_index (op_word k.op) ≡ 0) → LeadsThere g.chain bs k.op number → Answers g.chain k.op (answered g.chain bs k.op number)
       → (acts : List (Act A)) → Mays (blocks_made k.op number bs) m acts
       → Leaves tail_end head_end (record { chain = after_of here (answered g.chain bs k.op number); out = g.out }) who (blocks_after (blocks_made k.op number bs) acts) (sitter_after (blocks_made k.op number bs) m acts)
       (chain_next (chain_of k.local) (answered g.chain bs k.op number))

@@ -1,7 +1,8 @@
 -- The steps of a chain ask nothing of the names of blocks: with other names the next step is the same, with those names.
 use Rattle.std.proofs.Common.{ℕ, ◌+◌, ◌%◌, ◌≡◌, ◌==◌, Bool, true, false, not, if◌then◌else◌, Option, Some, None, IsSome, refl, bit_and, nat_lt, is_some}
 use Rattle.queue_laws.specs.Common.Vocabulary.{Call, Kind, Answer, Local, Next, PushKind, ChainLocal, LIMIT, BLOCK_SLOTS, WRITE, READ, DESTROY}
-use Rattle.queue_steps.specs.{declared.steps.types.Answer.TheVariants.Start, declared.steps.types.Answer.TheVariants.Found, declared.steps.types.Answer.TheVariants.Linked, declared.steps.types.Answer.TheVariants.Granted, declared.steps.chain.ChainLocal.ChainLocal as chain, Words.position_of, Words.is_shut, ChainWords.block_at, ChainWords.offset_of, ChainWords.items_before, Next.CanNext, Next.next_of}
+use Rattle.queue_steps.specs.declared.steps.{types.Answer.TheVariants.Start, types.Answer.TheVariants.Found, types.Answer.TheVariants.Linked, types.Answer.TheVariants.Granted, chain.ChainLocal.ChainLocal as chain}
+use Rattle.queue_steps.specs.{Words.position_of, Words.is_shut, Next.CanNext, Next.next_of, ChainWords.block_at, ChainWords.offset_of, ChainWords.items_before}
 use Rattle.queue_steps.specs.ChainNext.{is_last_slot, chain_tail_found, tail_block_found, granted, installed, lays, chain_head_found, head_block_found, chain_pop_tail_found, followed, walks_on, FitsChain, chain_begin, chain_next}
 use Rattle.shared_chain.specs.Names.{name_map, answer_map, chain_map, local_map, next_map}
 

@@ -5,7 +5,8 @@ use Rattle.queue_laws.specs.{Common.Vocabulary.BLOCK_SLOTS, Chain.ChainFacts.pla
 use Rattle.queue_steps.specs.ChainWords.{block_at}
 use Rattle.queue_laws.proofs.{Common.Tails.position_tail, Chain.ChainPlaces.place_block, Chain.ChainAnswers.standing_word, Chain.ChainRanks.rests_if, Chain.ChainRanks.stands_if}
 use Rattle.own_cells.specs.OneChain.ChainMemory.{block_of}
-use Rattle.queue_laws.specs.Chain.ChainCells.{Writer, Free, Writing, Wrote, Reader, Unread, Reading, Done, Rests, Passer, Stands, LinkState, Unlinked, Linking, Linked, Shown, Hidden, Showing, Seen, Walk, Before, Walker, Waits, GivenUp, Chain, ItemOk, BlocksOk, LinkOk, FrontOk, ShownOk, WalkOk, ChainOk, Write, Read, Tail, Head, Next, First, Passed, writer_of, reader_of, linker_of, shower_of, walker_of, HoldsOnly, Nothing, item_at, LAST}
+use Rattle.queue_laws.specs.Chain.ChainCells.{Writer, Free, Writing, Wrote, Reader, Unread, Reading, Done, Rests, Passer, Stands, LinkState, Unlinked, Linking, Linked, Shown, Hidden, Showing, Seen, Walk, Before, Walker, Waits, GivenUp, Chain, ItemOk}
+use Rattle.queue_laws.specs.Chain.ChainCells.{BlocksOk, LinkOk, FrontOk, ShownOk, WalkOk, ChainOk, Write, Read, Tail, Head, Next, First, Passed, writer_of, reader_of, linker_of, shower_of, walker_of, HoldsOnly, Nothing, item_at, LAST}
 
 -- nobody writes or reads the items of these cells
 abbrev NoWriter : {A : Type 0} → Writer A → Type 0

@@ -5,7 +5,8 @@ use mathlib.Core.Option.{some}
 use lib.ListN.{get_elem?}
 use denote.RawPtr.{Ptr}
 use Rattle.atomic_table.proofs.Lists.{set_here, set_else}
-use Rattle.queue_laws.specs.{Common.Vocabulary.Op, Common.Vocabulary.Local, Common.Vocabulary.Next, Common.Vocabulary.BLOCK_SLOTS, Common.Vocabulary.WRITE, Common.Vocabulary.READ, Common.Stand.Stand, Chain.ChainAt.At, Chain.ChainAfter.chain_of, Chain.ChainAfter.after_of, Chain.ChainAfter.left_by, Chain.ChainPasses.spare_in, Common.Operations.op_word}
+use Rattle.queue_laws.specs.Common.{Vocabulary.Op, Vocabulary.Local, Vocabulary.Next, Vocabulary.BLOCK_SLOTS, Vocabulary.WRITE, Vocabulary.READ, Stand.Stand, Operations.op_word}
+use Rattle.queue_laws.specs.Chain.{ChainAt.At, ChainAfter.chain_of, ChainAfter.after_of, ChainAfter.left_by, ChainPasses.spare_in}
 use Rattle.queue_steps.specs.{State.State, ChainNext.chain_next}
 use Rattle.queue_laws.specs.Chain.ChainCells.{Writer, Free, Wrote, Reader, Unread, Reading, Done, Chain, Write, Read, reader_of, HoldsOnly, Nothing, item_at}
 use Rattle.queue_laws.specs.Chain.ChainAnswers.{Answers, linked_of, last_of, shown_of, tail_word, head_word, is_wrote, is_done, waits_at}
@@ -110,7 +111,7 @@ module _ {A : Type 0} where
   module _ (te he : Ptr) (g : OutChain A) (who : ℕ) (bs : List (Block A)) (m : Sitter A (CallState A)) where
     -- The step of a call, told by what it finds, by the blocks and the chain after it, and by how the call goes on
     pub step_by : {ms : List (State A)} {k : Stand A}
-        (here : At g.chain who ms k) (number : ℕ) → Lives bs number (op_place te he k.op) → (number ≡ 0 → word_index (op_word k.op) ≡ 0) → LeadsThere g.chain bs k.op number → Answers g.chain k.op (answered g.chain bs k.op number)
+        (here : At g.chain who ms k) (number : ℕ) → Lives bs number (op_place te he k.op) → (number < 2 → word_index (op_word k.op) ≡ 0) → LeadsThere g.chain bs k.op number → Answers g.chain k.op (answered g.chain bs k.op number)
         → (cs : List (Block A)) → blocks_made k.op number bs ≡ cs → (r : Chain A) → after_of here (answered g.chain bs k.op number) ≡ r → (n : Next ℕ) → chain_next (chain_of k.local) (answered g.chain bs k.op number) ≡ n
         → (out : ℕ → Bool) (acts : List (Act A)) → Mays cs m acts → Codes te he (record { chain = left_by r n; out = out }) (blocks_after cs acts) → ((j : ℕ) → j ≢ who → (i : ℕ) → g.chain.readers i ≡ Reading j → out i ≡ g.out i)
         → SlotsFor (record { chain = left_by r n; out = out }) who n → (lends : List (ℕ × Option A)) → ChainLent (record { chain = left_by r n; out = out }) who lends → HoldsFor lends n (sitter_after cs m acts)
@@ -134,7 +135,7 @@ module _ {A : Type 0} where
 
     -- The same where the party holds nothing, neither before nor after it: what the step does to the blocks is all that is owed
     pub step_none : {ms : List (State A)} {k : Stand A}
-        (here : At g.chain who ms k) (number : ℕ) → Lives bs number (op_place te he k.op) → (number ≡ 0 → word_index (op_word k.op) ≡ 0) → LeadsThere g.chain bs k.op number → Answers g.chain k.op (answered g.chain bs k.op number)
+        (here : At g.chain who ms k) (number : ℕ) → Lives bs number (op_place te he k.op) → (number < 2 → word_index (op_word k.op) ≡ 0) → LeadsThere g.chain bs k.op number → Answers g.chain k.op (answered g.chain bs k.op number)
         → (cs : List (Block A)) → blocks_made k.op number bs ≡ cs → (r : Chain A) → after_of here (answered g.chain bs k.op number) ≡ r → (n : Next ℕ) → chain_next (chain_of k.local) (answered g.chain bs k.op number) ≡ n
         → Codes te he (record { chain = r; out = g.out }) cs → HoldsOnly r who Nothing → spare_on n ≡ spare_in k.local → (m.hand ≡ None) × (m.spare ≡ carried_by (spare_in k.local)) → BlockStep te he g who bs m here
     step_none {k = k} here number lives counts leads found cs made r after n goes codes none spare holds =

@@ -50,7 +50,7 @@ module _ {A : Type 0} (te he : Ptr) where
   module _ (g : OutChain A) (who : ℕ) (bs : List (Block A)) (m : Sitter A (CallState A)) where
     -- an operation, and what it leaves
     op_step : (number : ℕ) {ms : List (State A)} {k : Stand A} (here : At g.chain who ms k)
-        → Lives bs number (op_place te he k.op) → (number ≡ 0 → word_index (op_word k.op) ≡ 0) → LeadsThere g.chain bs k.op number → Answers g.chain k.op (answered g.chain bs k.op number)
+        → Lives bs number (op_place te he k.op) → (number < 2 → word_index (op_word k.op) ≡ 0) → LeadsThere g.chain bs k.op number → Answers g.chain k.op (answered g.chain bs k.op number)
         → Leaves g who (blocks_made k.op number bs) m (after_of here (answered g.chain bs k.op number)) (chain_next (chain_of k.local) (answered g.chain bs k.op number)) → BlockStep te he g who bs m here
     op_step number {k = k} here lives counts leads found left =
         let a = answered g.chain bs k.op number in

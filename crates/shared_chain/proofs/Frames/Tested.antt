@@ -3,10 +3,10 @@ use Rattle.std.proofs.Common.{ℕ, zero, suc, ◌+◌, ◌<◌, ◌≡◌, ◌�
 use mathlib.Core.Logic.{dite}
 use native.Mathlib.Decide.{ℕ_discrete}
 use denote.RawPtr.{Ptr, Testable}
-use Rattle.queue_laws.specs.{Common.Vocabulary.Op, Chain.ChainAnswers.last_of, Chain.ChainAnswers.shown_of, Chain.ChainAnswers.linked_of, Common.Operations.op_word, Common.Operations.op_makes}
+use Rattle.queue_laws.specs.{Common.Vocabulary.Op, Common.Vocabulary.BLOCK_SLOTS, Chain.ChainAnswers.last_of, Chain.ChainAnswers.shown_of, Chain.ChainAnswers.linked_of, Common.Operations.op_word, Common.Operations.op_makes}
 use Rattle.queue_laws.specs.Chain.ChainCells.{LinkState, Linked, Shown, Seen, Use, Chained, ChainOk, LinkOk, ShownOk}
-use Rattle.mem_blocks.specs.Web.{Block, Home, Act, takes, gives, lays, lifts, block, word_of, homed, gone, linked, worded, with_word, with_next, with_home, without, acted, blocks_after, if_unset}
-use Rattle.mem_blocks.specs.declared.hub.TheConstants.{PARTIES}
+use Rattle.mem_blocks.specs.Web.{Block, Home, Act, takes, gives, lays, lifts, block, HoldsWord, word_of, homed, gone, linked, worded, with_word, with_next, with_home, without, acted, blocks_after, if_unset}
+use Rattle.mem_blocks.specs.declared.hub.TheConstants.{TAIL, PARTIES, HEAD}
 use Rattle.shared_chain.specs.{Spots.spot, ChainCalls.OutChain, Rule.lead_of, Rule.IsUsed, Rule.IsThere, Rule.Codes, Steps.word_index, Steps.blocks_made}
 use Rattle.shared_chain.proofs.Frames.Blocks.{word_here, word_else, next_here, next_else, home_here, home_else, gone_here, gone_else}
 
@@ -48,6 +48,23 @@ module _ {A : Type 0} where
           | inl dead ↦ absurd (let f : true ≡ false = sym alive ∙ dead.1 in cc)
           | inr lives ↦ subst Testable (sym lives.2.linked) (linked_tested b (g.chain.links b) (ok.link b))
         ]
+
+  -- a living block has the word of a step: of an end that is its first
+  pub word_held : (te he : Ptr) (g : OutChain A) (bs : List (Block A)) → Codes te he g bs → (k i : ℕ) → (block bs k).alive ≡ true → (k < 2 → i ≡ 0) → i < BLOCK_SLOTS → i < length (block bs k).words
+  word_held te he g bs codes zero i alive first low = omega (arith, first (omega arith), codes.tail.words)
+  word_held te he g bs codes (suc zero) i alive first low = omega (arith, first (omega arith), codes.head.words)
+  word_held te he g bs codes (suc (suc b)) i alive first low =
+      let within : b < g.chain.blocks = (let l = alive_within bs (suc (suc b)) alive in let s = codes.size in omega arith) in
+      let at : b + 2 ≡ suc (suc b) = omega arith in
+      let there : IsThere g b (block bs (suc (suc b))) = subst (λ k. IsThere g b (block bs k)) at (codes.there b within) in
+      elim (there.1) [
+        | inl dead ↦ absurd (let f : true ≡ false = sym alive ∙ dead.1 in cc)
+        | inr lives ↦ omega (arith, low, lives.2.words)
+      ]
+
+  -- both ends have their positions, wherever they are said to lie
+  pub ends_hold : {te he p q : Ptr} {g : OutChain A} {bs : List (Block A)} → te ≡ p → he ≡ q → Codes te he g bs → HoldsWord bs 0 p TAIL × HoldsWord bs 1 q HEAD
+  ends_hold at_tail at_head codes = (((codes.tail.lives.0, codes.tail.lives.1 ∙ at_tail), omega (arith, codes.tail.words)), ((codes.head.lives.0, codes.head.lives.1 ∙ at_head), omega (arith, codes.head.words)))
 
   -- one word is kept by a change of a slot, by a block more, and by a lift
   home_word : (bs : List (Block A)) (b j : ℕ) (h : Home A) (k i : ℕ) → k < length bs → word_of (with_home bs b j h) k i ≡ word_of bs k i

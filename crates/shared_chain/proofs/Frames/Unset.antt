@@ -1,7 +1,8 @@
 -- A slot is written by one call and read by one, so that each finds the bit unset that says so, and adds it.
 use Rattle.std.proofs.Common.{ℕ, ◌+◌, ◌/◌, ◌%◌, ◌^◌, ◌<◌, ◌≡◌, ◌==◌, ◌∙◌, not, true, false, ap, arith, lit<, bit_and, bit_or, List}
 use Rattle.std.proofs.lemmas.{Bool.eqb-true, Nat.or_disjoint, Nat.or_lt}
-use Rattle.queue_laws.specs.{Common.Vocabulary.Op, Common.Vocabulary.BLOCK_SLOTS, Common.Vocabulary.WRITE, Common.Vocabulary.READ, Common.Operations.answer_for, Common.Stand.Stand, Chain.ChainCells.Chain, Chain.ChainCells.item_at, Chain.ChainAt.At, Chain.ChainAt.writing, Chain.ChainAt.reading, Chain.ChainAt.spending, Chain.ChainAt.destroying, Chain.ChainAt.closing, Chain.ChainAnswers.Answers, Chain.ChainAnswers.is_wrote, Chain.ChainAnswers.is_done}
+use Rattle.queue_laws.specs.Common.{Vocabulary.Op, Vocabulary.BLOCK_SLOTS, Vocabulary.WRITE, Vocabulary.READ, Operations.answer_for, Stand.Stand}
+use Rattle.queue_laws.specs.Chain.{ChainCells.Chain, ChainCells.item_at, ChainAt.At, ChainAt.writing, ChainAt.reading, ChainAt.spending, ChainAt.destroying, ChainAt.closing, ChainAnswers.Answers, ChainAnswers.is_wrote, ChainAnswers.is_done}
 use Rattle.queue_steps.specs.State.{State}
 use Rattle.queue_laws.proofs.Chain.{ChainReads.own_item, ChainAnswers.head_offset}
 use Rattle.shared_chain.specs.Names.{is_set_once}

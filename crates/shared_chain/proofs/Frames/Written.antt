@@ -6,8 +6,7 @@ use lib.ListN.{get_elem?}
 use Rattle.queue_laws.specs.{Common.Vocabulary.Effect, Common.Stand.Stand, Chain.ChainCells.Wrote, Chain.ChainCells.Reading, Chain.ChainCells.Chain, Chain.ChainCells.Read, Chain.ChainCells.reader_of, Chain.ChainAt.At, Chain.ChainAt.reading, Chain.ChainAt.beginning, Chain.ChainAt.walking}
 use Rattle.queue_steps.specs.State.{State}
 use Rattle.shared_parties.specs.{declared.known.CallState.CallState, declared.known.Work.Work, CallStates.is_busy, CallsAt.CallsAt}
-use Rattle.shared_chain.specs.ChainCalls.{OutChain, has_slot, chain_calls}
-use Rattle.shared_chain.proofs.Steps.Writing.{OutWrote}
+use Rattle.shared_chain.{specs.ChainCalls.OutChain, specs.ChainCalls.has_slot, specs.ChainCalls.chain_calls, proofs.Steps.Writing.OutWrote}
 
 module _ {A : Type 0} where
   abbrev IsWritten : Chain A → ℕ → Type 0

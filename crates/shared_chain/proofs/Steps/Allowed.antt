@@ -1,16 +1,17 @@
 -- What the web asks of the steps of a call on a shared chain: each may be done, and tells how the call goes on.
-use Rattle.std.proofs.Common.{ℕ, ◌+◌, ◌%◌, ◌^◌, ◌<◌, ◌≡◌, true, Option, None, List, refl, sym, subst, arith, set}
+use Rattle.std.proofs.Common.{ℕ, ◌+◌, ◌%◌, ◌^◌, ◌<◌, ◌≡◌, true, Option, None, List, length, refl, sym, subst, arith, set}
 use mathlib.Core.Option.{some}
 use lib.ListN.{get_elem?}
 use denote.RawPtr.{Ptr, Testable}
-use Rattle.queue_laws.specs.{Common.Vocabulary.Word, Common.Vocabulary.Link, Common.Vocabulary.Op, Common.Vocabulary.Answer, Chain.ChainCells.Chain, Chain.ChainAnswers.Answers, Chain.ChainAnswers.last_of, Common.Operations.OnWord, Common.Operations.op_word, Common.Operations.op_makes, Common.Operations.answer_for}
+use Rattle.queue_laws.specs.Common.{Vocabulary.Word, Vocabulary.Link, Vocabulary.Op, Vocabulary.Answer, Operations.OnWord, Operations.op_word, Operations.op_makes, Operations.answer_for, Vocabulary.BLOCK_SLOTS}
+use Rattle.queue_laws.specs.Chain.{ChainCells.Chain, ChainAnswers.Answers, ChainAnswers.last_of}
 use Rattle.mem_blocks.specs.Web.{Block, State, Sitter, Lives, viewed, block, word_of, with_word, with_next, blocks_after, sitter_after, KeepsRule, Allows, AllowsLink}
 use Rattle.mem_blocks.specs.declared.hub.TheConstants.{PARTIES}
 use Rattle.shared_parties.specs.{declared.known.CallState.CallState, declared.known.InCall.InCall, Calling.Standing, Calling.touched_list, CallsAt.Ready}
 use Rattle.shared_parties.proofs.CallSteps.{stands_at}
 use Rattle.shared_chain.specs.{ChainCalls.chain_calls, Rule.lead_of, Rule.Rule, Spots.spot, Names.is_set_once}
 use Rattle.shared_chain.specs.Steps.{HoldsBy, op_place, word_index, link_makes, blocks_made, link_found, answered, LeadsThere, BlockStep, Follows, FollowsLink}
-use Rattle.shared_chain.proofs.{CallLaws.chain_call_laws, CallLaws.OnBlocks, CallLaws.chain_opens, Steps.Allowing.follows, Frames.Tested.next_tested, Frames.Tested.count_kept, Steps.BlockSteps.block_steps, Frames.Written.out_wrote, Frames.Unset.FindsUnset, Frames.Unset.finds_unset}
+use Rattle.shared_chain.proofs.{CallLaws.chain_call_laws, CallLaws.OnBlocks, CallLaws.chain_opens, Steps.Allowing.follows, Frames.Tested.next_tested, Frames.Tested.word_held, Frames.Tested.count_kept, Steps.BlockSteps.block_steps, Frames.Written.out_wrote, Frames.Unset.FindsUnset, Frames.Unset.finds_unset}
 
 -- an operation on a word
 abbrev pub IsWordOp : Op ℕ → Type 0
@@ -67,6 +68,7 @@ module _ {A : Type 0} where
     pub leads : LeadsThere r.cells.chain s.blocks c.op number
     pub tested : Testable (block s.blocks number).next
     pub goes : KeepsRule (Rule te he) s (blocks_made c.op number s.blocks) id m (Follows c (answered r.cells.chain s.blocks c.op number))
+    pub held : word_index (op_word c.op) < BLOCK_SLOTS → word_index (op_word c.op) < length (block s.blocks number).words
     pub unset : IsWordOp c.op → FindsUnset c.op (word_of s.blocks number (word_index (op_word c.op)))
 
   module _ (te he : Ptr) (id : ℕ) (m : Sitter A (CallState A)) (c : InCall A) where
@@ -77,6 +79,7 @@ module _ {A : Type 0} where
       leads = b.leads;
       tested = next_tested te he r.cells s.blocks r.all.ok r.codes b.number b.lives.0;
       goes = (done.0, b.acts, b.mays, done.1, done.2);
+      held = λ low. word_held te he r.cells s.blocks r.codes b.number (word_index (op_word c.op)) b.lives.0 b.counts low;
       unset = λ word. finds_unset r.cells.chain id (word_of s.blocks b.number (word_index (op_word c.op))) st.here.0
           (subst (λ (a : Answer ℕ). Answers r.cells.chain c.op a) (made_word r.cells.chain c.op b.number s.blocks word).1 b.found);
     }
@@ -92,7 +95,7 @@ module _ {A : Type 0} where
 
         done : (w : CallState A) × Rule te he record { blocks = blocks_after made b.acts; views = set s.views id w } × Follows c (answered r.cells.chain s.blocks c.op b.number) (viewed w (sitter_after made m b.acts))
         done = follows te he s r id m.view c at st (answered r.cells.chain s.blocks c.op b.number) (blocks_after made b.acts) (sitter_after made m b.acts)
-            (count_kept s.blocks c.op b.number b.acts (let z = r.codes.size in omega arith) b.counts)
+            (count_kept s.blocks c.op b.number b.acts (let z = r.codes.size in omega arith) (λ e. b.counts (omega (arith, e))))
             (record { found = b.found; out = b.out; codes = b.codes; others = b.others; slots = b.slots; lends = b.lends; lent = b.lent; holds = b.holds })
 
     -- an operation on a word makes this of its block
@@ -102,21 +105,21 @@ module _ {A : Type 0} where
         let made = made_word r.cells.chain c.op d.number s.blocks word in
         subst (λ (z : List (Block A) × Answer ℕ). KeepsRule (Rule te he) s z.0 id m (Follows c z.1)) (λ i. (made.0 i, made.1 i)) d.goes
 
-    pub allows_word : Ready chain_calls m.view c → HoldsBy c.local c.op (touched_list c.touch c.carried c.lends) m → IsWordOp c.op
+    pub allows_word : Ready chain_calls m.view c → HoldsBy c.local c.op (touched_list c.touch c.carried c.lends) m → IsWordOp c.op → word_index (op_word c.op) < BLOCK_SLOTS
         → Allows (Rule te he) id m (op_place te he c.op) (word_index (op_word c.op)) (op_makes c.op) (λ n q. Follows c (answer_for c.op n) q)
-    allows_word ready holds word s r at =
+    allows_word ready holds word low s r at =
         let d = step_done ready holds (on_word c.op word) s r at in
-        (d.number, d.lives, λ small. word_goes s r d word)
+        (d.number, (d.lives, d.held low), λ small. word_goes s r d word)
 
     -- a bit that is unset is added
-    pub allows_added : (w : Word ℕ) (bits : ℕ) → Ready chain_calls m.view c → HoldsBy c.local c.op (touched_list c.touch c.carried c.lends) m → c.op ≡ Op.Or w bits → is_set_once w bits ≡ true
+    pub allows_added : (w : Word ℕ) (bits : ℕ) → Ready chain_calls m.view c → HoldsBy c.local c.op (touched_list c.touch c.carried c.lends) m → c.op ≡ Op.Or w bits → is_set_once w bits ≡ true → word_index (op_word c.op) < BLOCK_SLOTS
         → Allows (Rule te he) id m (op_place te he c.op) (word_index (op_word c.op)) (λ n. (n + bits) % 2 ^ 64) (λ n q. Follows c (answer_for c.op n) q)
-    allows_added w bits ready holds is once s r at =
+    allows_added w bits ready holds is once low s r at =
         let word : IsWordOp c.op = subst IsWordOp (sym is) tt in
         let d = step_done ready holds (on_word c.op word) s r at in
         let n = word_of s.blocks d.number (word_index (op_word c.op)) in
         let sums = λ (small : n < 2 ^ 64). subst (λ (o : Op ℕ). op_makes o n ≡ (n + bits) % 2 ^ 64) (sym is) (subst (λ (o : Op ℕ). FindsUnset o n) is (d.unset word) once small) in
-        (d.number, d.lives, λ small. subst (λ x. KeepsRule (Rule te he) s (with_word s.blocks d.number (word_index (op_word c.op)) x) id m (Follows c (answer_for c.op n))) (sums small) (word_goes s r d word))
+        (d.number, (d.lives, d.held low), λ small. subst (λ x. KeepsRule (Rule te he) s (with_word s.blocks d.number (word_index (op_word c.op)) x) id m (Follows c (answer_for c.op n))) (sums small) (word_goes s r d word))
 
     pub allows_link : Ready chain_calls m.view c → HoldsBy c.local c.op (touched_list c.touch c.carried c.lends) m → IsRead c.op → AllowsLink (Rule te he) id m (op_place te he c.op) (link_makes c.op) (λ q k. FollowsLink c q k)
     allows_link ready holds finds s r at =

@@ -4,7 +4,8 @@ use Rattle.std.proofs.Common.{ℕ, ◌≡◌, ◌≢◌, ◌||◌, not, Bool, Op
 use mathlib.Core.Option.{some}
 use lib.ListN.{get_elem?}
 use denote.RawPtr.{Ptr}
-use Rattle.queue_laws.specs.{Common.Vocabulary.Call, Common.Vocabulary.Effect, Common.Vocabulary.Kind, Common.Vocabulary.Answer, Common.Vocabulary.Local, Common.Vocabulary.Next, Common.Effects.Leads, Common.Effects.with_effect, Common.Effects.MayFront, Common.Stand.Stand, Chain.ChainCells.Reading, Chain.ChainCells.Chain, Chain.ChainCells.queue_of, Chain.ChainAt.At, Chain.ChainAnswers.Answers, Chain.ChainAfter.chain_of, Chain.ChainAfter.carried_of, Chain.ChainAfter.after_of}
+use Rattle.queue_laws.specs.Common.{Vocabulary.Call, Vocabulary.Effect, Vocabulary.Kind, Vocabulary.Answer, Vocabulary.Local, Vocabulary.Next, Effects.Leads, Effects.with_effect, Effects.MayFront, Stand.Stand}
+use Rattle.queue_laws.specs.Chain.{ChainCells.Reading, ChainCells.Chain, ChainCells.queue_of, ChainAt.At, ChainAnswers.Answers, ChainAfter.chain_of, ChainAfter.carried_of, ChainAfter.after_of}
 use Rattle.queue_steps.specs.{Next.CanNext, Next.next_of, State.State as Queue, ChainNext.FitsChain, ChainNext.chain_next}
 use Rattle.queue_laws.proofs.Chain.{ChainRight.NextOkSpares, ChainRight.Right, ChainRight.step_right, ChainStep.is_chain}
 use Rattle.mem_blocks.specs.{Web.Block, Web.State, Web.Sitter, Web.word_of, Web.viewed, declared.hub.TheConstants.PARTIES}

@@ -1,13 +1,12 @@
 -- The question for a block is no step on a block: a load of the tail's word makes it known to the web that a block was granted, which has a name from then on, or refused.
-use Rattle.std.proofs.Common.{ℕ, ◌≡◌, ◌∙◌, Option, Some, None, List, [], refl, sym, ap, subst}
+use Rattle.std.proofs.Common.{ℕ, ◌≡◌, ◌∙◌, Option, Some, None, List, [], refl, sym, ap, subst, arith}
 use mathlib.Core.Option.{some}
 use lib.ListN.{get_elem?}
 use denote.RawPtr.{Ptr, block_ptr, null_ptr, InBlock, Testable}
 use Rattle.queue_laws.specs.{Common.Vocabulary.Op, Common.Vocabulary.Answer, Common.Stand.Stand, Chain.ChainAt.At, Chain.ChainAt.asking}
 use Rattle.queue_steps.specs.State.{State as Queue}
 use Rattle.mem_blocks.specs.{Web.Block, Web.State, Web.Sitter, Web.word_of, Web.KeepsRule, Web.Allows, declared.hub.TheConstants.TAIL, declared.hub.TheConstants.PARTIES}
-use Rattle.shared_parties.specs.{declared.known.CallState.CallState, declared.known.InCall.InCall, Calling.Standing, CallsAt.Ready}
-use Rattle.shared_parties.proofs.CallSteps.{stands_at}
+use Rattle.shared_parties.{specs.declared.known.CallState.CallState, specs.declared.known.InCall.InCall, specs.Calling.Standing, specs.CallsAt.Ready, proofs.CallSteps.stands_at}
 use Rattle.shared_chain.specs.{ChainCalls.OutChain, ChainCalls.SlotsAs, ChainCalls.ChainLent, ChainCalls.chain_calls, Rule.Codes, Rule.Rule, Spots.spot, Steps.fresh_at, Steps.hand_by, Steps.Follows, Steps.FollowsGrant}
 use Rattle.shared_chain.proofs.{CallLaws.chain_call_laws, CallLaws.OnBlocks, CallLaws.chain_opens, Steps.Allowing.Found, Steps.Allowing.follows, Frames.Blocks.word_same, Frames.Links.nothing_lent, Steps.Granting.granted_at, Steps.Granting.refused_codes}
 
@@ -41,7 +40,7 @@ module _ {A : Type 0} (te he : Ptr) where
         let st = standing ready s r at in
         let g = granted r.cells id s.blocks m st.here.0 asks r.codes st.here.2 c.lends st.lent hand b i lies.1 spare in
         let w = follows te he s r id m.view c at st (Answer.Granted g.0) s.blocks m refl g.2 in
-        (0, r.codes.tail.lives, λ small. subst (λ (bs : List (Block A)). KeepsRule (Rule te he) s bs id m (λ q. FollowsGrant c (block_ptr b i) q)) (sym (word_same s.blocks 0 TAIL)) (w.0, [], tt, w.1, (g.0, g.1, w.2)))
+        (0, (r.codes.tail.lives, omega (arith, r.codes.tail.words)), λ small. subst (λ (bs : List (Block A)). KeepsRule (Rule te he) s bs id m (λ q. FollowsGrant c (block_ptr b i) q)) (sym (word_same s.blocks 0 TAIL)) (w.0, [], tt, w.1, (g.0, g.1, w.2)))
     allows_grant null_ptr ready hand spare lies asks s r at = absurd lies.0
 
     pub allows_refusal : Ready chain_calls m.view c → m.hand ≡ None → m.spare ≡ None → c.op ≡ Op.Ask → Allows (Rule te he) id m te TAIL (λ n. n) (λ n q. Follows c Answer.Refused q)
@@ -49,4 +48,4 @@ module _ {A : Type 0} (te he : Ptr) where
         let st = standing ready s r at in
         let f = refused r.cells id s.blocks m st.here.0 asks r.codes c.lends st.lent hand spare in
         let w = follows te he s r id m.view c at st Answer.Refused s.blocks m refl f in
-        (0, r.codes.tail.lives, λ small. subst (λ (bs : List (Block A)). KeepsRule (Rule te he) s bs id m (λ q. Follows c Answer.Refused q)) (sym (word_same s.blocks 0 TAIL)) (w.0, [], tt, w.1, w.2))
+        (0, (r.codes.tail.lives, omega (arith, r.codes.tail.words)), λ small. subst (λ (bs : List (Block A)). KeepsRule (Rule te he) s bs id m (λ q. Follows c Answer.Refused q)) (sym (word_same s.blocks 0 TAIL)) (w.0, [], tt, w.1, w.2))

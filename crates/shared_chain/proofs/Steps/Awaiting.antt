@@ -2,7 +2,8 @@
 use Rattle.std.proofs.Common.{ℕ, ◌+◌, ◌/◌, ◌%◌, ◌<◌, ◌≡◌, ◌≢◌, ◌==◌, ◌∙◌, not, inl, inr, Bool, true, false, if◌then◌else◌, Option, Some, None, List, [], ◌∷◌, length, refl, sym, ap, subst, arith, bit_and, get_or}
 use mathlib.Core.Option.{some}
 use denote.RawPtr.{Ptr}
-use Rattle.queue_laws.specs.{Common.Puts.put, Common.Vocabulary.Word, Common.Vocabulary.Op, Common.Vocabulary.Touch, Common.Vocabulary.Local, Common.Vocabulary.Next, Common.Vocabulary.BLOCK_SLOTS, Common.Vocabulary.WRITE, Common.Vocabulary.READ, Chain.ChainFacts.head_of, Chain.ChainFacts.Got, Chain.ChainAt.Only, Chain.ChainAt.awaiting, Chain.ChainAnswers.IsState, Chain.ChainAnswers.is_wrote, Chain.ChainPasses.spare_in}
+use Rattle.queue_laws.specs.Common.{Puts.put, Vocabulary.Word, Vocabulary.Op, Vocabulary.Touch, Vocabulary.Local, Vocabulary.Next, Vocabulary.BLOCK_SLOTS, Vocabulary.WRITE, Vocabulary.READ}
+use Rattle.queue_laws.specs.Chain.{ChainFacts.head_of, ChainFacts.Got, ChainAt.Only, ChainAt.awaiting, ChainAnswers.IsState, ChainAnswers.is_wrote, ChainPasses.spare_in}
 use Rattle.queue_laws.proofs.{Common.Puts.put_same, Common.Puts.put_other, Chain.ChainReads.own_item, Chain.ChainAnswers.head_offset}
 use Rattle.queue_steps.specs.{State.State, ChainWords.offset_of, ChainNext.at, ChainNext.walks, ChainNext.awaits, ChainNext.is_last_slot, ChainNext.written_found, declared.steps.chain.ChainLocal.ChainLocal as chain}
 use Rattle.queue_laws.specs.Chain.ChainCells.{Writer, Wrote, Reading, Done, GivenUp, ChainOk, Write, Read, HoldsOnly, value, reader_of, item_at}

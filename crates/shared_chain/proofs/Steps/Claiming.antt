@@ -3,12 +3,13 @@ use Rattle.std.proofs.Common.{ℕ, ◌+◌, ◌/◌, ◌%◌, ◌<◌, ◌≤◌
 use Rattle.std.proofs.lemmas.Bool.Decides.{eqb_tells}
 use denote.RawPtr.{Ptr}
 use mathlib.Core.Option.{some}
-use Rattle.queue_laws.specs.{Common.Vocabulary.Word, Common.Vocabulary.Op, Common.Vocabulary.Answer, Common.Vocabulary.Local, Common.Vocabulary.Next, Common.Vocabulary.PushKind, Common.Vocabulary.BLOCK_SLOTS, Common.Vocabulary.TAIL_STEP, Common.Puts.put, Common.Stand.brings, Chain.ChainTransitions.appended, Chain.ChainAfter.if_claimed, Chain.ChainFacts.open_tail_of, Chain.ChainFacts.IsNamed, Chain.ChainFacts.TailBlockIs, Chain.ChainFacts.HasSpare, Chain.ChainFacts.SawTail, Chain.ChainAt.At, Chain.ChainAt.IsLast, Chain.ChainAt.claiming, Chain.ChainAnswers.Answers, Chain.ChainAnswers.tail_word, Chain.ChainAnswers.tail_place, Chain.ChainAnswers.is_wrote, Chain.ChainPasses.spare_in}
+use Rattle.queue_laws.specs.Common.{Vocabulary.Word, Vocabulary.Op, Vocabulary.Answer, Vocabulary.Local, Vocabulary.Next, Vocabulary.PushKind, Vocabulary.BLOCK_SLOTS, Vocabulary.TAIL_STEP, Puts.put, Stand.brings}
+use Rattle.queue_laws.specs.Chain.{ChainTransitions.appended, ChainAfter.if_claimed, ChainPasses.spare_in, ChainAt.At, ChainAt.IsLast, ChainAt.claiming, ChainAnswers.Answers, ChainAnswers.tail_word, ChainAnswers.tail_place, ChainAnswers.is_wrote}
+use Rattle.queue_laws.specs.Chain.ChainFacts.{open_tail_of, IsNamed, TailBlockIs, HasSpare, SawTail}
 use Rattle.queue_steps.specs.{State.State, Words.tail_of, ChainWords.offset_of, ChainNext.chain_next, ChainNext.chain_tail_found, ChainNext.lays, ChainNext.writes, declared.steps.chain.ChainLocal.ChainLocal as chain}
 use Rattle.queue_laws.proofs.{Common.Puts.put_ok, Common.Puts.put_same, Common.Puts.put_other, Chain.ChainTransitions.item_free, Chain.ChainTransitions.next_free, Chain.ChainAnswers.same_tail}
 use Rattle.queue_laws.specs.Chain.ChainCells.{Free, Writing, Unread, Done, Mover, Rests, Laying, GivenUp, Chain, ChainOk, WalkOk, Read, HoldsOnly, Nothing, writer_of, reader_of, item_at, LAST}
-use Rattle.mem_blocks.specs.Web.{Block, Sitter, block, Lives, Rests as AtHome, worded, homed, takes, away, word_of, with_word, with_home}
-use Rattle.mem_blocks.specs.declared.hub.TheConstants.{TAIL}
+use Rattle.mem_blocks.specs.{Web.Block, Web.Sitter, Web.block, Web.Lives, Web.Rests as AtHome, Web.worded, Web.homed, Web.takes, Web.away, Web.word_of, Web.with_word, Web.with_home, declared.hub.TheConstants.TAIL}
 use Rattle.shared_parties.specs.declared.known.CallState.{CallState}
 use Rattle.shared_chain.specs.{Spots.spot, ChainCalls.OutChain, ChainCalls.ChainLent, ChainCalls.has_slot, Rule.home_of, Rule.BlockIs, Rule.IsThere, Rule.Codes, Steps.carried_by, Steps.slot_block, Steps.HoldsBy, Steps.BlockStep}
 use Rattle.shared_chain.proofs.{Frames.Blocks.word_here, Frames.Blocks.word_else, Frames.Blocks.word_same, Frames.Blocks.home_here, Frames.Blocks.home_else, Frames.Blocks.alive_is, Steps.Loads.tail_spare, Frames.Blocks.LikeBlock, Frames.Blocks.home_in, Frames.Blocks.there_like, Frames.Slots.there_homed, Frames.Slots.codes_tail, Frames.Slots.none_held, Frames.Slots.step_by, Frames.Slots.step_none}

@@ -3,7 +3,8 @@ use Rattle.std.proofs.Common.{ℕ, ◌+◌, ◌-◌, ◌/◌, ◌%◌, ◌≡◌
 use denote.RawPtr.{Ptr}
 use Rattle.queue_laws.specs.Common.Vocabulary.{Call, Effect, Word, Link, Op, Touch, Answer, Local, PushKind, BLOCK_SLOTS, TAIL_STEP}
 use Rattle.queue_steps.specs.{declared.steps.chain.ChainLocal.ChainLocal as chain, ChainWords.offset_of, State.State, ChainNext.chain_next, ChainNext.tail_block_found, ChainNext.asks, ChainNext.claims, ChainNext.head_block_found, ChainNext.followed}
-use Rattle.queue_laws.specs.{Common.Stand.stand, Chain.ChainFacts.head_of, Chain.ChainFacts.open_tail_of, Chain.ChainFacts.HeadIs, Chain.ChainFacts.IsMore, Chain.ChainFacts.IsNamed, Chain.ChainFacts.HasSpare, Chain.ChainFacts.SawTail, Chain.ChainFacts.Got, Chain.ChainAt.Either, Chain.ChainAt.At, Chain.ChainAt.IsBehind, Chain.ChainAt.push_block, Chain.ChainAt.pop_block, Chain.ChainAt.following, Chain.ChainAt.peeking, Chain.ChainAnswers.Answers, Chain.ChainAnswers.last_of, Chain.ChainAnswers.shown_of, Chain.ChainAnswers.linked_of, Chain.ChainAfter.chain_of, Chain.ChainAfter.after_of}
+use Rattle.queue_laws.specs.{Common.Stand.stand, Chain.ChainFacts.head_of, Chain.ChainFacts.open_tail_of, Chain.ChainFacts.HeadIs, Chain.ChainFacts.IsMore, Chain.ChainFacts.IsNamed, Chain.ChainFacts.HasSpare, Chain.ChainFacts.SawTail, Chain.ChainFacts.Got}
+use Rattle.queue_laws.specs.Chain.{ChainAt.Either, ChainAt.At, ChainAt.IsBehind, ChainAt.push_block, ChainAt.pop_block, ChainAt.following, ChainAt.peeking, ChainAnswers.Answers, ChainAnswers.last_of, ChainAnswers.shown_of, ChainAnswers.linked_of, ChainAfter.chain_of, ChainAfter.after_of}
 use Rattle.queue_laws.specs.Chain.ChainCells.{Reading, Done, Passing, GivenUp, Chain, item_at, ChainOk, Read, Head, HoldsOnly, Nothing}
 use Rattle.queue_laws.proofs.Chain.{ChainPush.none_spare, ChainSpan.not_done, ChainReads.not_given_up, ChainStates.one_block}
 use Rattle.mem_blocks.specs.Web.{Block, Sitter, block, Lives}

@@ -1,7 +1,8 @@
 -- A push that asks for a block: the blocks stand for the chain where the block is its spare, and where it was refused.
 use Rattle.std.proofs.Common.{ℕ, ◌+◌, ◌≤◌, ◌≡◌, ◌∙◌, inl, inr, Option, Some, None, List, refl, sym, ap, subst, arith}
 use denote.RawPtr.{Ptr, block_ptr, Testable}
-use Rattle.queue_laws.specs.{Common.Vocabulary.Word, Common.Vocabulary.Op, Common.Vocabulary.Touch, Common.Vocabulary.Answer, Common.Vocabulary.Local, Common.Vocabulary.PushKind, Common.Vocabulary.TAIL_STEP, Chain.ChainCells.Spare, Chain.ChainCells.HoldsOnly, Chain.ChainCells.Nothing, Chain.ChainTransitions.renamed, Chain.ChainFacts.open_tail_of, Chain.ChainAnswers.Answers, Chain.ChainAfter.if_granted}
+use Rattle.queue_laws.specs.Common.Vocabulary.{Word, Op, Touch, Answer, Local, PushKind, TAIL_STEP}
+use Rattle.queue_laws.specs.Chain.{ChainCells.Spare, ChainCells.HoldsOnly, ChainCells.Nothing, ChainTransitions.renamed, ChainFacts.open_tail_of, ChainAnswers.Answers, ChainAfter.if_granted}
 use Rattle.queue_steps.specs.{declared.steps.chain.ChainLocal.ChainLocal as chain, ChainNext.chain_next, ChainNext.granted}
 use Rattle.queue_laws.proofs.Common.Puts.{put_ok, put_other}
 use Rattle.mem_blocks.specs.Web.{Block, Sitter}

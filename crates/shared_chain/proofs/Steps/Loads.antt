@@ -3,10 +3,11 @@ use Rattle.std.proofs.Common.{ℕ, ◌≡◌, ◌≤◌, inl, inr, false, Option
 use Rattle.std.proofs.lemmas.Bool.Decides.{eqb_tells}
 use denote.RawPtr.{Ptr}
 use Rattle.queue_laws.specs.Common.Vocabulary.{Call, Effect, Word, Op, Touch, Answer, Local, PushKind, BLOCK_SLOTS, Look}
-use Rattle.queue_steps.specs.{State.State, Looks.IsCount, Words.IsWord, Words.position_of, ChainWords.block_at, ChainWords.offset_of, ChainWords.items_before, ChainNext.chain_next, ChainNext.chain_tail_found, ChainNext.chain_pop_tail_found, ChainNext.chain_head_found, declared.steps.chain.ChainLocal.ChainLocal as chain}
-use Rattle.queue_laws.specs.{Common.Moments.SeenIn, Common.Moments.HeadWas, Common.Stand.stand, Chain.ChainCells.HoldsOnly, Chain.ChainCells.Nothing, Chain.ChainFacts.head_of, Chain.ChainFacts.HasSpare, Chain.ChainFacts.HeadIs, Chain.ChainFacts.HeadBlockRead, Chain.ChainFacts.SawEmpty, Chain.ChainAnswers.Answers, Chain.ChainPasses.spare_in, Chain.ChainAfter.chain_of, Chain.ChainAfter.after_of}
+use Rattle.queue_steps.specs.{State.State, Looks.IsCount, declared.steps.chain.ChainLocal.ChainLocal as chain, Words.IsWord, Words.position_of, ChainWords.block_at, ChainWords.offset_of, ChainWords.items_before}
+use Rattle.queue_steps.specs.ChainNext.{chain_next, chain_tail_found, chain_pop_tail_found, chain_head_found}
+use Rattle.queue_laws.{specs.Common.Moments.SeenIn, specs.Common.Moments.HeadWas, specs.Common.Stand.stand, proofs.Chain.ChainPush.tail_ways}
+use Rattle.queue_laws.specs.Chain.{ChainCells.HoldsOnly, ChainCells.Nothing, ChainFacts.head_of, ChainFacts.HasSpare, ChainFacts.HeadIs, ChainFacts.HeadBlockRead, ChainFacts.SawEmpty, ChainAnswers.Answers, ChainPasses.spare_in, ChainAfter.chain_of, ChainAfter.after_of}
 use Rattle.queue_laws.specs.Chain.ChainAt.{At, push_tail, pop_head, pop_tail, count_tail, count_head, count_again, empty_head, empty_tail, closed_tail}
-use Rattle.queue_laws.proofs.Chain.ChainPush.{tail_ways}
 use Rattle.mem_blocks.specs.Web.{Block, Sitter, Lives, word_of}
 use Rattle.shared_parties.specs.declared.known.CallState.{CallState}
 use Rattle.shared_chain.specs.{ChainCalls.OutChain, ChainCalls.ChainLent, Rule.Codes, Steps.HoldsBy, Steps.word_place, Steps.word_index, Steps.BlockStep}

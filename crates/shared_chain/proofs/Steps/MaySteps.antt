@@ -1,6 +1,7 @@
 -- The step of a call may be done wherever the call stands: its word is one of the chain's, and the slot that it touches is the one that it has.
 use Rattle.std.proofs.Common.{ℕ, ◌<◌, ◌%◌, ◌≡◌, ◌∙◌, inl, inr, Bool, true, false, Option, Some, None, List, [], ◌∷◌, refl, sym, ap, subst, arith, lit<}
-use Rattle.queue_laws.specs.{Common.Vocabulary.Call, Common.Vocabulary.Effect, Common.Vocabulary.Next, Common.Vocabulary.BLOCK_SLOTS, Common.Stand.Stand, Chain.ChainFacts.head_of, Chain.ChainFacts.open_tail_of, Chain.ChainAt.Only, Chain.ChainAt.asking, Chain.ChainAt.writing, Chain.ChainAt.awaiting, Chain.ChainAt.reading, Chain.ChainAt.beginning, Chain.ChainAt.walking, Chain.ChainAt.destroying}
+use Rattle.queue_laws.specs.Common.{Vocabulary.Call, Vocabulary.Effect, Vocabulary.Next, Vocabulary.BLOCK_SLOTS, Stand.Stand}
+use Rattle.queue_laws.specs.Chain.{ChainFacts.head_of, ChainFacts.open_tail_of, ChainAt.Only, ChainAt.asking, ChainAt.writing, ChainAt.awaiting, ChainAt.reading, ChainAt.beginning, ChainAt.walking, ChainAt.destroying}
 use Rattle.queue_steps.specs.{State.State, ChainWords.offset_of}
 use Rattle.queue_laws.specs.Chain.ChainCells.{Writing, Reading, Walker, WalkOk, ChainOk, Write, Read, writer_of, reader_of, HoldsOnly, Nothing}
 use Rattle.queue_laws.proofs.Chain.{ChainAnswers.head_offset, ChainRight.NextOkSpares}

@@ -1,11 +1,11 @@
 -- The operation of a ready call's step may be done on the chain, and what it answered at run time is what it answered with names.
-use Rattle.std.proofs.Common.{ℕ, ◌+◌, ◌%◌, ◌^◌, ◌≡◌, ◌∙◌, true, Option, Some, None, List, [], refl, sym, ap, subst}
-use denote.RawPtr.{Ptr, InBlock, Testable, null_ptr}
-use Rattle.queue_laws.specs.Common.{Vocabulary.Word, Vocabulary.Link, Vocabulary.Op, Vocabulary.Touch, Vocabulary.Answer, Vocabulary.Local, Operations.op_word, Operations.op_makes, Operations.answer_for}
+use Rattle.std.proofs.Common.{ℕ, ◌+◌, ◌%◌, ◌^◌, ◌≡◌, ◌∙◌, true, Option, Some, None, List, [], refl, sym, ap, subst, ◌<◌, arith}
+use denote.RawPtr.{Ptr, InBlock, Testable}
+use Rattle.queue_laws.specs.Common.{Vocabulary.Word, Vocabulary.Link, Vocabulary.Op, Vocabulary.Touch, Vocabulary.Answer, Vocabulary.Local, Operations.op_word, Operations.op_makes, Operations.answer_for, Vocabulary.BLOCK_SLOTS}
 use Rattle.mem_blocks.specs.{Web.State, Web.Block, Web.Sitter, Web.Allows, Web.AllowsLink, Web.sitter, declared.block.BlockPtr.BlockPtr as Place, declared.hub.TheConstants.TAIL}
 use Rattle.shared_parties.specs.{declared.known.CallState.CallState, declared.known.InCall.InCall, Calling.touched_list}
 use Rattle.shared_chain.specs.{Spots.spot, Names.link_of, Names.word_map, Names.link_map, Names.op_map, Names.answer_map, Names.is_set_once, Rule.Rule, Turning.CanOperate, Turning.Operated, Turning.carried_place}
-use Rattle.shared_chain.specs.Steps.{MayDo, MayTouch, fresh_at, op_place, word_index, link_makes, hand_by, slot_block, carried_by, Follows, FollowsLink, FollowsGrant}
+use Rattle.shared_chain.specs.Steps.{HasWord, MayDo, MayTouch, fresh_at, op_place, word_index, link_makes, hand_by, slot_block, carried_by, Follows, FollowsLink, FollowsGrant}
 use Rattle.shared_chain.proofs.Steps.{Allowed.IsWordOp, Allowed.IsRead, Allowed.allows_word, Allowed.allows_added, Allowed.allows_link, Allowed.allows_store, Asking.allows_grant, Asking.allows_refusal}
 
 -- the operation with names that one at run time stands for
@@ -42,6 +42,22 @@ once_named T w bits = refl
 abbrev Reached : Ptr → Ptr → Op ℕ → Ptr → ℕ → Type 0
 Reached te he a p i = (p ≡ op_place te he a) × (i ≡ word_index (op_word a))
 
+-- the number of a word that a chain has
+index_low : (w : Word ℕ) → HasWord w → word_index w < BLOCK_SLOTS
+index_low (Word.State name i) has = has
+index_low Word.Tail has = omega arith
+index_low Word.Head has = omega arith
+index_low w has = absurd has
+
+op_low : {T : Type 0} (l : Local ℕ) (o : Op ℕ) (xs : List (ℕ × Option T)) → IsWordOp o → MayDo l o xs → word_index (op_word o) < BLOCK_SLOTS
+op_low l (Op.Load w) xs word may = index_low w may
+op_low l (Op.Store w x) xs word may = index_low w may
+op_low l (Op.Add w x) xs word may = index_low w may
+op_low l (Op.Or w x) xs word may = index_low w may
+op_low l (Op.And w x) xs word may = absurd may
+op_low l (Op.Exchange w x y) xs word may = index_low w may
+op_low l o xs word may = absurd word
+
 -- a step tells what it told
 allows_as : {S V : Type 0} (holds : State S V → Type 0) (id : ℕ) (m : Sitter S V) (p : Ptr) (i : ℕ) (f : ℕ → ℕ) (P Q : ℕ → Sitter S V → Type 0) → ((n : ℕ) (q : Sitter S V) → P n q → Q n q) → Allows holds id m p i f P → Allows holds id m p i f Q
 allows_as holds id m p i f P Q more allows s rule here = let d = allows s rule here in (d.0, d.1, λ small. let z = d.2 small in (z.0, z.1, z.2, z.3, more _ _ z.4))
@@ -59,7 +75,7 @@ module _ {T : Type 0} (m : Sitter T (CallState T)) (o : Op (Place T)) (c : InCal
     may_do a p i is word (at, number) =
         subst (λ (z : Ptr × ℕ). Allows (Rule te he) id m z.0 z.1 (op_makes a) (λ n q. Follows c (answer_for c.op n) q)) (λ j. (sym at j, sym number j))
         (subst (λ (z : Op ℕ). Allows (Rule te he) id m (op_place te he z) (word_index (op_word z)) (op_makes z) (λ n q. Follows c (answer_for c.op n) q)) is
-        (allows_word te he id m c can.ready can.holds (subst IsWordOp (sym is) word)))
+        (allows_word te he id m c can.ready can.holds (subst IsWordOp (sym is) word) (op_low c.local c.op c.lends (subst IsWordOp (sym is) word) can.may.0)))
 
     -- bits that are set once are added
     pub may_add : (w : Word ℕ) (at_run : Word (Place T)) (bits : ℕ) (p : Ptr) (i : ℕ) → c.op ≡ Op.Or w bits → at_run ≡ word_map link_of w → is_set_once at_run bits ≡ true → Reached te he (Op.Or w bits) p i
@@ -67,7 +83,7 @@ module _ {T : Type 0} (m : Sitter T (CallState T)) (o : Op (Place T)) (c : InCal
     may_add w at_run bits p i is stands once (at, number) by all =
         subst (λ (z : Ptr × ℕ × ℕ). Allows (Rule te he) id m z.0 z.1 (λ n. (n + z.2) % 2 ^ 64) (λ n q. Follows c (answer_for c.op n) q)) (λ j. (sym at j, sym number j, sym all j))
         (subst (λ (z : Op ℕ). Allows (Rule te he) id m (op_place te he z) (word_index (op_word z)) (λ n. (n + bits) % 2 ^ 64) (λ n q. Follows c (answer_for c.op n) q)) is
-        (allows_added te he id m c w bits can.ready can.holds is (sym (once_named T w bits) ∙ (ap (λ (z : Word (Place T)). is_set_once z bits) (sym stands) ∙ once))))
+        (allows_added te he id m c w bits can.ready can.holds is (sym (once_named T w bits) ∙ (ap (λ (z : Word (Place T)). is_set_once z bits) (sym stands) ∙ once)) (op_low c.local c.op c.lends (subst IsWordOp (sym is) tt) can.may.0)))
 
     -- a store tells the same, whatever it found
     pub may_store : (w : Word ℕ) (x : ℕ) (p : Ptr) (i : ℕ) → c.op ≡ Op.Store w x → Reached te he (Op.Store w x) p i → Allows (Rule te he) id m p i (λ n. x) (λ n q. Follows c (answer_for c.op x) q)

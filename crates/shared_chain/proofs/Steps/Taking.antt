@@ -4,7 +4,8 @@ use Rattle.std.proofs.lemmas.Bool.Decides.{eqb_tells}
 use denote.RawPtr.{Ptr}
 use Rattle.queue_laws.specs.Common.Vocabulary.{Call, Word, Link, Op, Touch, Answer, Local, Next, BLOCK_SLOTS, TAIL_STEP}
 use Rattle.queue_steps.specs.{State.State, Words.tail_of, ChainWords.offset_of, ChainNext.chain_next, ChainNext.chain_head_found, declared.steps.chain.ChainLocal.ChainLocal as chain}
-use Rattle.queue_laws.specs.{Common.Puts.put, Common.Stand.empty_handed, Chain.ChainFacts.place, Chain.ChainFacts.head_of, Chain.ChainFacts.HeadIs, Chain.ChainFacts.HeadBlockIs, Chain.ChainFacts.IsMore, Chain.ChainTransitions.taken, Chain.ChainAfter.if_taken, Chain.ChainAt.At, Chain.ChainAt.taking, Chain.ChainAnswers.Answers, Chain.ChainAnswers.head_word, Chain.ChainAnswers.head_place, Chain.ChainAnswers.is_done, Chain.ChainPasses.spare_in}
+use Rattle.queue_laws.specs.{Common.Puts.put, Common.Stand.empty_handed, Chain.ChainFacts.place, Chain.ChainFacts.head_of, Chain.ChainFacts.HeadIs, Chain.ChainFacts.HeadBlockIs, Chain.ChainFacts.IsMore}
+use Rattle.queue_laws.specs.Chain.{ChainTransitions.taken, ChainAfter.if_taken, ChainPasses.spare_in, ChainAt.At, ChainAt.taking, ChainAnswers.Answers, ChainAnswers.head_word, ChainAnswers.head_place, ChainAnswers.is_done}
 use Rattle.queue_laws.proofs.{Common.Puts.put_ok, Common.Puts.put_other, Chain.ChainReads.front_is, Chain.ChainAnswers.head_offset, Chain.ChainAnswers.same_head}
 use Rattle.queue_laws.specs.Chain.ChainCells.{Writer, Free, Unread, Reading, Passer, Stands, Passing, ChainOk, Write, Read, HoldsOnly, Nothing, reader_of, item_at}
 use Rattle.mem_blocks.specs.{Web.Block, Web.Sitter, Web.word_of, Web.with_word, declared.hub.TheConstants.HEAD}

@@ -5,7 +5,8 @@ use Rattle.atomic_table.specs.Table.{rest}
 use Rattle.queue_laws.specs.Common.Vocabulary.{Call, Word, Op, Touch, Local}
 use Rattle.mem_blocks.specs.{Web.Block, Web.Hand, Web.Sitter, Web.alive_at, Seats.Sits, Seats.Same, declared.block.BlockPtr.BlockPtr as Place, declared.web.Seat.Seat, declared.web.Web.Web}
 use Rattle.shared_parties.specs.{declared.known.CallState.CallState, declared.known.InCall.InCall, declared.known.Work.Work as work, Calling.touched_list, Calling.handed_by, Calling.lies_in, CallsAt.Ready, Called.call_of_work, Called.begun_by}
-use Rattle.shared_chain.specs.{Spots.spot, ChainCalls.chain_calls, Names.link_of, Names.name_map, Names.local_map, Names.op_map, Names.state_block, Steps.slot_block, Steps.hand_by, Steps.HoldsBy, Steps.MayTouch, Turning.unnamed, Turning.call_at, Turning.CanDo, Turning.CanOperate, Turning.CanTouch, Turning.Swapped, Turning.Touched}
+use Rattle.shared_chain.specs.{Spots.spot, ChainCalls.chain_calls, Steps.slot_block, Steps.hand_by, Steps.HoldsBy, Steps.MayTouch, Names.link_of, Names.name_map, Names.local_map, Names.op_map, Names.state_block}
+use Rattle.shared_chain.specs.Turning.{unnamed, call_at, CanDo, CanOperate, CanTouch, Swapped, Touched}
 
 -- a block that lives is what it is made of
 pub carried_block : {T : Type 0} (y : Block T) → y.alive ≡ true → y ≡ alive_at y.at y.next y.words y.homes

@@ -35,7 +35,9 @@ module _ {A : Type 0} (te he : Ptr) where
   gives_spare m d (Some f) empty is = (empty, (fresh_at (spot f), is, refl, refl, refl, all_vacant A BLOCK_SLOTS))
 
   -- U9: the item is written, at the slot i of the block b
-  write_left : (g : OutChain A) (who : ℕ) (bs : List (Block A)) (m : Sitter A (CallState A)) (d : PushKind) (x : A) (n b i name : ℕ) (spare : Option ℕ) → HoldsOnly g.chain who (Only (Write n)) → g.chain.writers n ≡ Writing who x → OutWrote g → item_at b i ≡ n → i < BLOCK_SLOTS → b < g.chain.blocks → name ≡ g.chain.names b
+  write_left : (g : OutChain A) (who : ℕ) (bs : List (Block A)) (m : Sitter A (CallState A)) (d : PushKind) (x : A) (n b i name : ℕ) (spare : Option ℕ)
+      → HoldsOnly g.chain who (Only (Write n)) → g.chain.writers n ≡ Writing who x → OutWrote g
+      → item_at b i ≡ n → i < BLOCK_SLOTS → b < g.chain.blocks → name ≡ g.chain.names b
       → ChainOk g.chain → Codes te he g bs → (m.hand ≡ Some (spot name, i, Some x)) × (m.spare ≡ carried_by spare)
       → (g.chain.walks b ≢ GivenUp) × IsState g.chain b i (word_of bs (b + 2) i) × Leaves te he g who (with_word bs (b + 2) i (bit_or (word_of bs (b + 2) i) WRITE)) m (written g.chain n x) (Next.Reply (pushed_reply d) spare)
   write_left g who bs m d x n b i name spare holds mine ready at low lt named ok codes has = (

@@ -1,19 +1,22 @@
 -- The laws of a ring in a table: what each step of a call does to the words and slots, and where calls begin.
 use Rattle.std.proofs.Common.{◌≡◌, ◌≢◌, ℕ, ◌+◌, ◌-◌, ◌<◌, ◌||◌, not, length, Bool, List, [], ◌∷◌, get_or, set, Option, Some, None, refl, ap, sym, ◌∙◌, subst, inl, arith, length-set}
 use Rattle.std.proofs.lemmas.List.{set-get_or, get_or-drop, set-append_right}
-use mathlib.Core.Option.{some, some-injective}
+use mathlib.Core.Option.{some}
 use mathlib.Core.Option as maybe
 use lib.ListN.{get_elem?}
 use Rattle.atomic_table.specs.Table.{Act, keeps, takes, gives, Valid, carried_after, homes_after, rest}
 use Rattle.atomic_table.proofs.Lists.{set_here, set_else}
 use Rattle.queue_laws.specs.Common.Vocabulary.{Call, Reply, Effect, Kind, Word, Op, Touch, Answer, Next}
 use Rattle.queue_steps.specs.{State.State, Words.IsRing, Next.CanNext, Next.next_of}
-use Rattle.queue_laws.specs.{Common.Puts.put, Ring.RingCells.Cell, Ring.RingCells.Ring, Ring.RingCells.queue_of, Ring.RingCells.RingOk, Ring.RingCells.owner, Ring.RingCells.HoldsNone, Ring.RingWords.Codes, Ring.RingWords.item_in, Common.Effects.Touches, Common.Effects.with_effect, Common.Stand.Stand, Ring.RingAt.At, Ring.RingAt.closing, Ring.RingPasses.Lent, Common.Operations.op_word, Common.Operations.op_makes, Common.Operations.answer_for}
-use Rattle.queue_laws.proofs.{Common.Puts.put_ok, Common.Puts.put_same, Ring.RingAt.at_stays, Ring.RingRanks.rank, Ring.RingStepOk.NextOk as RingNextOk, Ring.RingStepOk.StepOk, Ring.RingStepOk.operates_on, Ring.RingEarly.early, Ring.RingStart.at_first, Ring.RingStart.at_touches, Ring.RingStart.at_coming, Ring.RingStart.at_word, Ring.RingStep.step_good, Ring.RingFronts.may_front, Ring.RingHands.lent_stays, Ring.RingHands.Shift, Ring.RingHands.Rests, Ring.RingHands.Claims, Ring.RingHands.GoesOn, Ring.RingHands.Returns, Common.Moments.seen_map}
+use Rattle.queue_laws.specs.Common.{Puts.put, Effects.Touches, Effects.with_effect, Stand.Stand, Operations.op_word, Operations.op_makes, Operations.answer_for}
+use Rattle.queue_laws.specs.Ring.{RingCells.Cell, RingCells.Ring, RingCells.queue_of, RingCells.RingOk, RingCells.owner, RingCells.HoldsNone, RingWords.Codes, RingWords.item_in, RingAt.At, RingAt.closing, RingPasses.Lent}
+use Rattle.queue_laws.proofs.{Common.Puts.put_ok, Common.Puts.put_same, Common.Moments.seen_map, Ring.RingHands.lent_stays, Ring.RingHands.Shift, Ring.RingHands.Rests, Ring.RingHands.Claims, Ring.RingHands.GoesOn, Ring.RingHands.Returns}
+use Rattle.queue_laws.proofs.Ring.{RingAt.at_stays, RingRanks.rank, RingFronts.may_front, RingEarly.early, RingStep.step_good, RingStepOk.NextOk as RingNextOk, RingStepOk.StepOk, RingStepOk.operates_on, RingStart.at_first, RingStart.at_touches, RingStart.at_coming, RingStart.at_word}
 use Rattle.queue_laws.specs.Ring.RingShared.{Shared, HasPlace, HasWord, word_at, put_word, CanOperate, CanTouch, answered, operated, touched, handed}
 use Rattle.own_cells.specs.{OneRing.RingWords.words_behind, declared.ring.ring_words.TheConstants.STAMPS}
 use Rattle.shared_parties.specs.Calling.{touched_list, lies_in, handed_by, HasTouched, NextOk, CallLaws}
-use Rattle.shared_tables.specs.{TableRule.found_by, TableRule.TableStepOk, TableRule.TakesOff, TableRule.OpensIn, TableRule.TableLaws, RingTable.home_when, RingTable.home_of, RingTable.Homes, RingTable.ring_words, RingTable.word_index, RingTable.RingCoded, RingTable.ring_calls, RingTable.ring_table, Laws.RingWaitFree.ring_wait_free}
+use Rattle.shared_tables.specs.{TableRule.found_by, TableRule.TableStepOk, TableRule.TakesOff, TableRule.OpensIn, TableRule.TableLaws, Laws.RingWaitFree.ring_wait_free}
+use Rattle.shared_tables.specs.RingTable.{home_when, home_of, Homes, ring_words, word_index, RingCoded, ring_calls, ring_table}
 
 -- the table has the word
 place_below : (cap : ℕ) (w : Word ℕ) → HasPlace cap w → word_index w < cap + STAMPS

@@ -4,10 +4,15 @@ use mathlib.Core.Option.{some}
 use mathlib.Core.Option as maybe
 use Rattle.atomic_table.specs.Table.{Act, keeps, takes, gives, Valid, carried_after, homes_after}
 use Rattle.queue_laws.specs.Common.Vocabulary.{Call, Reply, Effect, Kind, Op, Touch, Answer, Local, Next, SlotLocal}
-use Rattle.queue_steps.specs.{declared.steps.slot.SlotLocal.TheVariants.Pushing, declared.steps.slot.SlotLocal.TheVariants.Closing, declared.steps.slot.SlotLocal.TheVariants.Looking, State.State, Kinds.call_kind, Next.CanNext, Next.next_of, SlotNext.slot_begin, Looks.call_of_look, WaitFree.is_wait_free, WaitFree.EndsBefore, WaitFree.EndsWaitFree}
-use Rattle.queue_laws.specs.{Common.Effects.Leads, Common.Effects.with_effect, Common.Effects.MayFront, Common.Stand.Stand, Common.Stand.stand, Slot.SlotShared.Shared, Slot.SlotShared.one_slot, Slot.SlotShared.answered, Slot.SlotShared.operated, Slot.SlotShared.touched, Slot.SlotShared.handed, Slot.SlotHolder.SlotHolder, Slot.SlotHolder.Nobody, Slot.SlotCells.Slot, Slot.SlotCells.queue_of, Slot.SlotCells.own_in, Slot.SlotCells.lent_by, Slot.SlotCells.Lent, Slot.SlotCells.IsHeld, Common.Operations.op_makes, Common.Operations.answer_for}
-use Rattle.queue_laws.specs.Slot.SlotRows.{Codes, filling, swapping, taking, At, push_try, push_put, force_try_empty, force_try_full, force_put_empty, force_put_full, pop_try, pop_take, close_try, look_at, Share, fills, swaps, takes as takes_share, Passes, stays, changes, single, NextOk as SlotNextOk, StepOk}
-use Rattle.queue_laws.proofs.{Slot.SlotEarly.early, Slot.SlotSteps.step_good, Slot.SlotRanks.can_operate, Slot.SlotHolder.share_of, Slot.SlotHolder.next_who, Slot.SlotHolder.own_self, Slot.SlotHolder.own_other, Slot.SlotCells.nobody_if, Slot.SlotCells.held_lent, Slot.SlotCells.at_stays, Slot.SlotCells.lent_stays, Slot.SlotCells.at_whole, Slot.SlotCells.at_lock, Slot.SlotCells.on_lock, Slot.SlotCells.at_touches, Common.Moments.seen_map}
+use Rattle.queue_steps.specs.declared.steps.slot.SlotLocal.TheVariants.{Pushing, Closing, Looking}
+use Rattle.queue_steps.specs.{State.State, Kinds.call_kind, SlotNext.slot_begin, Looks.call_of_look, Next.CanNext, Next.next_of, WaitFree.is_wait_free, WaitFree.EndsBefore, WaitFree.EndsWaitFree}
+use Rattle.queue_laws.specs.Common.{Effects.Leads, Effects.with_effect, Effects.MayFront, Stand.Stand, Stand.stand, Operations.op_makes, Operations.answer_for}
+use Rattle.queue_laws.specs.Slot.SlotShared.{Shared, one_slot, answered, operated, touched, handed}
+use Rattle.queue_laws.specs.Slot.{SlotHolder.SlotHolder, SlotHolder.Nobody, SlotCells.Slot, SlotCells.queue_of, SlotCells.own_in, SlotCells.lent_by, SlotCells.Lent, SlotCells.IsHeld}
+use Rattle.queue_laws.specs.Slot.SlotRows.{Codes, filling, swapping, taking, At, push_try, push_put, force_try_empty, force_try_full, force_put_empty, force_put_full, pop_try, pop_take}
+use Rattle.queue_laws.specs.Slot.SlotRows.{close_try, look_at, Share, fills, swaps, takes as takes_share, Passes, stays, changes, single, NextOk as SlotNextOk, StepOk}
+use Rattle.queue_laws.proofs.{Slot.SlotEarly.early, Slot.SlotSteps.step_good, Slot.SlotRanks.can_operate, Slot.SlotHolder.share_of, Slot.SlotHolder.next_who, Slot.SlotHolder.own_self, Slot.SlotHolder.own_other, Common.Moments.seen_map}
+use Rattle.queue_laws.proofs.Slot.SlotCells.{nobody_if, held_lent, at_stays, lent_stays, at_whole, at_lock, on_lock, at_touches}
 use Rattle.shared_parties.specs.Calling.{touched_list, lies_in, handed_by, NextOk, CallLaws}
 use Rattle.shared_tables.specs.{TableRule.TakesOff, TableRule.TableStepOk, TableRule.OpensIn, TableRule.TableLaws, SlotTable.home_under, SlotTable.SlotCoded, SlotTable.slot_calls, SlotTable.slot_table}
 

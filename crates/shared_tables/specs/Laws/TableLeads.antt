@@ -8,8 +8,7 @@ use Rattle.shared_parties.specs.{declared.known.CallState.CallState, declared.kn
 use Rattle.shared_tables.specs.{Seats.view_at, AtTable.TableSeat, AtTable.IsAt, TableRule.TableOf, TableRule.TableLaws, TableRule.InTable}
 use Rattle.shared_tables.specs.TableTurns.{After, Follows, call_at, CanDo, NoBlock, NoGift, TableCan, TableDoes, TableStands, TableEnded}
 use Rattle.shared_parties.proofs.{Called.whole, Histories.prefix_self, SharedCalls.quiet}
-use Rattle.call_driver.specs.Leads.{Leads, GoesOn}
-use Rattle.call_driver.proofs.LeadsThrough.{leads-through}
+use Rattle.call_driver.{specs.Leads.Leads, specs.Leads.GoesOn, proofs.LeadsThrough.leads-through}
 
 module _ (T : Type 0) (K : ℕ → TableOf T) (t : TableId) (left : ℕ) where
   abbrev TableLeads : TableSeat T → Call T → Next ℕ → TableSeat T → Option T → Type 0

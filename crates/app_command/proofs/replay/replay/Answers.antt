@@ -1,6 +1,5 @@
 use Rattle.app_text.specs.Actions.{replay_line_text, IsReplayLine}
-use Rattle.app_command.specs.Reports.{IsReport}
-use Rattle.app_command.proofs.Running.{written}
+use Rattle.app_command.{specs.Reports.IsReport, proofs.Running.written}
 use Rattle.app_command.proofs.replay.replay.Goals as goal
 
 pub returns : goal.returns

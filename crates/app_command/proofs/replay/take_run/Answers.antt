@@ -1,8 +1,7 @@
 use Rattle.std.proofs.Common.{◌≡◌, ◌+◌, ◌-◌, ℕ, true, false, replicate, string_bytes, subst, arith}
 use Rattle.std.proofs.lemmas.Grind.{common_steps}
 use Rattle.queue_steps.specs.declared.sizes.TheConstants.{SOLO_STEPS}
-use Rattle.app_command.specs.Takes.{Takes}
-use Rattle.app_command.proofs.Taking.{takes-again, takes-rest, skips-run}
+use Rattle.app_command.{specs.Takes.Takes, proofs.Taking.takes-again, proofs.Taking.takes-rest, proofs.Taking.skips-run}
 use Rattle.app_command.proofs.replay.take_run.Goals as goal
 
 pub returns-then-not-is_in_call : goal.returns-then-not-is_in_call

@@ -1,6 +1,5 @@
 use Rattle.std.proofs.Common.{rules, [], ◌∷◌}
-use Rattle.app_text.specs.Replies.{number_text}
-use Rattle.app_text.proofs.Writing.{puts-three, first-of-three, second-of-three}
+use Rattle.app_text.{specs.Replies.number_text, proofs.Writing.puts-three, proofs.Writing.first-of-three, proofs.Writing.second-of-three}
 use Rattle.app_command.proofs.script.put_line.Goals as goal
 
 pub returns-in_err-put : goal.returns-in_err-put

@@ -1,7 +1,6 @@
 use Rattle.std.proofs.Common.{rules}
 use Rattle.app_text.specs.Calls.{call_text, IsCallOfWord}
-use Rattle.app_command.specs.Scripts.{IsTranscript}
-use Rattle.app_command.proofs.Running.{written_on}
+use Rattle.app_command.{specs.Scripts.IsTranscript, proofs.Running.written_on}
 use Rattle.app_command.proofs.script.script.Goals as goal
 
 pub returns-in_err-bytes : goal.returns-in_err-bytes

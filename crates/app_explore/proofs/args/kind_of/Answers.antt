@@ -1,6 +1,5 @@
 use Rattle.std.proofs.Common.{◌≡◌, ◌≢◌, ◌∙◌, ◌++◌, ℕ, List, ap, codes, drop, length, sym}
-use Rattle.std.specs.Fmt.{decimal}
-use Rattle.std.proofs.lemmas.{Bool.Decides.Decides-eqb, Slice.Eq.starts_is, Str.Pattern.starts_text}
+use Rattle.std.{specs.Fmt.decimal, proofs.lemmas.Bool.Decides.Decides-eqb, proofs.lemmas.Slice.Eq.starts_is, proofs.lemmas.Str.Pattern.starts_text}
 use Rattle.app_text.specs.{KindNames.IsCapacity, KindNames.IsKindName, KindNames.kind_text, declared.args.KindName.KindName, declared.args.KindName.KindName as kind}
 use Rattle.app_explore.proofs.args.kind_of.Goals as goal
 

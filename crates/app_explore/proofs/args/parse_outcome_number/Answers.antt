@@ -1,7 +1,6 @@
 use Rattle.std.proofs.Common.{arith}
 use Rattle.app_text.proofs.ReadLoad.{other_number}
-use Rattle.app_explore.specs.Requests.{IsOutcomeNumber}
-use Rattle.app_explore.proofs.Words.{outcome_word}
+use Rattle.app_explore.{specs.Requests.IsOutcomeNumber, proofs.Words.outcome_word}
 use Rattle.app_explore.proofs.args.parse_outcome_number.Goals as goal
 
 pub returns-then-number-eq0 : goal.returns-then-number-eq0

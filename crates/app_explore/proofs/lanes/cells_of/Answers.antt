@@ -1,8 +1,7 @@
 use Rattle.std.proofs.Common.{◌≡◌, ap, map, string_bytes}
 use Rattle.std.proofs.lemmas.Result.{IfOk-from_err}
 use Rattle.machine_explore.specs.Traces.{Seen}
-use Rattle.app_explore.specs.Lanes.{cell_text}
-use Rattle.app_explore.proofs.{Drawing.cell_is, Mapped.mapped_more, Mapped.mapped_all}
+use Rattle.app_explore.{specs.Lanes.cell_text, proofs.Drawing.cell_is, proofs.Mapped.mapped_more, proofs.Mapped.mapped_all}
 use Rattle.app_explore.proofs.lanes.cells_of.Goals as goal
 
 pub loop-entry-init : goal.loop-entry-init

@@ -1,6 +1,5 @@
 use Rattle.std.proofs.Common.{◌∙◌, append-nil, string_bytes, sym}
-use Rattle.std.proofs.lemmas.Result.{IfOk-from_err}
-use Rattle.std.specs.Fmt.{decimal}
+use Rattle.std.{proofs.lemmas.Result.IfOk-from_err, specs.Fmt.decimal}
 use Rattle.app_explore.proofs.Drawing.{column_more, head_ends}
 use Rattle.app_explore.proofs.lanes.write_head.Goals as goal
 

@@ -1,8 +1,6 @@
 use Rattle.std.proofs.Common.{◌∙◌, ap, arith, is_ge, nat_cmp, sym}
-use Rattle.std.specs.Cmp.Lexicographic.{slice_cmp}
-use Rattle.std.proofs.lemmas.List.{length-map}
-use Rattle.app_explore.specs.Listed.{bytes_of}
-use Rattle.app_explore.proofs.InOrder.{in_order_more}
+use Rattle.std.{specs.Cmp.Lexicographic.slice_cmp, proofs.lemmas.List.length-map}
+use Rattle.app_explore.{specs.Listed.bytes_of, proofs.InOrder.in_order_more}
 use Rattle.app_explore.proofs.listed.are_in_order.Goals as goal
 
 pub loop-index-preserved : goal.loop-index-preserved

@@ -1,6 +1,4 @@
-use Rattle.std.proofs.Common.{map, subst}
-use Rattle.std.specs.Prelude.{IsPermutation}
-use Rattle.std.proofs.lemmas.List.Sorted.{All-permutation, IsPermutation-map}
+use Rattle.std.{proofs.Common.map, proofs.Common.subst, proofs.lemmas.List.Sorted.All-permutation, proofs.lemmas.List.Sorted.IsPermutation-map, specs.Prelude.IsPermutation}
 use Rattle.app_explore.specs.{Listed.HasText, Listed.bytes_of, Listed.item_of, Outcomes.AreInOrder}
 use Rattle.app_explore.proofs.listed.sorted_by_text.Goals as goal
 

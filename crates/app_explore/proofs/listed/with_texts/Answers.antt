@@ -1,8 +1,7 @@
 use Rattle.std.proofs.Common.{[], ◌∷◌, ◌++◌, map, ap, subst, sym, ◌∙◌, append_assoc}
-use Rattle.std.proofs.lemmas.{List.map-append, List.Elements.All-nil, List.Elements.All-push}
+use Rattle.std.proofs.lemmas.List.{map-append, Elements.All-nil, Elements.All-push}
 use Rattle.std.specs.{List.All, Vec.Iter.into_iter_items}
-use Rattle.app_explore.specs.Listed.{HasText, item_of}
-use Rattle.app_explore.proofs.Ordered.{all_came}
+use Rattle.app_explore.{specs.Listed.HasText, specs.Listed.item_of, proofs.Ordered.all_came}
 use Rattle.app_explore.proofs.listed.with_texts.Goals as goal
 
 pub loop-item-init : goal.loop-item-init

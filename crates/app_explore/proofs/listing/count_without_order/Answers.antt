@@ -1,6 +1,5 @@
 use Rattle.std.proofs.Common.{arith}
-use Rattle.app_explore.specs.Listed.{listed_tail}
-use Rattle.app_explore.proofs.Tallies.{counted_more}
+use Rattle.app_explore.{specs.Listed.listed_tail, proofs.Tallies.counted_more}
 use Rattle.app_explore.proofs.listing.count_without_order.Goals as goal
 
 pub loop-outcome-preserved : goal.loop-outcome-preserved

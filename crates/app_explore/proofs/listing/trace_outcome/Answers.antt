@@ -1,6 +1,5 @@
 use Rattle.std.proofs.Common.{◌∙◌, ◌-◌, Some, ap, map, sym}
-use Rattle.std.proofs.lemmas.Option.{slice_get-get_or, slice_get-map}
-use Rattle.std.specs.Prelude.{option_map, slice_get}
+use Rattle.std.{proofs.lemmas.Option.slice_get-get_or, proofs.lemmas.Option.slice_get-map, specs.Prelude.option_map, specs.Prelude.slice_get}
 use Rattle.app_explore.specs.Listed.{listed_outcome, listed_schedule}
 use Rattle.app_explore.proofs.listing.trace_outcome.Goals as goal
 

@@ -1,6 +1,5 @@
 use Rattle.std.proofs.Common.{◌∙◌, ◌+◌, ◌++◌, ap, string_bytes}
-use Rattle.app_explore.specs.{Listed.bytes_of, Listed.listed_tail, Outcomes.outcome_line, Tails.tail_line}
-use Rattle.app_explore.proofs.OutcomeLines.{line_more}
+use Rattle.app_explore.{specs.Listed.bytes_of, specs.Listed.listed_tail, specs.Outcomes.outcome_line, specs.Tails.tail_line, proofs.OutcomeLines.line_more}
 use Rattle.app_explore.proofs.listing.write_lines.Goals as goal
 
 pub loop-index-preserved : goal.loop-index-preserved

@@ -1,7 +1,5 @@
-use Rattle.std.proofs.Common.{string_bytes}
-use Rattle.std.specs.Fmt.{decimal}
-use Rattle.app_explore.specs.Tails.{figure_tail, tail_line}
-use Rattle.app_explore.proofs.OutcomeLines.{line_ends}
+use Rattle.std.{proofs.Common.string_bytes, specs.Fmt.decimal}
+use Rattle.app_explore.{specs.Tails.figure_tail, specs.Tails.tail_line, proofs.OutcomeLines.line_ends}
 use Rattle.app_explore.proofs.outcomes.write_outcome_line.Goals as goal
 
 pub returns : goal.returns

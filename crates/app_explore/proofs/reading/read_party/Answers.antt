@@ -1,6 +1,5 @@
 use Rattle.std.proofs.Common.{rules, ◌≡◌, ◌≢◌, ◌+◌, ◌<◌, ◌∷◌, List, ℕ, arith}
-use Rattle.app_explore.specs.declared.limits.TheConstants.{MOST_PARTIES}
-use Rattle.app_explore.proofs.Programs.{party_found, party_missing}
+use Rattle.app_explore.{specs.declared.limits.TheConstants.MOST_PARTIES, proofs.Programs.party_found, proofs.Programs.party_missing}
 use Rattle.app_explore.proofs.reading.read_party.Goals as goal
 
 pub returns-in-Some : goal.returns-in-Some

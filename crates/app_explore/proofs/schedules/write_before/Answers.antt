@@ -1,6 +1,5 @@
 use Rattle.std.proofs.Common.{◌≡◌, ◌∙◌, ◌<◌, ◌+◌, ◌++◌, ◌∷◌, [], ℕ, List, ap, append_assoc, length, string_bytes, sym, take}
-use Rattle.std.proofs.lemmas.List.{flat_map_more, take_more}
-use Rattle.std.specs.Prelude.{slice_index_or}
+use Rattle.std.{proofs.lemmas.List.flat_map_more, proofs.lemmas.List.take_more, specs.Prelude.slice_index_or}
 use Rattle.queue_steps.specs.declared.model.Call.{Call, Call as call}
 use Rattle.app_text.specs.{Actions.replay_line_text, declared.actions.Action.Action as action, declared.actions.ReplayLine.ReplayLine}
 use Rattle.app_explore.specs.Schedules.{before_lines, lines_text}

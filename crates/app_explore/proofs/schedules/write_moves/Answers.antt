@@ -1,6 +1,5 @@
 use Rattle.std.proofs.Common.{◌∙◌, ◌++◌, append-nil, ap, refl, string_bytes, sym}
-use Rattle.app_explore.specs.Schedules.{lines_text, move_lines}
-use Rattle.app_explore.proofs.Moving.{fewer_left, line_more}
+use Rattle.app_explore.{specs.Schedules.lines_text, specs.Schedules.move_lines, proofs.Moving.fewer_left, proofs.Moving.line_more}
 use Rattle.app_explore.proofs.schedules.write_moves.Goals as goal
 
 pub loop-line-init : goal.loop-line-init

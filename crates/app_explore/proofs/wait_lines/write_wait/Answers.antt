@@ -1,7 +1,5 @@
-use Rattle.std.proofs.Common.{string_bytes}
-use Rattle.std.specs.Fmt.{decimal}
-use Rattle.app_explore.specs.WaitLines.{sides_text}
-use Rattle.app_explore.proofs.Waiting.{line_ends}
+use Rattle.std.{proofs.Common.string_bytes, specs.Fmt.decimal}
+use Rattle.app_explore.{specs.WaitLines.sides_text, proofs.Waiting.line_ends}
 use Rattle.app_explore.proofs.wait_lines.write_wait.Goals as goal
 
 pub returns : goal.returns

@@ -1,6 +1,5 @@
 use Rattle.std.proofs.Common.{string_bytes}
-use Rattle.app_explore.specs.Listed.{listed_wait}
-use Rattle.app_explore.proofs.Waiting.{wait_more}
+use Rattle.app_explore.{specs.Listed.listed_wait, proofs.Waiting.wait_more}
 use Rattle.app_explore.proofs.wait_lines.write_waits.Goals as goal
 
 pub loop-index-preserved : goal.loop-index-preserved

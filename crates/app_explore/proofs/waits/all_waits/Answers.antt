@@ -1,8 +1,6 @@
-use Rattle.std.proofs.Common.{map}
-use Rattle.std.proofs.lemmas.Result.{IfOk-weaker}
+use Rattle.std.proofs.{Common.map, lemmas.Result.IfOk-weaker}
 use Rattle.machine_explore.specs.Waiting.{wait_of}
-use Rattle.app_explore.specs.{Listed.AreListed, Listed.listed_wait, WaitLines.wait_text, Waits.AreWaits}
-use Rattle.app_explore.proofs.Ordered.{are_waits}
+use Rattle.app_explore.{specs.Listed.AreListed, specs.Listed.listed_wait, specs.WaitLines.wait_text, specs.Waits.AreWaits, proofs.Ordered.are_waits}
 use Rattle.app_explore.proofs.waits.all_waits.Goals as goal
 
 pub returns : goal.returns

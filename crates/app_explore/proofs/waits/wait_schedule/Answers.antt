@@ -1,6 +1,5 @@
 use Rattle.std.proofs.Common.{◌≡◌, ◌∙◌, ◌-◌, ◌++◌, List, Some, ap, map, subst, sym}
-use Rattle.std.proofs.lemmas.Option.{slice_get-get_or, slice_get-map}
-use Rattle.std.specs.Prelude.{option_map, slice_get}
+use Rattle.std.{proofs.lemmas.Option.slice_get-get_or, proofs.lemmas.Option.slice_get-map, specs.Prelude.option_map, specs.Prelude.slice_get}
 use Rattle.machine_explore.specs.Traces.{Seen}
 use Rattle.app_explore.specs.{Listed.listed_wait, Schedules.MakeAll, Schedules.move_lines, Schedules.schedule_text}
 use Rattle.app_explore.proofs.waits.wait_schedule.Goals as goal

@@ -1,6 +1,5 @@
 use Rattle.std.proofs.Common.{arith}
-use Rattle.app_text.proofs.{ReadArgs.capacity_word, ReadLoad.other_number}
-use Rattle.app_text.specs.KindNames.{IsCapacity}
+use Rattle.app_text.{proofs.ReadArgs.capacity_word, proofs.ReadLoad.other_number, specs.KindNames.IsCapacity}
 use Rattle.app_text.proofs.args.parse_capacity.Goals as goal
 
 pub returns-then-cap-eq0 : goal.returns-then-cap-eq0

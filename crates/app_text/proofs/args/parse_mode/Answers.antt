@@ -1,6 +1,5 @@
 use Rattle.std.proofs.Common.{◌≡◌, ℕ, List, [], ◌∷◌, map, string_bytes, subst, arith}
-use Rattle.app_text.specs.{Reading.IsReading, KindNames.mode_words, KindNames.IsMode}
-use Rattle.app_text.proofs.ReadArgs.{five}
+use Rattle.app_text.{specs.Reading.IsReading, specs.KindNames.mode_words, specs.KindNames.IsMode, proofs.ReadArgs.five}
 use Rattle.app_text.proofs.args.parse_mode.Goals as goal
 
 pub returns-in-len5 : goal.returns-in-len5

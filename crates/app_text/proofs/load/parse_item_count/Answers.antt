@@ -1,6 +1,5 @@
 use Rattle.std.proofs.Common.{arith}
-use Rattle.app_text.specs.KindNames.{IsItemCount}
-use Rattle.app_text.proofs.ReadLoad.{other_number, item_word}
+use Rattle.app_text.{specs.KindNames.IsItemCount, proofs.ReadLoad.other_number, proofs.ReadLoad.item_word}
 use Rattle.app_text.proofs.load.parse_item_count.Goals as goal
 
 pub returns-then-count-gt-MOST_ITEMS : goal.returns-then-count-gt-MOST_ITEMS

@@ -1,6 +1,5 @@
 use Rattle.std.proofs.Common.{subst, sym}
-use Rattle.app_threads.specs.Works.{TookNothing}
-use Rattle.app_threads.proofs.EndWorks.{idle_work}
+use Rattle.app_threads.{specs.Works.TookNothing, proofs.EndWorks.idle_work}
 use Rattle.app_threads.proofs.ends.end_at_once.Goals as goal
 
 pub returns-in-Send : goal.returns-in-Send

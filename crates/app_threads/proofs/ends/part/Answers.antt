@@ -1,7 +1,6 @@
 use Rattle.std.proofs.Common.{ℕ, ◌+◌, refl, ap}
 use Rattle.law_parties.specs.Doings.{takes}
-use Rattle.app_threads.specs.declared.ends.Role.{Role as role}
-use Rattle.app_threads.proofs.EndWorks.{parts_sender, parts_receiver, given_back}
+use Rattle.app_threads.{specs.declared.ends.Role.Role as role, proofs.EndWorks.parts_sender, proofs.EndWorks.parts_receiver, proofs.EndWorks.given_back}
 use Rattle.app_threads.proofs.ends.part.Goals as goal
 
 pub returns-in-Ok-clause-parts : goal.returns-in-Ok-clause-parts

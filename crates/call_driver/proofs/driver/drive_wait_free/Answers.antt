@@ -23,7 +23,8 @@ loop-preserved g c =
     let m = g.M.Site in
     let h = step m (SOLO_STEPS - 1) c.kind-kind.result c.split-call.result.0 c.args.site.now c.args.seat.now c.args.call c.loop.local c.loop.answer c.in-Step.after c.in-Step.touch c.in-Step.op c.loop.seat c.loop.carried c.next-todo.ensures c.in-Step.is c.loop.invariant.0 in
     let stood = h.1 c.take_step-answer.result c.take_step-answer.new.seat c.take_step-answer.new.carried c.take_step-answer.ensures in
-    let on = again m g.met.M.Site.goes_on g.met.M.Site.more (SOLO_STEPS - 1) c.kind-kind.result c.split-call.result.0 c.args.site.now c.args.seat.now c.args.call (record { local = c.in-Step.after; answer = c.take_step-answer.result }) c.take_step-answer.new.carried c.take_step-answer.new.seat stood in
+    let on = again m g.met.M.Site.goes_on g.met.M.Site.more (SOLO_STEPS - 1) c.kind-kind.result c.split-call.result.0 c.args.site.now c.args.seat.now c.args.call
+    (record { local = c.in-Step.after; answer = c.take_step-answer.result }) c.take_step-answer.new.carried c.take_step-answer.new.seat stood in
     (on, ends-step c.loop.counter c.kind-kind.result c.loop.local c.loop.answer c.in-Step.after c.in-Step.touch c.in-Step.op c.take_step-answer.result c.loop-test.true c.next-todo.ensures c.in-Step.is c.loop.invariant.1 on.1.0)
 
 pub end-requires : goal.end-requires
@@ -31,11 +32,13 @@ end-requires g c = record { may = (replies g.M.Site (SOLO_STEPS - 1) c.kind-kind
 
 pub fill-requires : goal.fill-requires
 fill-requires g c =
-    let h = (replies g.M.Site (SOLO_STEPS - 1) c.kind-kind.result c.split-call.result.0 c.args.site.now c.args.seat.now c.args.call c.loop.local c.loop.answer c.in-Reply.reply c.in-Reply.spare c.loop.seat c.loop.carried c.next-todo.ensures c.in-Reply.is c.loop.invariant.0).1 c.end.new.seat c.end.ensures in
+    let h = (replies g.M.Site (SOLO_STEPS - 1) c.kind-kind.result c.split-call.result.0 c.args.site.now c.args.seat.now c.args.call c.loop.local c.loop.answer
+    c.in-Reply.reply c.in-Reply.spare c.loop.seat c.loop.carried c.next-todo.ensures c.in-Reply.is c.loop.invariant.0).1 c.end.new.seat c.end.ensures in
     record { fits = rw h.1 refl }
 
 pub returns-in-Reply : goal.returns-in-Reply
 returns-in-Reply g c =
-    let h = (replies g.M.Site (SOLO_STEPS - 1) c.kind-kind.result c.split-call.result.0 c.args.site.now c.args.seat.now c.args.call c.loop.local c.loop.answer c.in-Reply.reply c.in-Reply.spare c.loop.seat c.loop.carried c.next-todo.ensures c.in-Reply.is c.loop.invariant.0).1 c.end.new.seat c.end.ensures in
+    let h = (replies g.M.Site (SOLO_STEPS - 1) c.kind-kind.result c.split-call.result.0 c.args.site.now c.args.seat.now c.args.call c.loop.local c.loop.answer
+    c.in-Reply.reply c.in-Reply.spare c.loop.seat c.loop.carried c.next-todo.ensures c.in-Reply.is c.loop.invariant.0).1 c.end.new.seat c.end.ensures in
     let same : h.0 ≡ c.fill.result = let e = c.fill.ensures in cc in
     rw same at h.2

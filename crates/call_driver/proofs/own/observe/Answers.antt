@@ -1,7 +1,6 @@
 use Rattle.std.proofs.Common.{None, sym, ◌∙◌, subst}
 use Rattle.call_driver.proofs.{Running.EndsIn-step, Running.EndsIn-reply, Running.EndsIn-first, Watching.as_call, Watching.kind-as_call, Watching.look-answer}
-use Rattle.queue_steps.specs.LookNext.{IsLookNext}
-use Rattle.queue_steps.proofs.LookNext.{look_next-first, look_next}
+use Rattle.queue_steps.{specs.LookNext.IsLookNext, proofs.LookNext.look_next-first, proofs.LookNext.look_next}
 use Rattle.call_driver.proofs.own.observe.Goals as goal
 
 pub loop-init : goal.loop-init

@@ -1,7 +1,6 @@
 use Rattle.std.proofs.Common.{◌-◌, None}
 use Rattle.queue_steps.specs.{LookNext.IsLookNext, Next.CanNext, Next.next_of, declared.sizes.TheConstants.SOLO_STEPS}
-use Rattle.call_driver.specs.EndsIn.{EndsIn, Answered}
-use Rattle.call_driver.proofs.Watching.{as_call}
+use Rattle.call_driver.{specs.EndsIn.EndsIn, specs.EndsIn.Answered, proofs.Watching.as_call}
 use Rattle.call_driver.proofs.own.observe.Given as goal
 
 -- the answer fits where the call stands, and what is left to do ends with the call's reply, and changes nothing

@@ -1,6 +1,5 @@
 use Rattle.std.proofs.Common.{rules, ap}
-use Rattle.counted_channel.specs.Counting.{stake_at}
-use Rattle.counted_channel.proofs.Counts.{splits}
+use Rattle.counted_channel.{specs.Counting.stake_at, proofs.Counts.splits}
 use Rattle.counted_channel.proofs.counting.part.Goals as goal
 
 pub split_seat-requires : goal.split_seat-requires

@@ -1,7 +1,6 @@
 use Rattle.std.proofs.Common.{rules, ap, inr, ◌∙◌}
 use Rattle.queue_steps.specs.Shares.{plus}
-use Rattle.counted_channel.specs.Counting.{stake_at}
-use Rattle.counted_channel.proofs.Counts.{joins, two_ends, withdraws}
+use Rattle.counted_channel.{specs.Counting.stake_at, proofs.Counts.joins, proofs.Counts.two_ends, proofs.Counts.withdraws}
 use Rattle.counted_channel.proofs.counting.unite.Goals as goal
 
 pub join_seat-requires : goal.join_seat-requires

@@ -1,5 +1,4 @@
-use Rattle.std.proofs.{Common.map, Common.subst, lemmas.List.take_all, lemmas.List.Elements.All-more}
-use Rattle.std.specs.List.{All}
+use Rattle.std.{proofs.Common.map, proofs.Common.subst, proofs.lemmas.List.take_all, proofs.lemmas.List.Elements.All-more, specs.List.All}
 use Rattle.machine_explore.specs.{Positions.Standing, Reports.outcome_in, Tables.EndsAmong}
 use Rattle.machine_explore.proofs.check.all_end_among.Goals as goal
 

@@ -1,5 +1,4 @@
-use Rattle.std.specs.List.{All}
-use Rattle.std.proofs.Common.{map, take}
+use Rattle.std.{specs.List.All, proofs.Common.map, proofs.Common.take}
 use Rattle.machine_explore.specs.{Reports.outcome_in, Tables.EndsAmong}
 use Rattle.machine_explore.proofs.check.all_end_among.Given as goal
 

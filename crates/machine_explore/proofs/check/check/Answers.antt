@@ -1,7 +1,5 @@
-use Rattle.std.proofs.Common.{map, subst}
-use Rattle.std.specs.List.{All}
-use Rattle.machine_explore.specs.{Explored.HasNoOther, Reports.outcome_in, Tables.EndsAmong}
-use Rattle.machine_explore.proofs.NoOther.{answered, no_other}
+use Rattle.std.{proofs.Common.map, proofs.Common.subst, specs.List.All}
+use Rattle.machine_explore.{specs.Explored.HasNoOther, specs.Reports.outcome_in, specs.Tables.EndsAmong, proofs.NoOther.answered, proofs.NoOther.no_other}
 use Rattle.machine_explore.proofs.check.check.Goals as goal
 
 pub returns : goal.returns

@@ -1,5 +1,4 @@
-use Rattle.machine_explore.specs.Reports.{outcome_in}
-use Rattle.machine_explore.proofs.NoOther.{contains_as}
+use Rattle.machine_explore.{specs.Reports.outcome_in, proofs.NoOther.contains_as}
 use Rattle.machine_explore.proofs.check.is_among.Goals as goal
 
 pub returns-then-is_same : goal.returns-then-is_same

@@ -1,6 +1,5 @@
 use Rattle.std.proofs.Common.{◌≡◌, ◌≤◌, ◌<◌, ◌∙◌, ap, arith, length, subst, slice_index_or}
-use Rattle.std.proofs.lemmas.List.{take_all, Elements.All-more}
-use Rattle.std.specs.{Prelude.Contains, List.All}
+use Rattle.std.{proofs.lemmas.List.take_all, proofs.lemmas.List.Elements.All-more, specs.Prelude.Contains, specs.List.All}
 use Rattle.machine_explore.specs.{Positions.Standing, Tables.IsInside}
 use Rattle.machine_explore.proofs.check.is_closed.Goals as goal
 

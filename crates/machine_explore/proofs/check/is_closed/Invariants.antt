@@ -1,5 +1,4 @@
-use Rattle.std.specs.List.{All}
-use Rattle.std.proofs.Common.{take}
+use Rattle.std.{specs.List.All, proofs.Common.take}
 use Rattle.machine_explore.specs.Tables.{IsInside}
 use Rattle.machine_explore.proofs.check.is_closed.Given as goal
 

@@ -1,6 +1,5 @@
 use Rattle.std.proofs.Common.{◌∙◌, None, Some, sym}
-use Rattle.machine_explore.specs.Moves.{event_at, led}
-use Rattle.machine_explore.proofs.Staying.{stays_if}
+use Rattle.machine_explore.{specs.Moves.event_at, specs.Moves.led, proofs.Staying.stays_if}
 use Rattle.machine_explore.proofs.check.leads_to.Goals as goal
 
 pub returns-in-None : goal.returns-in-None

@@ -1,7 +1,5 @@
-use Rattle.std.proofs.Common.{map, subst}
-use Rattle.std.specs.List.{All}
-use Rattle.machine_explore.specs.{Waiting.HasNoOtherWait, Waiting.wait_key, Waiting.wait_of, WaitTables.HasWaitsAt}
-use Rattle.machine_explore.proofs.{NoOther.answered, Waited.no_other_wait}
+use Rattle.std.{proofs.Common.map, proofs.Common.subst, specs.List.All}
+use Rattle.machine_explore.{specs.Waiting.HasNoOtherWait, specs.Waiting.wait_key, specs.Waiting.wait_of, specs.WaitTables.HasWaitsAt, proofs.NoOther.answered, proofs.Waited.no_other_wait}
 use Rattle.machine_explore.proofs.check_waits.check_waits.Goals as goal
 
 pub returns : goal.returns

@@ -1,5 +1,4 @@
-use Rattle.std.proofs.{Common.map, Common.subst, lemmas.List.take_all, lemmas.List.Elements.All-more}
-use Rattle.std.specs.List.{All}
+use Rattle.std.{proofs.Common.map, proofs.Common.subst, proofs.lemmas.List.take_all, proofs.lemmas.List.Elements.All-more, specs.List.All}
 use Rattle.machine_explore.specs.{Positions.Standing, Waiting.wait_key, Waiting.wait_of, WaitTables.HasWaitsAt}
 use Rattle.machine_explore.proofs.check_waits.have_waits.Goals as goal
 

@@ -1,5 +1,4 @@
-use Rattle.std.specs.List.{All}
-use Rattle.std.proofs.Common.{map, take}
+use Rattle.std.{specs.List.All, proofs.Common.map, proofs.Common.take}
 use Rattle.machine_explore.specs.{Waiting.wait_key, Waiting.wait_of, WaitTables.HasWaitsAt}
 use Rattle.machine_explore.proofs.check_waits.have_waits.Given as goal
 

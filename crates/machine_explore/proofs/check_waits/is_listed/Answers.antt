@@ -1,5 +1,4 @@
-use Rattle.machine_explore.specs.Waiting.{side_key, wait_key, wait_of}
-use Rattle.machine_explore.proofs.Waited.{contains_made}
+use Rattle.machine_explore.{specs.Waiting.side_key, specs.Waiting.wait_key, specs.Waiting.wait_of, proofs.Waited.contains_made}
 use Rattle.machine_explore.proofs.check_waits.is_listed.Goals as goal
 
 pub returns-then-is_between : goal.returns-then-is_between

@@ -1,6 +1,4 @@
-use Rattle.std.proofs.Common.{subst, sym}
-use Rattle.std.specs.List.{All}
-use Rattle.std.proofs.lemmas.List.Elements.{All-push}
+use Rattle.std.{proofs.Common.subst, proofs.Common.sym, proofs.lemmas.List.Elements.All-push, specs.List.All}
 use Rattle.machine_explore.specs.Reports.{IsShownOutcome}
 use Rattle.machine_explore.proofs.explore.show_outcomes.Goals as goal
 

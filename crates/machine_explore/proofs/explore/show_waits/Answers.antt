@@ -1,6 +1,5 @@
 use Rattle.std.proofs.Common.{◌≡◌, ◌∙◌, ◌++◌, ◌∷◌, [], List, ap, map, subst, sym}
-use Rattle.std.specs.List.{All}
-use Rattle.std.proofs.lemmas.List.{map-append, Elements.All-push}
+use Rattle.std.{specs.List.All, proofs.lemmas.List.map-append, proofs.lemmas.List.Elements.All-push}
 use Rattle.machine_explore.specs.{Reports.IsShownWait, Waiting.Waiting, Waiting.wait_of}
 use Rattle.machine_explore.proofs.explore.show_waits.Goals as goal
 

@@ -1,5 +1,4 @@
-use Rattle.std.proofs.Common.{map}
-use Rattle.std.specs.List.{All}
+use Rattle.std.{proofs.Common.map, specs.List.All}
 use Rattle.machine_explore.specs.{Reports.IsShownWait, Waiting.wait_of}
 use Rattle.machine_explore.proofs.explore.show_waits.Given as goal
 

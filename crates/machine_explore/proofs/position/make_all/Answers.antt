@@ -1,10 +1,8 @@
 use Rattle.std.proofs.Common.{◌∙◌, ◌<◌, ◌≤◌, ◌∷◌, [], arith, length, subst, sym, take}
-use Rattle.std.proofs.lemmas.List.{take_all, take_more}
-use Rattle.std.specs.Prelude.{slice_index_or}
+use Rattle.std.{proofs.lemmas.List.take_all, proofs.lemmas.List.take_more, specs.Prelude.slice_index_or}
 use Rattle.machine_steps.specs.Machine.{world_of}
-use Rattle.machine_explore.specs.Starts.{IsPrepared}
+use Rattle.machine_explore.{specs.Starts.IsPrepared, proofs.Starting.prepared-more}
 use Rattle.queue_steps.specs.declared.model.Call.{Call as call}
-use Rattle.machine_explore.proofs.Starting.{prepared-more}
 use Rattle.machine_explore.proofs.position.make_all.Goals as goal
 
 pub loop-call-preserved : goal.loop-call-preserved

@@ -1,6 +1,5 @@
 use Rattle.std.proofs.Common.{◌≡◌, ◌+◌, ◌∙◌, ◌++◌, ◌∷◌, [], ap, arith}
-use Rattle.std.proofs.lemmas.List.{replicate_more}
-use Rattle.std.specs.Prelude.{replicate}
+use Rattle.std.{proofs.lemmas.List.replicate_more, specs.Prelude.replicate}
 use Rattle.machine_explore.specs.Positions.{no_progress}
 use Rattle.machine_explore.proofs.position.none_begun.Goals as goal
 

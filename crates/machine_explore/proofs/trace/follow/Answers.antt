@@ -1,7 +1,6 @@
 use Rattle.std.proofs.Common.{List, ℕ, subst, sym}
 use Rattle.machine_steps.specs.Left.{left_of}
-use Rattle.machine_explore.specs.{Positions.Outcome, Traces.IsTraceOf}
-use Rattle.machine_explore.proofs.Showing.{shows}
+use Rattle.machine_explore.{specs.Positions.Outcome, specs.Traces.IsTraceOf, proofs.Showing.shows}
 use Rattle.machine_explore.proofs.trace.follow.Goals as goal
 
 pub returns : goal.returns

@@ -1,8 +1,6 @@
 use Rattle.std.proofs.Common.{◌∙◌, ◌<◌, ◌≤◌, ◌++◌, ◌∷◌, [], List, ap, arith, false, length, subst, sym, take}
-use Rattle.std.specs.Prelude.{slice_index_or}
-use Rattle.std.proofs.lemmas.List.{take_all, take_more}
-use Rattle.machine_explore.specs.{Traces.IsUnderWay, Traces.IsWayOf, Traces.Seen, declared.schedule.Move.Move}
-use Rattle.machine_explore.proofs.Showing.{under_way-seen}
+use Rattle.std.{specs.Prelude.slice_index_or, proofs.lemmas.List.take_all, proofs.lemmas.List.take_more}
+use Rattle.machine_explore.{specs.Traces.IsUnderWay, specs.Traces.IsWayOf, specs.Traces.Seen, specs.declared.schedule.Move.Move, proofs.Showing.under_way-seen}
 use Rattle.machine_explore.proofs.trace.go.Goals as goal
 
 pub loop-step-init : goal.loop-step-init

@@ -1,7 +1,6 @@
 use Rattle.std.proofs.Common.{◌≡◌, ◌∙◌, ◌<◌, ap, arith, length, sym}
 use Rattle.machine_replay.specs.Progress.{Between}
-use Rattle.machine_explore.specs.Waiting.{is_half_done, stands_seen}
-use Rattle.machine_explore.proofs.Waits.{half_at}
+use Rattle.machine_explore.{specs.Waiting.is_half_done, specs.Waiting.stands_seen, proofs.Waits.half_at}
 use Rattle.machine_explore.proofs.waiting.show_wait.Goals as goal
 
 pub returns : goal.returns

@@ -1,8 +1,8 @@
 -- `is_small` compares a size.
-use Rattle.mem_blocks.proofs.Walks.{◌≡◌, ℕ, ◌^◌, ◌<◌, Bool, true, List, [], ◌∷◌, refl, arith, lit<, w64, ltb, a_type, Val, vint, vbool, inst_fn, SProp, via, guard_i, ftrue, size, capped, capped_small, capped_is, ‵, raw, ◌⊛◌, ◌$◌, ◌∵◌, !, qed, by, keep, split, feq_i, size_word, bin, returns, enter, alloc_all, pass_all, free_all, look_at, sets, tables, RattleType, nothing, param, layout, layouts, alive, walk_of, proved, leaves, Small, tells}
+use Rattle.mem_blocks.proofs.Walks.{◌≡◌, ℕ, ◌^◌, ◌<◌, Bool, true, List, [], ◌∷◌, refl, arith, lit<, w64, ltb, a_type, Val, vint, vbool, inst_fn, SProp, via, guard_i, ftrue, size, capped, capped_small, capped_is, ‵, raw, ◌⊛◌, ◌$◌, ◌∵◌, !, qed, by, keep}
+use Rattle.mem_blocks.proofs.Walks.{split, feq_i, size_word, bin, returns, enter, alloc_all, pass_all, free_all, look_at, sets, tables, RattleType, nothing, param, layout, layouts, alive, walk_of, proved, leaves, Small, tells}
 use Rattle.std.proofs.Common.{ltb-true}
-use Rattle.mem_blocks.specs.contracts.block.is_small.{ended, clauses}
-use Rattle.mem_blocks.specs.contracts.block.is_small.Key.{name as #self}
+use Rattle.mem_blocks.specs.contracts.block.is_small.{ended, clauses, Key.name as #self}
 use Rattle.mem_blocks.proofs.block.is_small.Statement.{statement}
 use Rattle.mem_blocks.proofs.block.is_small.Code as code
 

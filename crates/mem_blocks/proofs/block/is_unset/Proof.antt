@@ -1,8 +1,9 @@
 -- `is_unset` compares the place with null.
-use Rattle.mem_blocks.proofs.Walks.{block_ptr, sym, true≢false, ◌≡◌, Bool, true, false, List, [], ◌∷◌, refl, a_type, ty_ptr, Val, vbool, vnull, ptr_same, inst_fn, SProp, ‵, raw, ◌⊛◌, ◌$◌, ◌∵◌, !, qed, by, move, keep, split, join, feq_i, stop, fld, lit, bin, returns, enter, alloc_all, pass_all, free_all, look_at, get_in, sets, sub, all_of_it, tables, fact, no, RattleType, owns, types_at, plain, Ptr, null_ptr, ptr_val, InBlock, Testable, tests_null, heard, param, layouts, alive, Stays, stay_dropped, walk_of, Goes-dropped, Good-round, proved, leaves, ptr_good, place_val, place_told, tells, spends}
+use Rattle.mem_blocks.proofs.Walks.{block_ptr, sym, true≢false, ◌≡◌, Bool, true, false, List, [], ◌∷◌, refl, a_type, ty_ptr, Val, vbool, vnull, ptr_same, inst_fn, SProp, ‵, raw, ◌⊛◌, ◌$◌, ◌∵◌, !, qed, by, move, keep, split, join}
+use Rattle.mem_blocks.proofs.Walks.{feq_i, stop, fld, lit, bin, returns, enter, alloc_all, pass_all, free_all, look_at, get_in, sets, sub, all_of_it, tables, fact, no, RattleType, owns, types_at, plain, Ptr, null_ptr, ptr_val}
+use Rattle.mem_blocks.proofs.Walks.{InBlock, Testable, tests_null, heard, param, layouts, alive, Stays, stay_dropped, walk_of, Goes-dropped, Good-round, proved, leaves, ptr_good, place_val, place_told, tells, spends}
 use Rattle.mem_blocks.specs.contracts.block.BlockPtr as link
-use Rattle.mem_blocks.specs.contracts.block.is_unset.{ended, clauses}
-use Rattle.mem_blocks.specs.contracts.block.is_unset.Key.{name as #self}
+use Rattle.mem_blocks.specs.contracts.block.is_unset.{ended, clauses, Key.name as #self}
 use Rattle.mem_blocks.proofs.block.is_unset.Statement.{statement}
 use Rattle.mem_blocks.proofs.block.is_unset.Code as code
 

@@ -1,9 +1,14 @@
 -- Every call on a chain of blocks ends with its reply.
 use Rattle.std.specs.Prelude.{◌==◌}
 use Rattle.std.proofs.Common.{◌≡◌, ℕ, ◌-◌, ◌%◌, ◌<◌, Bool, true, false, List, [], ◌∷◌, length, Option, None, refl, arith, ap}
-use Rattle.queue_steps.specs.{declared.sizes.TheConstants.BLOCK_SLOTS, declared.sizes.TheConstants.SOLO_STEPS, declared.model.Call.Call, declared.model.Call.Call as call, declared.model.Reply.Reply as reply, declared.steps.types.Answer.Answer as answer, declared.steps.types.Op.Op, declared.steps.types.Op.Op as op, declared.steps.types.Word.Word as word, declared.steps.types.Touch.Touch as touch, declared.steps.ring.TheConstants.MARK, declared.steps.ring.PushKind.PushKind as push_kind, declared.steps.chain.ChainLocal.ChainLocal as chain, Looks.call_of_look, Looks.reply_of_look, declared.steps.looks.Look.Look, Replies.is_empty, Words.position_of, Words.is_shut, ChainWords.offset_at, ChainWords.over_end, ChainNext.loads, ChainNext.ends}
+use Rattle.queue_steps.specs.declared.{sizes.TheConstants.BLOCK_SLOTS, sizes.TheConstants.SOLO_STEPS, model.Call.Call, model.Call.Call as call, model.Reply.Reply as reply}
+use Rattle.queue_steps.specs.declared.steps.{types.Answer.Answer as answer, types.Op.Op, types.Op.Op as op, types.Word.Word as word, types.Touch.Touch as touch, ring.TheConstants.MARK, ring.PushKind.PushKind as push_kind, chain.ChainLocal.ChainLocal as chain, looks.Look.Look}
+use Rattle.queue_steps.specs.{Looks.call_of_look, Looks.reply_of_look, Replies.is_empty, Words.position_of, Words.is_shut, ChainNext.loads, ChainNext.ends, ChainWords.offset_at, ChainWords.over_end}
 use Rattle.queue_steps.proofs.LookLaws.{reply_filled, reply_table}
-use Rattle.own_cells.specs.{declared.chain.own_chain.Name.Name, OneRing.Laws.Numbers.same_nat, OneRing.Laws.Numbers.equal_nat, OneRing.Laws.Numbers.apart_nat, OneRing.Laws.Numbers.is_even, OneChain.OwnChainCells.OwnChain, OneChain.OwnChainCells.own_chain_touches, OneChain.OwnChainOwned.taken, OneChain.OwnChainOwned.accepted, OneChain.OwnChainOwned.own_chain_queue, OneChain.OwnChainOwned.IsIdle, OneChain.Laws.OwnChainRuns.bare_step, OneChain.Laws.OwnChainRuns.OwnChainEnds, OneChain.Laws.OwnChainLeaves.marked, OneChain.Laws.OwnChainLeaves.idle-marked, OneChain.Laws.OwnChainLeaves.queue-marked, OneChain.Laws.OwnChainLeaves.tail-word, OneChain.Laws.OwnChainLeaves.head-word, OneChain.Laws.OwnChainSequential.EndsAnswered, OneChain.Laws.OwnChainSequential.OwnChainAnswers, OneChain.Laws.OwnChainSequential.sequential, OneChain.Laws.OwnChainSequential.length-items, OneChain.Laws.OwnChainPushes.push-answers, OneChain.Laws.OwnChainPops.pop-answers}
+use Rattle.own_cells.specs.{declared.chain.own_chain.Name.Name, OneChain.OwnChainCells.OwnChain, OneChain.OwnChainCells.own_chain_touches, OneChain.OwnChainOwned.taken, OneChain.OwnChainOwned.accepted, OneChain.OwnChainOwned.own_chain_queue, OneChain.OwnChainOwned.IsIdle}
+use Rattle.own_cells.specs.OneRing.Laws.Numbers.{same_nat, equal_nat, apart_nat, is_even}
+use Rattle.own_cells.specs.OneChain.Laws.{OwnChainRuns.bare_step, OwnChainRuns.OwnChainEnds, OwnChainPushes.push-answers, OwnChainPops.pop-answers, OwnChainSequential.EndsAnswered, OwnChainSequential.OwnChainAnswers, OwnChainSequential.sequential, OwnChainSequential.length-items}
+use Rattle.own_cells.specs.OneChain.Laws.OwnChainLeaves.{marked, idle-marked, queue-marked, tail-word, head-word}
 
 close-answers : {T : Type 0} (r : OwnChain T) → IsIdle r → OwnChainAnswers r call.Close
 close-answers {T} r i = (

@@ -3,7 +3,9 @@ use Rattle.std.specs.Prelude.{slice_set, get_or}
 use Rattle.std.proofs.Common.{◌≡◌, ◌≢◌, ℕ, suc, ◌+◌, ◌-◌, ◌*◌, ◌/◌, ◌%◌, ◌<◌, ◌≤◌, ◌⊎◌, List, [], ◌∷◌, ◌++◌, length, Option, Some, None, refl, arith, sym, ap, ◌∙◌, inl, inr}
 use Rattle.std.proofs.lemmas.List.{get_or-set_same, get_or-set_other, length-set, length-append, get_or_append_left, get_or-append_right, get_or-replicate}
 use Rattle.queue_steps.specs.{declared.sizes.TheConstants.BLOCK_SLOTS, Effect.rest}
-use Rattle.own_cells.specs.{declared.chain.own_chain.Name.Name, OneRing.Laws.Numbers.same_or_not, OneRing.Laws.Numbers.below_or_not, OneChain.OwnChainCells.Piece, OneChain.OwnChainCells.piece_at, OneChain.OwnChainCells.state_in, OneChain.OwnChainCells.item_in, OneChain.OwnChainCells.fresh_piece, OneChain.OwnChainCells.IsEmptied, OneChain.OwnChainOwned.cell_of, OneChain.OwnChainOwned.HoldsItems, OneChain.OwnChainOwned.Linked, OneChain.Laws.OwnChainKeeps.cell_in, OneChain.Laws.OwnChainKeeps.replaced-keeps}
+use Rattle.own_cells.specs.{declared.chain.own_chain.Name.Name, OneRing.Laws.Numbers.same_or_not, OneRing.Laws.Numbers.below_or_not}
+use Rattle.own_cells.specs.OneChain.OwnChainCells.{Piece, piece_at, state_in, item_in, fresh_piece, IsEmptied}
+use Rattle.own_cells.specs.OneChain.{OwnChainOwned.cell_of, OwnChainOwned.HoldsItems, OwnChainOwned.Linked, Laws.OwnChainKeeps.cell_in, Laws.OwnChainKeeps.replaced-keeps}
 
 -- a block is laid behind the last one
 abbrev pub laid_behind : {T : Type 0} → List (Piece T) → Name T → List (Piece T)
@@ -110,7 +112,10 @@ module _ {T : Type 0} (ps : List (Piece T)) (first k : ℕ) (b : Name T) (last :
       record {
         read = λ n from before. lay-same base n (omega arith) ∙ holds.read n from before;
         written = λ n from before. let old = holds.written n from before in (old.0, lay-same base n (omega arith) ∙ old.1);
-        free = λ n from before. let long = length-chained in elim (below_or_not n ((base + length ps) * BLOCK_SLOTS)) [ inl old ↦ lay-same base n old ∙ holds.free n from old | inr new ↦ keeps-new (λ p. cell_in p (n % BLOCK_SLOTS)) (λ p. refl) (n / BLOCK_SLOTS - base) (omega arith) ∙ fresh-cell b (n % BLOCK_SLOTS) (omega arith) ];
+        free = λ n from before. let long = length-chained in elim (below_or_not n ((base + length ps) * BLOCK_SLOTS)) [
+          | inl old ↦ lay-same base n old ∙ holds.free n from old
+          | inr new ↦ keeps-new (λ p. cell_in p (n % BLOCK_SLOTS)) (λ p. refl) (n / BLOCK_SLOTS - base) (omega arith) ∙ fresh-cell b (n % BLOCK_SLOTS) (omega arith)
+        ];
       }
 
 -- the oldest block leaves the list

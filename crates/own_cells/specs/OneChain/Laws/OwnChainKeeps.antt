@@ -3,7 +3,8 @@ use Rattle.std.specs.Prelude.{slice_set, bit_or}
 use Rattle.std.proofs.Common.{◌≡◌, ◌≢◌, ℕ, zero, suc, ◌+◌, ◌-◌, ◌*◌, ◌/◌, ◌%◌, ◌<◌, ◌≤◌, ◌⊎◌, List, [], ◌++◌, length, Option, Some, None, refl, arith, sym, ap, ◌∙◌, inl, inr}
 use Rattle.std.proofs.lemmas.List.{get_or-set_same, get_or-set_other, length-set}
 use Rattle.queue_steps.specs.declared.{sizes.TheConstants.BLOCK_SLOTS, steps.chain.TheConstants.WRITE, steps.chain.TheConstants.READ}
-use Rattle.own_cells.specs.{OneRing.Laws.Numbers.same_or_not, OneRing.RingOwned.put_in, OneChain.OwnChainCells.Piece, OneChain.OwnChainCells.piece_at, OneChain.OwnChainCells.state_in, OneChain.OwnChainCells.item_in, OneChain.OwnChainOwned.cell_of, OneChain.OwnChainOwned.items_from, OneChain.OwnChainOwned.HoldsItems, OneChain.OwnChainOwned.Linked, OneChain.Laws.OwnChainRuns.set_cell}
+use Rattle.own_cells.specs.OneRing.{Laws.Numbers.same_or_not, RingOwned.put_in}
+use Rattle.own_cells.specs.OneChain.{OwnChainCells.Piece, OwnChainCells.piece_at, OwnChainCells.state_in, OwnChainCells.item_in, OwnChainOwned.cell_of, OwnChainOwned.items_from, OwnChainOwned.HoldsItems, OwnChainOwned.Linked, Laws.OwnChainRuns.set_cell}
 
 -- the state and the content of a slot of a block
 abbrev pub cell_in : {T : Type 0} → Piece T → ℕ → ℕ × Option T
@@ -53,11 +54,13 @@ abbrev pub set_item : {T : Type 0} → List (Piece T) → ℕ → ℕ → ℕ �
 set_item ps base n state item = set_cell ps (n / BLOCK_SLOTS - base) (n % BLOCK_SLOTS) state item
 
 pub length-set_item : {T : Type 0} (ps : List (Piece T)) (base n state : ℕ) (item : Option T) → length (set_item ps base n state item) ≡ length ps
-length-set_item ps base n state item = length-set ps (n / BLOCK_SLOTS - base) (record (piece_at ps (n / BLOCK_SLOTS - base)) { states = slice_set (piece_at ps (n / BLOCK_SLOTS - base)).states (n % BLOCK_SLOTS) state; slots = slice_set (piece_at ps (n / BLOCK_SLOTS - base)).slots (n % BLOCK_SLOTS) item })
+length-set_item ps base n state item = length-set ps (n / BLOCK_SLOTS - base) (record (piece_at ps (n / BLOCK_SLOTS - base))
+    { states = slice_set (piece_at ps (n / BLOCK_SLOTS - base)).states (n % BLOCK_SLOTS) state; slots = slice_set (piece_at ps (n / BLOCK_SLOTS - base)).slots (n % BLOCK_SLOTS) item })
 
 -- and its block keeps its name
 pub name-set_item : {T : Type 0} (ps : List (Piece T)) (base n state : ℕ) (item : Option T) (j : ℕ) → n / BLOCK_SLOTS - base < length ps → (piece_at (set_item ps base n state item) j).name ≡ (piece_at ps j).name
-name-set_item ps base n state item j below = replaced-keeps (λ p. p.name) ps (n / BLOCK_SLOTS - base) (record (piece_at ps (n / BLOCK_SLOTS - base)) { states = slice_set (piece_at ps (n / BLOCK_SLOTS - base)).states (n % BLOCK_SLOTS) state; slots = slice_set (piece_at ps (n / BLOCK_SLOTS - base)).slots (n % BLOCK_SLOTS) item }) j below refl
+name-set_item ps base n state item j below = replaced-keeps (λ p. p.name) ps (n / BLOCK_SLOTS - base) (record (piece_at ps (n / BLOCK_SLOTS - base))
+    { states = slice_set (piece_at ps (n / BLOCK_SLOTS - base)).states (n % BLOCK_SLOTS) state; slots = slice_set (piece_at ps (n / BLOCK_SLOTS - base)).slots (n % BLOCK_SLOTS) item }) j below refl
 
 -- the cell of an item in a block that is there, and the cells of other items
 module _ {T : Type 0} (ps : List (Piece T)) (base first n state : ℕ) (item : Option T) (linked : Linked first ps) (low : base * BLOCK_SLOTS ≤ n) (high : n < (base + length ps) * BLOCK_SLOTS) where

@@ -1,7 +1,8 @@
 -- What the calls leave of the queue of a chain of blocks.
 use Rattle.std.specs.Prelude.{bit_or}
 use Rattle.std.proofs.Common.{◌≡◌, ◌≢◌, ℕ, suc, ◌+◌, ◌-◌, ◌*◌, ◌/◌, ◌%◌, ◌<◌, ◌≤◌, true, List, [], ◌∷◌, ◌++◌, length, Option, Some, None, refl, arith, sym, ap, ◌∙◌, subst, inr}
-use Rattle.queue_steps.specs.{declared.sizes.TheConstants.LIMIT, declared.sizes.TheConstants.BLOCK_SLOTS, declared.steps.ring.TheConstants.MARK, declared.steps.ring.TheConstants.TAIL_STEP, declared.steps.chain.TheConstants.WRITE, declared.steps.chain.TheConstants.READ, State.State, Effect.rest, Words.IsWord, Words.position_of, Words.is_shut, ChainWords.offset_of, ChainWords.items_before}
+use Rattle.queue_steps.specs.declared.{sizes.TheConstants.LIMIT, sizes.TheConstants.BLOCK_SLOTS, steps.ring.TheConstants.MARK, steps.ring.TheConstants.TAIL_STEP, steps.chain.TheConstants.WRITE, steps.chain.TheConstants.READ}
+use Rattle.queue_steps.specs.{State.State, Effect.rest, ChainWords.offset_of, ChainWords.items_before, Words.IsWord, Words.position_of, Words.is_shut}
 use Rattle.own_cells.specs.{declared.chain.own_chain.Name.Name, OneRing.Laws.Numbers.odd_up, OneRing.Laws.Numbers.half_mark, OneRing.Laws.Numbers.odd_mark, OneChain.OwnChainCells.Piece, OneChain.OwnChainCells.OwnChain, OneChain.OwnChainCells.piece_at, OneChain.OwnChainCells.fresh_piece}
 use Rattle.own_cells.specs.OneChain.OwnChainOwned.{taken, accepted, cell_of, items_from, own_chain_queue, HoldsItems, Linked, IsBare, IsLaid, IsIdle}
 use Rattle.own_cells.specs.OneChain.Laws.OwnChainKeeps.{set_item, length-set_item, name-set_item, item-same, item-other, items_from-same, items_from-more, Linked-set, HoldsItems-push, HoldsItems-pop}

@@ -2,9 +2,12 @@
 use Rattle.std.specs.Prelude.{◌==◌, slice_set, bit_or, nat_lt, is_some, if◌then◌else◌}
 use Rattle.std.proofs.Common.{◌≡◌, ◌≢◌, ℕ, zero, suc, ◌+◌, ◌-◌, ◌*◌, ◌%◌, ◌<◌, Bool, true, false, Option, Some, None, Ok, Err, refl, arith, ap, ◌∙◌}
 use Rattle.std.proofs.lemmas.List.{get_or-set_same}
-use Rattle.queue_steps.specs.{declared.sizes.TheConstants.BLOCK_SLOTS, declared.sizes.TheConstants.SOLO_STEPS, declared.model.Reply.Reply as reply, declared.errors.PopError.PopError as pop, declared.steps.types.Answer.Answer as answer, declared.steps.types.Link.Link as link, declared.steps.types.Next.Next, declared.steps.types.Op.Op as op, declared.steps.types.Word.Word as word, declared.steps.types.Touch.Touch as touch, declared.steps.ring.TheConstants.TAIL_STEP, declared.steps.chain.TheConstants.WRITE, declared.steps.chain.TheConstants.READ, declared.steps.chain.ChainLocal.ChainLocal as chain, Words.IsWord, Words.position_of, Words.is_shut, ChainWords.block_at, ChainWords.offset_of}
+use Rattle.queue_steps.specs.declared.{sizes.TheConstants.BLOCK_SLOTS, sizes.TheConstants.SOLO_STEPS, steps.types.Answer.Answer as answer, steps.types.Link.Link as link, steps.types.Next.Next, steps.types.Op.Op as op, steps.types.Word.Word as word, steps.types.Touch.Touch as touch}
+use Rattle.queue_steps.specs.declared.{model.Reply.Reply as reply, errors.PopError.PopError as pop, steps.ring.TheConstants.TAIL_STEP, steps.chain.TheConstants.WRITE, steps.chain.TheConstants.READ, steps.chain.ChainLocal.ChainLocal as chain}
+use Rattle.queue_steps.specs.{Words.IsWord, Words.position_of, Words.is_shut, ChainWords.block_at, ChainWords.offset_of}
 use Rattle.queue_steps.specs.ChainNext.{at, loads, ends, is_last_slot, takes, follows, awaits, walks, walks_on}
-use Rattle.own_cells.specs.{declared.chain.own_chain.Name.Name, OneRing.Laws.Numbers.same_nat, OneRing.Laws.Numbers.equal_nat, OneRing.Laws.Numbers.apart_nat, OneRing.Laws.Numbers.less, OneChain.Laws.OwnChainRuns.Ending, OneChain.Laws.OwnChainRuns.OwnChainEnds, OneChain.Laws.OwnChainRuns.place_below, OneChain.Laws.OwnChainRuns.Named-with, OneChain.Laws.OwnChainRuns.own_chain_step, OneChain.Laws.OwnChainRuns.bare_step, OneChain.Laws.OwnChainRuns.slot_step, OneChain.Laws.OwnChainRuns.set_cell}
+use Rattle.own_cells.specs.{declared.chain.own_chain.Name.Name, OneRing.Laws.Numbers.same_nat, OneRing.Laws.Numbers.equal_nat, OneRing.Laws.Numbers.apart_nat, OneRing.Laws.Numbers.less}
+use Rattle.own_cells.specs.OneChain.Laws.OwnChainRuns.{Ending, OwnChainEnds, place_below, Named-with, own_chain_step, bare_step, slot_step, set_cell}
 use Rattle.own_cells.specs.OneChain.OwnChainCells.{Piece, OwnChain, state_in, item_in, place_of, piece_of, with_piece, Named, CanFollow}
 
 -- a pop that finds neither an item nor a head whose block is known not to be the last

@@ -2,8 +2,13 @@
 use Rattle.std.specs.Prelude.{◌==◌, slice_set, get_or, bit_or, is_some, IsSome, if◌then◌else◌}
 use Rattle.std.proofs.Common.{◌≡◌, ◌≢◌, ◌⊎◌, ℕ, suc, ◌+◌, ◌-◌, ◌*◌, ◌/◌, ◌%◌, ◌<◌, Bool, true, false, List, length, Option, Some, None, Ok, Err, refl, arith, sym, ap, ◌∙◌, subst, inl, inr}
 use Rattle.std.proofs.lemmas.List.{get_or-set_same, get_or-set_other, length-set}
-use Rattle.queue_steps.specs.{declared.sizes.TheConstants.BLOCK_SLOTS, declared.sizes.TheConstants.SOLO_STEPS, declared.model.Call.Call as call, declared.model.Reply.Reply as reply, declared.errors.PopError.PopError as pop, declared.steps.types.Word.Word as word, declared.steps.ring.TheConstants.TAIL_STEP, declared.steps.chain.TheConstants.WRITE, declared.steps.chain.TheConstants.READ, declared.steps.chain.ChainLocal.ChainLocal as chain, Effect.rest, Words.position_of, Words.is_shut, ChainWords.block_at, ChainWords.offset_of, ChainNext.loads, ChainNext.takes}
-use Rattle.own_cells.specs.{declared.chain.own_chain.Name.Name, OneRing.Laws.Numbers.equal_nat, OneRing.Laws.Numbers.apart_nat, OneRing.Laws.Numbers.is_equal, OneRing.Laws.Numbers.is_apart, OneRing.Laws.Numbers.same_or_not, OneRing.Laws.Numbers.equal_or_above, OneRing.Laws.Numbers.last_or_not, OneChain.OwnChainOwned.taken, OneChain.OwnChainOwned.accepted, OneChain.OwnChainOwned.cell_of, OneChain.OwnChainOwned.own_chain_owned, OneChain.OwnChainOwned.IsBare, OneChain.OwnChainOwned.IsIdle, OneChain.Laws.OwnChainRuns.OwnChainEnds, OneChain.Laws.OwnChainRuns.Named-with, OneChain.Laws.OwnChainRuns.place_below, OneChain.Laws.OwnChainRuns.set_cell, OneChain.Laws.OwnChainKeeps.cell_in, OneChain.Laws.OwnChainChains.rest-set, OneChain.Laws.OwnChainChains.IsEmptied-all, OneChain.Laws.OwnChainPop.run-empty, OneChain.Laws.OwnChainPop.run-known, OneChain.Laws.OwnChainPop.run-tail, OneChain.Laws.OwnChainPop.run-taken, OneChain.Laws.OwnChainPop.run-passed, OneChain.Laws.OwnChainPushes.place-is, OneChain.Laws.OwnChainPushes.named-at, OneChain.Laws.OwnChainPushes.last_name, OneChain.Laws.OwnChainPushes.last-is, OneChain.Laws.OwnChainSequential.EndsAnswered, OneChain.Laws.OwnChainSequential.sequential}
+use Rattle.queue_steps.specs.declared.{sizes.TheConstants.BLOCK_SLOTS, sizes.TheConstants.SOLO_STEPS, model.Call.Call as call, model.Reply.Reply as reply, errors.PopError.PopError as pop}
+use Rattle.queue_steps.specs.declared.steps.{types.Word.Word as word, ring.TheConstants.TAIL_STEP, chain.TheConstants.WRITE, chain.TheConstants.READ, chain.ChainLocal.ChainLocal as chain}
+use Rattle.queue_steps.specs.{Effect.rest, Words.position_of, Words.is_shut, ChainNext.loads, ChainNext.takes, ChainWords.block_at, ChainWords.offset_of}
+use Rattle.own_cells.specs.{declared.chain.own_chain.Name.Name, OneChain.OwnChainOwned.taken, OneChain.OwnChainOwned.accepted, OneChain.OwnChainOwned.cell_of, OneChain.OwnChainOwned.own_chain_owned, OneChain.OwnChainOwned.IsBare, OneChain.OwnChainOwned.IsIdle}
+use Rattle.own_cells.specs.OneRing.Laws.Numbers.{equal_nat, apart_nat, is_equal, is_apart, same_or_not, equal_or_above, last_or_not}
+use Rattle.own_cells.specs.OneChain.Laws.{OwnChainRuns.OwnChainEnds, OwnChainRuns.Named-with, OwnChainRuns.place_below, OwnChainRuns.set_cell, OwnChainKeeps.cell_in, OwnChainChains.rest-set, OwnChainChains.IsEmptied-all, OwnChainSequential.EndsAnswered, OwnChainSequential.sequential}
+use Rattle.own_cells.specs.OneChain.Laws.{OwnChainPop.run-empty, OwnChainPop.run-known, OwnChainPop.run-tail, OwnChainPop.run-taken, OwnChainPop.run-passed, OwnChainPushes.place-is, OwnChainPushes.named-at, OwnChainPushes.last_name, OwnChainPushes.last-is}
 use Rattle.call_driver.specs.EndsIn.{Replied}
 use Rattle.own_cells.specs.OneChain.OwnChainCells.{Piece, OwnChain, piece_at, place_of, piece_of, with_piece, Named, CanFollow, IsEmptied}
 use Rattle.own_cells.specs.OneChain.Laws.OwnChainLeaves.{Laid, head-offset, head-word, Moved, popped, passed, idle-popped, idle-passed, items-front, queue-popped, queue-passed}

@@ -1,9 +1,14 @@
 -- How a push runs on a chain of blocks: its steps one after another, its reply, and what it leaves.
 use Rattle.std.specs.Prelude.{◌==◌}
 use Rattle.std.proofs.Common.{◌≡◌, ℕ, suc, ◌+◌, ◌-◌, ◌^◌, ◌<◌, true, false, length, Some, None, refl, arith}
-use Rattle.queue_steps.specs.{declared.sizes.TheConstants.LIMIT, declared.sizes.TheConstants.BLOCK_SLOTS, declared.sizes.TheConstants.SOLO_STEPS, declared.steps.types.Answer.Answer as answer, declared.steps.types.Link.Link as link, declared.steps.types.Next.Next, declared.steps.types.Op.Op as op, declared.steps.types.Word.Word as word, declared.steps.types.Touch.Touch as touch, declared.steps.ring.TheConstants.MARK, declared.steps.ring.TheConstants.TAIL_STEP, declared.steps.ring.PushKind.PushKind, declared.steps.chain.TheConstants.WRITE, declared.steps.chain.ChainLocal.ChainLocal as chain, Words.IsWord, Words.position_of, Words.is_shut, ChainWords.offset_of, ChainWords.items_before, RingNext.closed_reply, RingNext.pushed_reply}
+use Rattle.queue_steps.specs.declared.{sizes.TheConstants.LIMIT, sizes.TheConstants.BLOCK_SLOTS, sizes.TheConstants.SOLO_STEPS, steps.ring.TheConstants.MARK, steps.ring.TheConstants.TAIL_STEP, steps.ring.PushKind.PushKind, steps.chain.TheConstants.WRITE, steps.chain.ChainLocal.ChainLocal as chain}
+use Rattle.queue_steps.specs.declared.steps.types.{Answer.Answer as answer, Link.Link as link, Next.Next, Op.Op as op, Word.Word as word, Touch.Touch as touch}
+use Rattle.queue_steps.specs.{Words.IsWord, Words.position_of, Words.is_shut, ChainWords.offset_of, ChainWords.items_before, RingNext.closed_reply, RingNext.pushed_reply}
 use Rattle.queue_steps.specs.ChainNext.{at, loads, ends, is_last_slot, gives_up, tail_block_found, claims, asks, writes, lays}
-use Rattle.own_cells.specs.{declared.chain.own_chain.Name.Name, OneRing.Laws.Numbers.same_nat, OneRing.Laws.Numbers.equal_nat, OneRing.Laws.Numbers.apart_nat, OneChain.OwnChainCells.OwnChain, OneChain.OwnChainCells.piece_at, OneChain.OwnChainCells.state_in, OneChain.OwnChainCells.item_in, OneChain.OwnChainCells.place_of, OneChain.OwnChainCells.piece_of, OneChain.OwnChainCells.Named, OneChain.OwnChainCells.laid, OneChain.Laws.OwnChainRuns.Ending, OneChain.Laws.OwnChainRuns.OwnChainEnds, OneChain.Laws.OwnChainRuns.Named-with, OneChain.Laws.OwnChainRuns.bare_step, OneChain.Laws.OwnChainRuns.ask_step, OneChain.Laws.OwnChainRuns.slot_step, OneChain.Laws.OwnChainRuns.set_cell, OneChain.Laws.OwnChainChains.laid_behind, OneChain.Laws.OwnChainChains.chained, OneChain.Laws.OwnChainLeaves.marked, OneChain.Laws.OwnChainLeaves.opened}
+use Rattle.own_cells.specs.{declared.chain.own_chain.Name.Name, OneRing.Laws.Numbers.same_nat, OneRing.Laws.Numbers.equal_nat, OneRing.Laws.Numbers.apart_nat}
+use Rattle.own_cells.specs.OneChain.OwnChainCells.{OwnChain, piece_at, state_in, item_in, place_of, piece_of, Named, laid}
+use Rattle.own_cells.specs.OneChain.Laws.OwnChainRuns.{Ending, OwnChainEnds, Named-with, bare_step, ask_step, slot_step, set_cell}
+use Rattle.own_cells.specs.OneChain.Laws.{OwnChainChains.laid_behind, OwnChainChains.chained, OwnChainLeaves.marked, OwnChainLeaves.opened}
 
 -- a push that finds a closed queue
 pub run-closed : {T : Type 0} (r : OwnChain T) (v : T) (p : PushKind) (P : Ending T) → IsWord r.tail → is_shut r.tail ≡ true

@@ -1,8 +1,15 @@
 -- Every push on a chain of blocks ends with its reply.
 use Rattle.std.specs.Prelude.{◌==◌}
 use Rattle.std.proofs.Common.{◌≡◌, ◌⊎◌, ℕ, suc, ◌+◌, ◌-◌, ◌/◌, ◌%◌, ◌<◌, Bool, true, false, List, [], ◌∷◌, ◌++◌, length, Option, Some, None, refl, arith, sym, ap, ◌∙◌, subst, inl, inr}
-use Rattle.queue_steps.specs.{declared.sizes.TheConstants.LIMIT, declared.sizes.TheConstants.BLOCK_SLOTS, declared.sizes.TheConstants.SOLO_STEPS, declared.steps.types.Word.Word as word, declared.steps.ring.TheConstants.TAIL_STEP, declared.steps.ring.PushKind.PushKind, declared.steps.chain.TheConstants.WRITE, declared.steps.chain.ChainLocal.ChainLocal as chain, State.State, Words.is_shut, ChainWords.offset_of, RingNext.pushed_reply, ChainNext.loads, ChainNext.is_last_slot, ChainNext.claims, ChainNext.asks}
-use Rattle.own_cells.specs.{declared.chain.own_chain.Name.Name, OneRing.Laws.Numbers.equal_nat, OneRing.Laws.Numbers.apart_nat, OneRing.Laws.Numbers.is_below, OneRing.Laws.Numbers.last_or_not, OneChain.OwnChainCells.Piece, OneChain.OwnChainCells.OwnChain, OneChain.OwnChainCells.piece_at, OneChain.OwnChainCells.place_of, OneChain.OwnChainCells.piece_of, OneChain.OwnChainCells.Named, OneChain.OwnChainCells.laid, OneChain.OwnChainOwned.taken, OneChain.OwnChainOwned.accepted, OneChain.OwnChainOwned.cell_of, OneChain.OwnChainOwned.Linked, OneChain.OwnChainOwned.IsBare, OneChain.OwnChainOwned.IsIdle, OneChain.Laws.OwnChainRuns.Ending, OneChain.Laws.OwnChainRuns.OwnChainEnds, OneChain.Laws.OwnChainRuns.ask_step, OneChain.Laws.OwnChainRuns.set_cell, OneChain.Laws.OwnChainKeeps.cell_in, OneChain.Laws.OwnChainChains.laid_behind, OneChain.Laws.OwnChainChains.chained, OneChain.Laws.OwnChainChains.length-laid, OneChain.Laws.OwnChainChains.laid-old, OneChain.Laws.OwnChainChains.laid-new, OneChain.Laws.OwnChainChains.lay-same, OneChain.Laws.OwnChainPush.run-closed, OneChain.Laws.OwnChainPush.run-spent, OneChain.Laws.OwnChainPush.run-block, OneChain.Laws.OwnChainPush.run-here, OneChain.Laws.OwnChainPush.run-behind, OneChain.Laws.OwnChainPush.run-first, OneChain.Laws.OwnChainSequential.EndsAnswered, OneChain.Laws.OwnChainSequential.push_call, OneChain.Laws.OwnChainSequential.right-closed, OneChain.Laws.OwnChainSequential.right-spent, OneChain.Laws.OwnChainSequential.right-pushed, OneChain.Laws.OwnChainSequential.right-refused}
+use Rattle.queue_steps.specs.declared.{sizes.TheConstants.LIMIT, sizes.TheConstants.BLOCK_SLOTS, sizes.TheConstants.SOLO_STEPS, steps.types.Word.Word as word, steps.ring.TheConstants.TAIL_STEP, steps.ring.PushKind.PushKind, steps.chain.TheConstants.WRITE, steps.chain.ChainLocal.ChainLocal as chain}
+use Rattle.queue_steps.specs.{State.State, Words.is_shut, ChainWords.offset_of, RingNext.pushed_reply, ChainNext.loads, ChainNext.is_last_slot, ChainNext.claims, ChainNext.asks}
+use Rattle.own_cells.specs.{declared.chain.own_chain.Name.Name, OneChain.Laws.OwnChainRuns.Ending, OneChain.Laws.OwnChainRuns.OwnChainEnds, OneChain.Laws.OwnChainRuns.ask_step, OneChain.Laws.OwnChainRuns.set_cell, OneChain.Laws.OwnChainKeeps.cell_in}
+use Rattle.own_cells.specs.OneRing.Laws.Numbers.{equal_nat, apart_nat, is_below, last_or_not}
+use Rattle.own_cells.specs.OneChain.OwnChainCells.{Piece, OwnChain, piece_at, place_of, piece_of, Named, laid}
+use Rattle.own_cells.specs.OneChain.OwnChainOwned.{taken, accepted, cell_of, Linked, IsBare, IsIdle}
+use Rattle.own_cells.specs.OneChain.Laws.OwnChainChains.{laid_behind, chained, length-laid, laid-old, laid-new, lay-same}
+use Rattle.own_cells.specs.OneChain.Laws.OwnChainPush.{run-closed, run-spent, run-block, run-here, run-behind, run-first}
+use Rattle.own_cells.specs.OneChain.Laws.OwnChainSequential.{EndsAnswered, push_call, right-closed, right-spent, right-pushed, right-refused}
 use Rattle.own_cells.specs.OneChain.Laws.OwnChainLeaves.{Laid, tail-offset, tail-word, room, pushed, opened, idle-pushed, queue-pushed, ready-here, ready-behind, laid-opened, idle-opened, queue-opened}
 
 -- the block at a place is named by its number

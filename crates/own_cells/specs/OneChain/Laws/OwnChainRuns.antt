@@ -2,7 +2,8 @@
 use Rattle.std.specs.Prelude.{slice_set, bit_or}
 use Rattle.std.proofs.Common.{◌≡◌, ℕ, suc, ◌+◌, ◌<◌, List, length, Option, Some, None, refl, arith, sym, ap, ◌∙◌, subst}
 use Rattle.std.proofs.lemmas.List.{get_or-set_same, set-set, length-set}
-use Rattle.queue_steps.specs.{declared.sizes.TheConstants.BLOCK_SLOTS, declared.model.Reply.Reply, declared.steps.types.Kind.Kind as kind, declared.steps.types.Answer.Answer, declared.steps.types.Answer.Answer as answer, declared.steps.types.Next.Next, declared.steps.types.Op.Op, declared.steps.types.Op.Op as op, declared.steps.types.Word.Word as word, declared.steps.types.Touch.Touch, declared.steps.types.Touch.Touch as touch, declared.steps.chain.ChainLocal.ChainLocal, ChainNext.at, ChainNext.FitsChain, ChainNext.chain_next}
+use Rattle.queue_steps.specs.{declared.sizes.TheConstants.BLOCK_SLOTS, declared.model.Reply.Reply, ChainNext.at, ChainNext.FitsChain, ChainNext.chain_next}
+use Rattle.queue_steps.specs.declared.steps.{types.Kind.Kind as kind, types.Answer.Answer, types.Answer.Answer as answer, types.Next.Next, types.Op.Op, types.Op.Op as op, types.Word.Word as word, types.Touch.Touch, types.Touch.Touch as touch, chain.ChainLocal.ChainLocal}
 use Rattle.own_cells.specs.declared.chain.own_chain.Name.{Name}
 use Rattle.call_driver.specs.EndsIn.{EndsIn}
 use Rattle.own_cells.specs.OneChain.OwnChainCells.{Piece, OwnChain, piece_at, state_in, item_in, place_of, piece_of, with_piece, exchanged, Named, own_chain_can_touch, own_chain_touched, own_chain_touches, own_chain_can_perform, own_chain_performed, own_chain_performs}

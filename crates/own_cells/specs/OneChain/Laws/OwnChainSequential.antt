@@ -1,9 +1,14 @@
 -- What a call on a chain of blocks has to end with, and that it does where it leaves what the table of one owner says.
 use Rattle.std.specs.Prelude.{◌==◌, if◌then◌else◌}
 use Rattle.std.proofs.Common.{◌≡◌, ◌⊎◌, ℕ, ◌+◌, ◌-◌, ◌/◌, ◌<◌, Bool, true, false, [], ◌∷◌, ◌++◌, length, Some, None, Ok, Err, refl, arith, ap, ◌∙◌, subst, inl, inr}
-use Rattle.queue_steps.specs.{declared.sizes.TheConstants.LIMIT, declared.sizes.TheConstants.BLOCK_SLOTS, declared.model.Call.Call, declared.model.Call.Call as call, declared.model.Reply.Reply, declared.model.Reply.Reply as reply, declared.errors.PushError.PushError as push, declared.errors.ForcePushError.ForcePushError as force, declared.steps.ring.PushKind.PushKind, declared.steps.ring.PushKind.PushKind as push_kind, State.State, Legal.IsSoundOwned, Replies.MayAsk, Sequential.Sequential, Sequential.HoldsBlocks, Sequential.blocks_of, Sequential.sequential_reply, Sequential.sequential_state, Sequential.moved, Words.is_shut, RingNext.closed_reply, RingNext.pushed_reply, ChainNext.gives_up}
+use Rattle.queue_steps.specs.declared.{sizes.TheConstants.LIMIT, sizes.TheConstants.BLOCK_SLOTS, model.Call.Call, model.Call.Call as call, model.Reply.Reply, model.Reply.Reply as reply, errors.PushError.PushError as push, errors.ForcePushError.ForcePushError as force}
+use Rattle.queue_steps.specs.{declared.steps.ring.PushKind.PushKind, declared.steps.ring.PushKind.PushKind as push_kind, State.State, Words.is_shut, ChainNext.gives_up, Legal.IsSoundOwned, Replies.MayAsk, RingNext.closed_reply, RingNext.pushed_reply}
+use Rattle.queue_steps.specs.Sequential.{Sequential, HoldsBlocks, blocks_of, sequential_reply, sequential_state, moved}
 use Rattle.call_driver.specs.EndsIn.{EndsRight, Answered}
-use Rattle.own_cells.specs.{OneRing.Laws.Numbers.is_equal, OneRing.Laws.Numbers.is_apart, OneRing.Laws.Numbers.equal_or_above, OneChain.OwnChainCells.OwnChain, OneChain.OwnChainCells.kind_of_own_chain, OneChain.OwnChainCells.own_chain_can_touch, OneChain.OwnChainCells.own_chain_touches, OneChain.OwnChainCells.own_chain_can_perform, OneChain.OwnChainCells.own_chain_performs, OneChain.OwnChainCells.own_chain_can_release, OneChain.OwnChainCells.own_chain_releases, OneChain.OwnChainOwned.taken, OneChain.OwnChainOwned.accepted, OneChain.OwnChainOwned.own_chain_queue, OneChain.OwnChainOwned.own_chain_owned, OneChain.OwnChainOwned.IsBare, OneChain.OwnChainOwned.IsLaid, OneChain.OwnChainOwned.IsIdle, OneChain.Laws.OwnChainRuns.Ending, OneChain.Laws.OwnChainKeeps.length-items_from, OneChain.Laws.OwnChainLeaves.marked, OneChain.Laws.OwnChainLeaves.idle-marked, OneChain.Laws.OwnChainLeaves.queue-marked}
+use Rattle.own_cells.specs.OneRing.Laws.Numbers.{is_equal, is_apart, equal_or_above}
+use Rattle.own_cells.specs.OneChain.OwnChainCells.{OwnChain, kind_of_own_chain, own_chain_can_touch, own_chain_touches, own_chain_can_perform, own_chain_performs, own_chain_can_release, own_chain_releases}
+use Rattle.own_cells.specs.OneChain.OwnChainOwned.{taken, accepted, own_chain_queue, own_chain_owned, IsBare, IsLaid, IsIdle}
+use Rattle.own_cells.specs.OneChain.Laws.{OwnChainRuns.Ending, OwnChainKeeps.length-items_from, OwnChainLeaves.marked, OwnChainLeaves.idle-marked, OwnChainLeaves.queue-marked}
 
 -- what a call has to end with
 abbrev pub EndsAnswered : {T : Type 0} → Call T → OwnChain T → Ending T
@@ -74,13 +79,29 @@ module _ {T : Type 0} (r : OwnChain T) (v : T) (i : IsIdle r) where
   pub right-spent : (p : PushKind) → is_shut r.tail ≡ false → (accepted r == LIMIT) ≡ true → EndsAnswered (push_call p v) r (closed_reply p) None (Some v) (marked r)
   right-spent push_kind.Push e1 e2 =
       (idle-marked r i, (reply.Push (Err (push.Closed v)), refl, sequential r (marked r) (call.Push v) (reply.Push (Err (push.Closed v))) (idle-marked r i) (rw (sequential_reply, e1, sequential_reply, e2) refl) (queue-marked r ∙ rw (sequential_state, e1, sequential_state, e2) refl) (λ x. refl)))
-  right-spent push_kind.Force e1 e2 =
-      (idle-marked r i, (reply.ForcePush (Err (force.Closed v)), refl, sequential r (marked r) (call.ForcePush v) (reply.ForcePush (Err (force.Closed v))) (idle-marked r i) (rw (sequential_reply, e1, sequential_reply, e2) refl) (queue-marked r ∙ rw (sequential_state, e1, sequential_state, e2) refl) (λ x. refl)))
+  right-spent push_kind.Force e1 e2 = (
+    idle-marked r i,
+    (
+      reply.ForcePush (Err (force.Closed v)),
+      refl,
+      sequential r (marked r) (call.ForcePush v) (reply.ForcePush (Err (force.Closed v)))
+          (idle-marked r i) (rw (sequential_reply, e1, sequential_reply, e2) refl) (queue-marked r ∙ rw (sequential_state, e1, sequential_state, e2) refl) (λ x. refl),
+    ),
+  )
 
   pub right-pushed : (p : PushKind) (done : OwnChain T) → is_shut r.tail ≡ false → (accepted r == LIMIT) ≡ false → IsIdle done → accepted done ≡ accepted r + 1
       → own_chain_queue done ≡ record (own_chain_queue r) { items = (own_chain_queue r).items ++ v ∷ []; accepted = (own_chain_queue r).accepted + 1 } → EndsAnswered (push_call p v) r (pushed_reply p) None None done
-  right-pushed push_kind.Push done e1 e2 idle more leaves = (idle, (reply.Push (Ok tt), refl, sequential r done (call.Push v) (reply.Push (Ok tt)) idle (rw (sequential_reply, e1, sequential_reply, e2) refl) (leaves ∙ rw (sequential_state, e1, sequential_state, e2) refl) (λ none. absurd (omega arith))))
-  right-pushed push_kind.Force done e1 e2 idle more leaves = (idle, (reply.ForcePush (Ok None), refl, sequential r done (call.ForcePush v) (reply.ForcePush (Ok None)) idle (rw (sequential_reply, e1, sequential_reply, e2) refl) (leaves ∙ rw (sequential_state, e1, sequential_state, e2) refl) (λ none. absurd (omega arith))))
+  right-pushed push_kind.Push done e1 e2 idle more leaves =
+      (idle, (reply.Push (Ok tt), refl, sequential r done (call.Push v) (reply.Push (Ok tt)) idle (rw (sequential_reply, e1, sequential_reply, e2) refl) (leaves ∙ rw (sequential_state, e1, sequential_state, e2) refl) (λ none. absurd (omega arith))))
+  right-pushed push_kind.Force done e1 e2 idle more leaves = (
+    idle,
+    (
+      reply.ForcePush (Ok None),
+      refl,
+      sequential r done (call.ForcePush v) (reply.ForcePush (Ok None)) idle
+          (rw (sequential_reply, e1, sequential_reply, e2) refl) (leaves ∙ rw (sequential_state, e1, sequential_state, e2) refl) (λ none. absurd (omega arith)),
+    ),
+  )
 
   pub right-refused : (p : PushKind) → MayAsk (own_chain_queue r) → (accepted r ≡ 0 → length r.pieces ≡ 0) → EndsAnswered (push_call p v) r (gives_up p) None (Some v) r
   right-refused push_kind.Push may none = (i, (reply.Push (Err (push.NoMemory v)), refl, inr ((refl, may), none, refl)))

@@ -2,8 +2,7 @@
 use Rattle.std.specs.Prelude.{◌==◌, nat_lt, not, bit_or}
 use Rattle.std.proofs.Common.{◌≡◌, ◌≢◌, ◌⊎◌, ℕ, ◌+◌, ◌%◌, ◌<◌, ◌≤◌, true, false, arith}
 use Rattle.queue_steps.specs.Words.{position_of, is_shut}
-use Rattle.queue_laws.specs.Common.Vocabulary.{MARK, TAIL_STEP}
-use Rattle.queue_laws.proofs.Common.Tails.{or_one}
+use Rattle.queue_laws.{specs.Common.Vocabulary.MARK, specs.Common.Vocabulary.TAIL_STEP, proofs.Common.Tails.or_one}
 
 pub less : (m n : ℕ) → m < n → nat_lt m n ≡ true
 less m n h = grind arith

@@ -1,14 +1,17 @@
 -- Every call on a ring ends with its reply: it is a call of the only party, whose steps are those of the laws of parties.
 use Rattle.std.specs.Prelude.{◌==◌, if◌then◌else◌}
 use Rattle.std.proofs.Common.{◌≡◌, ◌||◌, ℕ, zero, suc, ◌<◌, ◌≤◌, not, Bool, true, false, List, [], ◌∷◌, Option, Some, None, Err, refl, arith, sym, ap, ◌∙◌, subst, inl, inr}
-use Rattle.queue_steps.specs.{State.State, State.is_slot_cap, Effect.after_from, Kinds.call_kind, Kinds.call_value, Kinds.filled, Legal.IsShown, Next.CanNext, Next.next_of, RingNext.ring_begin, Replies.IsRightAt, Replies.LacksMemory, Replies.Tells, Words.position_of, Sequential.Sequential, Sequential.sequential_reply, Sequential.sequential_state, Sequential.moved}
+use Rattle.queue_steps.specs.{State.State, State.is_slot_cap, Effect.after_from, Legal.IsShown, RingNext.ring_begin, Words.position_of, Next.CanNext, Next.next_of, Kinds.call_kind, Kinds.call_value, Kinds.filled, Replies.IsRightAt, Replies.LacksMemory, Replies.Tells}
+use Rattle.queue_steps.specs.Sequential.{Sequential, sequential_reply, sequential_state, moved}
 use Rattle.queue_steps.proofs.Rows.{does_row}
 use Rattle.queue_laws.specs.Common.Vocabulary.{Call, Reply, Effect, PushError, ForcePushError, Kind, Op, Touch, Answer, Next, SOLO_STEPS}
 use Rattle.queue_laws.specs.{Common.Effects.FrontOpen, Common.Effects.with_effect, Common.Moments.SeenIn, Ring.RingShared.answered, Ring.RingShared.touched, Ring.RingShared.handed, Ring.RingCells.Ring, Ring.RingCells.queue_of, Ring.RingCells.RingOk, Ring.RingCells.HoldsNone, Ring.RingWords.Codes}
-use Rattle.queue_laws.proofs.{Common.Alone.Alone, Common.Alone.alone_first, Common.Alone.alone_more, Common.Alone.only_seen, Ring.RingIdle.AtRest, Ring.RingIdle.at_rest, Ring.RingTransitions.not_slot, Ring.RingRanks.rank, Ring.RingRanks.rank_some, Ring.RingSlots.nobody, Ring.RingStepOk.IsQuiet, Ring.RingStepOk.NextOk, Ring.RingFronts.may_front, Ring.RingStart.at_first, Ring.RingStep.step_good}
+use Rattle.queue_laws.proofs.Common.Alone.{Alone, alone_first, alone_more, only_seen}
+use Rattle.queue_laws.proofs.Ring.{RingIdle.AtRest, RingIdle.at_rest, RingTransitions.not_slot, RingRanks.rank, RingRanks.rank_some, RingSlots.nobody, RingStepOk.IsQuiet, RingStepOk.NextOk, RingFronts.may_front, RingStart.at_first, RingStep.step_good}
 use Rattle.call_driver.specs.EndsIn.{EndsIn, EndsRight, Released, Replied, Answered}
 use Rattle.own_cells.specs.OneRing.RingCells.{RingState, kind_of_ring, ring_touchable, ring_touched, ring_operable, ring_performed, ring_can_touch, ring_touches, ring_can_perform, ring_performs, ring_can_release, ring_releases}
-use Rattle.own_cells.specs.{OneRing.RingOwned.IsIdle, OneRing.RingOwned.ring_queue, OneRing.RingOwned.ring_owned, OneSlot.Laws.ComputedRuns.EndsIn-step, OneRing.Laws.RingParty.part, OneRing.Laws.RingParty.ring_of, OneRing.Laws.RingParty.nobody_holds, OneRing.Laws.RingParty.party_ok, OneRing.Laws.RingParty.party_codes, OneRing.Laws.RingRests.rested_idle, OneRing.Laws.RingRests.rested_queue, OneRing.Laws.RingSame.is_done, OneRing.Laws.RingSame.same_step}
+use Rattle.own_cells.specs.{OneRing.RingOwned.IsIdle, OneRing.RingOwned.ring_queue, OneRing.RingOwned.ring_owned, OneSlot.Laws.ComputedRuns.EndsIn-step}
+use Rattle.own_cells.specs.OneRing.Laws.{RingParty.part, RingParty.ring_of, RingParty.nobody_holds, RingParty.party_ok, RingParty.party_codes, RingRests.rested_idle, RingRests.rested_queue, RingSame.is_done, RingSame.same_step}
 
 abbrev pub RingAnswers : {T : Type 0} → RingState T → Call T → Type 0
 RingAnswers r c = EndsRight ring_can_touch ring_touches ring_can_perform ring_performs ring_can_release ring_releases IsIdle ring_owned (kind_of_ring r) c r

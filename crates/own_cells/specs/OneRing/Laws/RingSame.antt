@@ -4,7 +4,8 @@ use Rattle.std.proofs.Common.{◌≡◌, ℕ, ◌+◌, ◌%◌, ◌^◌, Bool, t
 use Rattle.std.proofs.Math.Nat.{mod-eq_of_lt}
 use prog.Atomic.{either}
 use Rattle.queue_steps.specs.State.{State}
-use Rattle.queue_laws.specs.{Common.Vocabulary.Word, Common.Vocabulary.Op, Common.Vocabulary.Touch, Common.Stand.Stand, Ring.RingShared.CanTouch, Ring.RingShared.CanOperate, Ring.RingShared.answered, Ring.RingShared.operated, Ring.RingShared.touched, Ring.RingShared.handed, Ring.RingShared.put_word, Ring.RingCells.Ring, Ring.RingAt.At, Ring.RingAt.push_tail}
+use Rattle.queue_laws.specs.Common.{Vocabulary.Word, Vocabulary.Op, Vocabulary.Touch, Stand.Stand}
+use Rattle.queue_laws.specs.Ring.{RingShared.CanTouch, RingShared.CanOperate, RingShared.answered, RingShared.operated, RingShared.touched, RingShared.handed, RingShared.put_word, RingCells.Ring, RingAt.At, RingAt.push_tail}
 use Rattle.own_cells.specs.OneRing.{RingCells.RingState, RingCells.ring_touchable, RingCells.ring_touched, RingCells.ring_operable, RingCells.ring_performed, Laws.Numbers.less, Laws.RingParty.part}
 
 -- an operation that calls on a ring do

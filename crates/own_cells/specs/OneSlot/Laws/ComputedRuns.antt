@@ -1,7 +1,8 @@
 -- A call on cells that leave no choice ends as a run does that can be computed.
 use Rattle.std.specs.Prelude.{◌≡◌, ℕ, zero, suc, Option, Some, None, refl, Bool, true, false, ◌&&◌, if◌then◌else◌}
 use Rattle.std.proofs.Common.{sym, subst}
-use Rattle.queue_steps.specs.{declared.model.Reply.Reply, declared.steps.types.Kind.Kind, declared.steps.types.Answer.Answer, declared.steps.types.Local.Local, declared.steps.types.Next.Next, declared.steps.types.Next.Next as next, declared.steps.types.Op.Op, declared.steps.types.Touch.Touch, Next.CanNext, Next.next_of}
+use Rattle.queue_steps.specs.declared.{model.Reply.Reply, steps.types.Kind.Kind, steps.types.Answer.Answer, steps.types.Local.Local, steps.types.Next.Next, steps.types.Next.Next as next, steps.types.Op.Op, steps.types.Touch.Touch}
+use Rattle.queue_steps.specs.Next.{CanNext, next_of}
 use Rattle.call_driver.specs.EndsIn.{EndsIn}
 use Rattle.own_cells.specs.OneSlot.ComputedSteps.{CanTouch, Touches, CanPerform, Performs}
 

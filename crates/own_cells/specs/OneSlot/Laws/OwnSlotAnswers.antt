@@ -1,7 +1,8 @@
 -- Every call on one slot ends with its reply.
 use Rattle.std.specs.Prelude.{◌≡◌, ℕ, Bool, true, false, Option, Some, None, refl}
 use Rattle.std.proofs.Common.{inl, sym, subst}
-use Rattle.queue_steps.specs.{declared.model.Call.Call, declared.model.Call.Call as call, declared.model.Reply.Reply, declared.steps.types.Kind.Kind as kind, declared.steps.types.Kind.Kind, declared.steps.types.Local.Local, declared.steps.types.Local.Local as local, declared.steps.types.Answer.Answer, declared.steps.types.Answer.Answer as answer, declared.steps.types.Op.Op, declared.steps.types.Touch.Touch as touch, Next.CanNext, Next.next_of, Next.first_local, Kinds.call_kind, Kinds.call_value, Kinds.filled, declared.sizes.TheConstants.SOLO_STEPS, Sequential.Sequential, SlotNext.is_marked}
+use Rattle.queue_steps.specs.{declared.model.Call.Call, declared.model.Call.Call as call, declared.model.Reply.Reply, declared.sizes.TheConstants.SOLO_STEPS, Next.CanNext, Next.next_of, Next.first_local, Sequential.Sequential, SlotNext.is_marked, Kinds.call_kind, Kinds.call_value, Kinds.filled}
+use Rattle.queue_steps.specs.declared.steps.types.{Kind.Kind as kind, Kind.Kind, Local.Local, Local.Local as local, Answer.Answer, Answer.Answer as answer, Op.Op, Touch.Touch as touch}
 use Rattle.own_cells.specs.{declared.slot.own_slot.OwnSlot.OwnSlot, OneSlot.Laws.ComputedRuns.Outcome, OneSlot.Laws.ComputedRuns.run_from, OneSlot.Laws.ComputedRuns.EndsIn-run}
 use Rattle.call_driver.specs.EndsIn.{EndsRight, Released, Replied, Answered}
 use Rattle.own_cells.specs.OneSlot.OwnSlotCells.{IsIdle, slot_owned, slot_touchable, slot_operable, slot_touched, slot_performed, slot_can_touch, slot_can_perform, slot_touches, slot_performs, slot_can_release, slot_releases, word_for}

@@ -1,7 +1,6 @@
 use Rattle.std.proofs.Common.{◌≡◌, ◌-◌, ◌∙◌, true, false, subst, sym}
 use Rattle.queue_laws.specs.Common.Vocabulary.{SOLO_STEPS}
-use Rattle.shared_calls.specs.{Settling.MayWait, Halts.next_at}
-use Rattle.shared_calls.proofs.GivesUp.{halts, gave_up}
+use Rattle.shared_calls.{specs.Settling.MayWait, specs.Halts.next_at, proofs.GivesUp.halts, proofs.GivesUp.gave_up}
 use Rattle.shared_calls.proofs.attempts.end_or_quit_at.Goals as goal
 
 pub carry_on-requires-clause-left : goal.carry_on-requires-clause-left

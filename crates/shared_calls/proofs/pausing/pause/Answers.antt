@@ -1,8 +1,7 @@
 use Rattle.std.proofs.Common.{◌-◌, ◌∙◌, sym, subst}
 use Rattle.queue_laws.specs.Common.Vocabulary.{SOLO_STEPS}
 use Rattle.call_driver.proofs.Going.{replies, again}
-use Rattle.shared_calls.specs.Pausing.{IsStep}
-use Rattle.shared_calls.proofs.Filling.{is_filled, filled_as}
+use Rattle.shared_calls.{specs.Pausing.IsStep, proofs.Filling.is_filled, proofs.Filling.filled_as}
 use Rattle.shared_calls.proofs.pausing.pause.Goals as goal
 
 pub next-todo-requires-clause-of : goal.next-todo-requires-clause-of

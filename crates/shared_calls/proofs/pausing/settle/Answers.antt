@@ -1,8 +1,7 @@
 use Rattle.std.proofs.Common.{arith, lt_of_not-le}
 use mathlib.Core.Logic.{dite}
 use native.Mathlib.Decide.{dec_le}
-use Rattle.shared_calls.specs.Halts.{next_at}
-use Rattle.shared_calls.proofs.Settling.{all_done}
+use Rattle.shared_calls.{specs.Halts.next_at, proofs.Settling.all_done}
 use Rattle.shared_calls.proofs.pausing.settle.Goals as goal
 
 pub loop-turn-preserved : goal.loop-turn-preserved

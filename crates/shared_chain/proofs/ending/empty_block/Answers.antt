@@ -1,4 +1,4 @@
-use Rattle.std.proofs.Common.{◌+◌, ◌&&◌, ◌∙◌, ap, sym, rules, arith}
+use Rattle.std.proofs.Common.{◌+◌, ◌&&◌, ◌∙◌, length, ap, sym, rules, arith}
 use Rattle.mem_blocks.specs.Web.{block}
 use Rattle.shared_chain.proofs.{Finishing.Leftovers.slot_stays, Finishing.Leftovers.none_held, Finishing.Leftovers.told_on, ending.empty_block.Goals.then-empty, ending.empty_block.Goals.else-empty}
 use Rattle.shared_chain.proofs.ending.empty_block.Goals as goal
@@ -9,6 +9,12 @@ empty_slot-vacated-requires-clause-left g c =
     let i = c.loop-slot.slot in
     let e = c.loop-slot.invariant.emptied in
     slot_stays a.taken a.accepted (a.first + i) i (block a.chain.now.blocks a.number) (block c.loop-slot.chain.blocks a.number) e.words (e.others i (λ lt. omega arith)) (c.requires.left.slot i c.loop-slot-test.true)
+
+pub empty_slot-vacated-requires-clause-place : goal.empty_slot-vacated-requires-clause-place
+empty_slot-vacated-requires-clause-place g c =
+    let place = c.requires.place in
+    let e = c.loop-slot.invariant.emptied in
+    (place.0, ((e.alive ∙ place.1.0, e.at ∙ place.1.1), omega (arith, c.loop-slot-test.true, ap length e.words, c.requires.left.words)), c.loop-slot-test.true)
 
 pub loop-slot-init : goal.loop-slot-init
 loop-slot-init g c =

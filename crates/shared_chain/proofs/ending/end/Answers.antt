@@ -4,8 +4,12 @@ use Rattle.mem_blocks.specs.Web.{Block}
 use Rattle.queue_steps.specs.{Effect.after, Legal.IsShown}
 use Rattle.own_cells.specs.OneChain.{ChainMemory.own_chain_in, ChainMemory.AreHeld, OwnChainOwned.own_chain_owned, OwnChainOwned.IsIdle}
 use Rattle.shared_chain.specs.Ending.{gone_first}
+use Rattle.shared_chain.proofs.Frames.Tested.{ends_hold}
 use Rattle.shared_chain.proofs.Finishing.Finished.{gone_take, keeps_held, keeps_idle, keeps_shown, all_whole}
 use Rattle.shared_chain.proofs.ending.end.Goals as goal
+
+pub take_ends-head-requires-clause-lives : goal.take_ends-head-requires-clause-lives
+take_ends-head-requires-clause-lives g c = ends_hold (sym c.requires.ends.0) (sym c.requires.ends.1) c.finish-chain.ensures.1.1.codes
 
 pub forget-requires : goal.forget-requires
 forget-requires g c κs within =

@@ -2,9 +2,11 @@ use Rattle.std.proofs.Common.{◌≡◌, ◌∙◌, ℕ, ◌+◌, List, sym, ap,
 use Rattle.mem_blocks.specs.Web.{Block, block, Lives}
 use Rattle.queue_steps.specs.{Words.position_of, ChainWords.offset_of, ChainWords.items_before}
 use Rattle.own_cells.specs.OneChain.ChainMemory.{block_of}
-use Rattle.shared_chain.specs.{Ending.LeadsTo, Ending.IntoBlock, Leftover.BlocksLeft}
-use Rattle.shared_chain.proofs.Finishing.Abandoned.{blocks_left, front_left}
+use Rattle.shared_chain.{specs.Ending.LeadsTo, specs.Ending.IntoBlock, specs.Leftover.BlocksLeft, proofs.Finishing.Abandoned.blocks_left, proofs.Finishing.Abandoned.front_left, proofs.Frames.Tested.ends_hold}
 use Rattle.shared_chain.proofs.ending.give_up.Goals as goal
+
+pub take_ends-head-requires-clause-lives : goal.take_ends-head-requires-clause-lives
+take_ends-head-requires-clause-lives g c = ends_hold (sym c.requires.ends.0) (sym c.requires.ends.1) c.close-chain.ensures.1.1.codes
 
 pub give_up_blocks-requires-clause-left : goal.give_up_blocks-requires-clause-left
 give_up_blocks-requires-clause-left g c =

@@ -1,8 +1,7 @@
 use Rattle.std.proofs.Common.{◌≡◌, Option, Some, None, IfSome, refl, sym, ap, subst, ◌∙◌, arith}
 use denote.RawPtr.{Ptr, null_ptr, InBlock, Testable}
-use Rattle.mem_blocks.specs.{Web.block, Web.Lives, Web.without, Web.word_of, declared.block.BlockPtr.BlockPtr, declared.hub.TheConstants.TAIL}
-use Rattle.shared_chain.specs.Ending.{LeadsTo, IntoBlock}
-use Rattle.shared_chain.proofs.Frames.Blocks.{gone_else}
+use Rattle.mem_blocks.specs.{Web.block, Web.Lives, Web.without, Web.word_of, declared.block.BlockPtr.BlockPtr, declared.hub.TheConstants.TAIL, Web.HoldsWord}
+use Rattle.shared_chain.{specs.Ending.LeadsTo, specs.Ending.IntoBlock, proofs.Frames.Blocks.gone_else}
 use Rattle.shared_chain.proofs.ending.take_ends.Goals as goal
 
 -- a link that was read leads to where the block's word does
@@ -11,13 +10,13 @@ leads None p q is some none = (sym is ∙ none refl, tt)
 leads (Some l) p q is some none = (some.0 ∙ is, some.1)
 
 pub word-requires : goal.word-requires
-word-requires g c = (subst InBlock (sym c.requires.ends.2) tt, omega arith, c.requires.lives.1)
+word-requires g c = (subst InBlock (sym c.requires.ends.2) tt, c.requires.lives.1)
 
 pub word-requires-2 : goal.word-requires-2
-word-requires-2 g c = (c.requires.ends.0, omega arith, subst (λ s. Lives s.blocks 0 c.args.tail.ptr) (sym c.word.ensures.0) c.requires.lives.0)
+word-requires-2 g c = (c.requires.ends.0, subst (λ s. HoldsWord s.blocks 0 c.args.tail.ptr TAIL) (sym c.word.ensures.0) c.requires.lives.0)
 
 pub next-requires : goal.next-requires
-next-requires g c = (subst InBlock (sym c.requires.ends.2) tt, subst (λ s. Lives s.blocks 1 c.args.head.ptr) (sym (c.word-2.ensures.0 ∙ c.word.ensures.0)) c.requires.lives.1)
+next-requires g c = (subst InBlock (sym c.requires.ends.2) tt, subst (λ s. Lives s.blocks 1 c.args.head.ptr) (sym (c.word-2.ensures.0 ∙ c.word.ensures.0)) c.requires.lives.1.0)
 
 pub get-requires : goal.get-requires
 get-requires g c =
@@ -25,7 +24,7 @@ get-requires g c =
     subst (λ p. Testable p) (sym is) c.requires.tested.1
 
 pub next-requires-2 : goal.next-requires-2
-next-requires-2 g c = (c.requires.ends.0, subst (λ s. Lives s.blocks 0 c.args.tail.ptr) (sym (c.word-2.ensures.0 ∙ c.word.ensures.0)) c.requires.lives.0)
+next-requires-2 g c = (c.requires.ends.0, subst (λ s. Lives s.blocks 0 c.args.tail.ptr) (sym (c.word-2.ensures.0 ∙ c.word.ensures.0)) c.requires.lives.0.0)
 
 pub get-requires-2 : goal.get-requires-2
 get-requires-2 g c =
@@ -33,11 +32,11 @@ get-requires-2 g c =
     subst (λ p. Testable p) (sym is) c.requires.tested.0
 
 pub lift-tail_end-requires : goal.lift-tail_end-requires
-lift-tail_end-requires g c = subst (λ s. Lives s.blocks 0 c.args.tail.ptr) (sym (c.word-2.ensures.0 ∙ c.word.ensures.0)) c.requires.lives.0
+lift-tail_end-requires g c = subst (λ s. Lives s.blocks 0 c.args.tail.ptr) (sym (c.word-2.ensures.0 ∙ c.word.ensures.0)) c.requires.lives.0.0
 
 pub lift-head_end-requires : goal.lift-head_end-requires
 lift-head_end-requires g c =
-    let lives = subst (λ s. Lives s.blocks 1 c.args.head.ptr) (sym (c.word-2.ensures.0 ∙ c.word.ensures.0)) c.requires.lives.1 in
+    let lives = subst (λ s. Lives s.blocks 1 c.args.head.ptr) (sym (c.word-2.ensures.0 ∙ c.word.ensures.0)) c.requires.lives.1.0 in
     let stays = ap (λ bs. block bs 1) c.lift-tail_end.ensures.left.1 ∙ gone_else c.word-2.new.self.blocks 0 1 (λ e. omega (arith, e)) in
     (ap (λ x. x.alive) stays ∙ lives.0, ap (λ x. x.at) stays ∙ lives.1)
 

@@ -2,9 +2,8 @@ use Rattle.std.proofs.Common.{rules, ◌≡◌, ℕ, List, length, Option, None,
 use Rattle.std.proofs.lemmas.List.{length-replicate}
 use Rattle.atomic_table.specs.Table.{opening}
 use Rattle.queue_steps.specs.Words.{IsRing}
-use Rattle.shared_tables.specs.{TableRule.Rule, RingTable.ring_table, RingOpening.first_words}
+use Rattle.shared_tables.{specs.TableRule.Rule, specs.RingTable.ring_table, specs.RingOpening.first_words, proofs.RingEnding.seat, proofs.RingEnding.ring_opens}
 use Rattle.queue_laws.proofs.Ring.RingOpening.{count_below}
-use Rattle.shared_tables.proofs.RingEnding.{seat, ring_opens}
 use Rattle.shared_tables.proofs.ring.open_ring.Goals as goal
 
 pub table_of-requires-clause-holds : goal.table_of-requires-clause-holds

@@ -1,7 +1,6 @@
 use Rattle.std.proofs.Common.{ℕ, length, replicate, Some, None, ap, sym, subst, ◌∙◌, arith}
 use Rattle.std.proofs.lemmas.List.{length-map}
-use Rattle.use_shared.specs.Sharing.{none, IsDone}
-use Rattle.use_shared.proofs.{Moving.then, Shifts.all_done, Places.all_full, Places.same_contents}
+use Rattle.use_shared.{specs.Sharing.none, specs.Sharing.IsDone, proofs.Moving.then, proofs.Shifts.all_done, proofs.Places.all_full, proofs.Places.same_contents}
 use Rattle.use_shared.proofs.tasks.run_batch.Goals as goal
 
 pub open-requires-clause-some : goal.open-requires-clause-some

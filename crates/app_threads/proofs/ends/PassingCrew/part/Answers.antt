@@ -1,7 +1,6 @@
 use Rattle.std.proofs.Common.{◌*◌, length, ap, sym, ◌∙◌}
 use Rattle.std.proofs.lemmas.{Bool.true≢false, List.length-replicate}
-use Rattle.app_threads.specs.Works.{ends_share, ends_taken}
-use Rattle.app_threads.proofs.EndWorks.{none_work}
+use Rattle.app_threads.{specs.Works.ends_share, specs.Works.ends_taken, proofs.EndWorks.none_work}
 use Rattle.app_threads.proofs.ends.PassingCrew.part.Goals as goal
 
 pub returns-in-Err : goal.returns-in-Err

@@ -1,7 +1,6 @@
 use Rattle.std.proofs.Common.{◌≡◌, ℕ, suc, ◌+◌, ◌-◌, arith, subst}
 use Rattle.queue_steps.specs.declared.sizes.TheConstants.{SOLO_STEPS}
-use Rattle.call_driver.specs.OnWay.{Before}
-use Rattle.call_driver.proofs.Going.{before}
+use Rattle.call_driver.{specs.OnWay.Before, proofs.Going.before}
 use Rattle.call_driver.proofs.retry.WithinEnd.finish.Goals as goal
 
 pub retry-requires-clause-on_way : goal.retry-requires-clause-on_way

@@ -1,7 +1,6 @@
 use Rattle.std.proofs.Common.{◌++◌, subst}
 use Rattle.concurrent_queue.specs.Shared.{Finishes}
-use Rattle.channel_account.specs.Told.{Told, SameItems}
-use Rattle.channel_account.proofs.Settled.{settled}
+use Rattle.channel_account.{specs.Told.Told, specs.Told.SameItems, proofs.Settled.settled}
 use Rattle.channel_account.proofs.account.Account.finish.Goals as goal
 
 pub returns-clause-finishes : goal.returns-clause-finishes

@@ -1,6 +1,5 @@
 use Rattle.std.proofs.Common.{ap, sym, subst, ◌∙◌}
-use Rattle.channel_account.specs.Told.{Told, told, JoinsTold}
-use Rattle.channel_account.proofs.Own.{joins}
+use Rattle.channel_account.{specs.Told.Told, specs.Told.told, specs.Told.JoinsTold, proofs.Own.joins}
 use Rattle.channel_account.proofs.account.Account.join.Goals as goal
 
 pub returns : goal.returns

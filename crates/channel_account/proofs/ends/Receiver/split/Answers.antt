@@ -1,6 +1,5 @@
 use Rattle.std.proofs.Common.{subst}
-use Rattle.channel_account.specs.Told.{Told, told, PartsTold}
-use Rattle.channel_account.proofs.Own.{parts}
+use Rattle.channel_account.{specs.Told.Told, specs.Told.told, specs.Told.PartsTold, proofs.Own.parts}
 use Rattle.channel_account.proofs.ends.Receiver.split.Goals as goal
 
 pub returns : goal.returns

@@ -1,7 +1,6 @@
 use Rattle.std.proofs.Common.{refl, sym, subst}
 use Rattle.shared_parties.specs.Calling.{cap_of}
-use Rattle.concurrent_queue.specs.{declared.party.SeatPlace.SeatPlace as place, Shared.Calls, Shared.party_view_of}
-use Rattle.concurrent_queue.proofs.TableCalls.{begins_here, ends_here}
+use Rattle.concurrent_queue.{specs.declared.party.SeatPlace.SeatPlace as place, specs.Shared.Calls, specs.Shared.party_view_of, proofs.TableCalls.begins_here, proofs.TableCalls.ends_here}
 use Rattle.concurrent_queue.proofs.shared.pending.begin_here.Goals as goal
 
 pub run-requires : goal.run-requires

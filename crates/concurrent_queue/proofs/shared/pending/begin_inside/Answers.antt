@@ -1,9 +1,7 @@
 use Rattle.std.proofs.Common.{rules, ◌∙◌, refl, sym, ap, subst}
 use Rattle.shared_chain.specs.Turning.{web_of}
-use Rattle.shared_calls.specs.InWeb.{RestsAt, EndedAt}
-use Rattle.shared_calls.proofs.Wakes.{wakes_free, rests_ended}
-use Rattle.concurrent_queue.specs.{declared.party.SeatPlace.SeatPlace as place, Shared.QueueId, Shared.Calls, Shared.party_view_of}
-use Rattle.concurrent_queue.proofs.WebParties.{web_ends}
+use Rattle.shared_calls.{specs.InWeb.RestsAt, specs.InWeb.EndedAt, proofs.Wakes.wakes_free, proofs.Wakes.rests_ended}
+use Rattle.concurrent_queue.{specs.declared.party.SeatPlace.SeatPlace as place, specs.Shared.QueueId, specs.Shared.Calls, specs.Shared.party_view_of, proofs.WebParties.web_ends}
 use Rattle.concurrent_queue.proofs.shared.pending.begin_inside.Goals as goal
 
 pub run-begun-requires : goal.run-begun-requires

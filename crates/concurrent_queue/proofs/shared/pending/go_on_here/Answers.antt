@@ -1,8 +1,7 @@
 use Rattle.std.proofs.Common.{◌-◌, ◌∙◌, Some, refl, sym, ap, subst}
 use Rattle.queue_steps.specs.declared.sizes.TheConstants.{SOLO_STEPS}
 use Rattle.shared_parties.specs.Calling.{cap_of}
-use Rattle.concurrent_queue.specs.{declared.party.SeatPlace.SeatPlace as place, Shared.Calls, Shared.party_view_of}
-use Rattle.concurrent_queue.proofs.{TableCalls.ends_here, Stops.started}
+use Rattle.concurrent_queue.{specs.declared.party.SeatPlace.SeatPlace as place, specs.Shared.Calls, specs.Shared.party_view_of, proofs.TableCalls.ends_here, proofs.Stops.started}
 use Rattle.concurrent_queue.proofs.shared.pending.go_on_here.Goals as goal
 
 pub carry_on-requires-clause-left : goal.carry_on-requires-clause-left

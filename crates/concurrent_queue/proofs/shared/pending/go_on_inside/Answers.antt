@@ -1,7 +1,6 @@
 use Rattle.std.proofs.Common.{rules, ◌∙◌, Some, refl, sym, ap, subst}
 use Rattle.shared_chain.specs.Turning.{web_of}
-use Rattle.shared_calls.specs.InWeb.{RestsAt, EndedAt}
-use Rattle.shared_calls.proofs.Wakes.{rests_ended}
+use Rattle.shared_calls.{specs.InWeb.RestsAt, specs.InWeb.EndedAt, proofs.Wakes.rests_ended}
 use Rattle.concurrent_queue.specs.{declared.party.SeatPlace.SeatPlace as place, Shared.QueueId, Shared.Calls, Shared.party_view_of}
 use Rattle.concurrent_queue.proofs.{StopsIn.started_in, WebParties.web_ends}
 use Rattle.concurrent_queue.proofs.shared.pending.go_on_inside.Goals as goal

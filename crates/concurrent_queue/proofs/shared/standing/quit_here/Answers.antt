@@ -3,8 +3,7 @@ use Rattle.atomic_table.specs.declared.shared.Seat.{Seat}
 use Rattle.shared_parties.specs.{declared.known.CallState.CallState, Quitting.its_call}
 use Rattle.shared_calls.specs.declared.left.Left.{Left}
 use Rattle.queue_steps.specs.Kinds.{call_value}
-use Rattle.concurrent_queue.specs.{Begun.Begun, Pending.StopsHere, SawMore.SawMore}
-use Rattle.concurrent_queue.proofs.Quits.{given_back}
+use Rattle.concurrent_queue.{specs.Begun.Begun, specs.Pending.StopsHere, specs.SawMore.SawMore, proofs.Quits.given_back}
 use Rattle.concurrent_queue.proofs.shared.standing.quit_here.Goals as goal
 
 pub quit_at-requires : goal.quit_at-requires

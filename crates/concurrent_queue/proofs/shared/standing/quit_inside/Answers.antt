@@ -4,8 +4,7 @@ use Rattle.shared_chain.specs.declared.web.ChainWeb.{ChainWeb}
 use Rattle.shared_calls.specs.declared.{chain.Asking.Asking, left.Left.Left}
 use Rattle.queue_steps.specs.Kinds.{call_value}
 use Rattle.shared_parties.specs.Quitting.{its_call}
-use Rattle.concurrent_queue.specs.{Begun.Begun, Pending.StopsInside, SawMore.SawMore}
-use Rattle.concurrent_queue.proofs.Quits.{given_back_in}
+use Rattle.concurrent_queue.{specs.Begun.Begun, specs.Pending.StopsInside, specs.SawMore.SawMore, proofs.Quits.given_back_in}
 use Rattle.concurrent_queue.proofs.shared.standing.quit_inside.Goals as goal
 
 pub quit_in-requires : goal.quit_in-requires

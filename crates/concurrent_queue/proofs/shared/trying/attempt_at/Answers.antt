@@ -1,7 +1,6 @@
 use Rattle.std.proofs.Common.{Break, refl, subst}
 use Rattle.shared_parties.specs.Calling.{cap_of}
-use Rattle.concurrent_queue.specs.{declared.party.SeatPlace.SeatPlace as place, Shared.party_view_of, Tries.Tries}
-use Rattle.concurrent_queue.proofs.{TableCalls.begins_here, Told.told_here, Told.tells}
+use Rattle.concurrent_queue.{specs.declared.party.SeatPlace.SeatPlace as place, specs.Shared.party_view_of, specs.Tries.Tries, proofs.TableCalls.begins_here, proofs.Told.told_here, proofs.Told.tells}
 use Rattle.concurrent_queue.proofs.shared.trying.attempt_at.Goals as goal
 
 pub run-requires : goal.run-requires

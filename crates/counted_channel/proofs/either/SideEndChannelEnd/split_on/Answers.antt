@@ -1,6 +1,5 @@
 use Rattle.std.proofs.Common.{ap}
-use Rattle.counted_channel.specs.{Channel.end_at, Counting.stake_at}
-use Rattle.counted_channel.proofs.{EndViews.half_is_end, EndViews.parted, EndViews.given_back, Parting.rejoined}
+use Rattle.counted_channel.{specs.Channel.end_at, specs.Counting.stake_at, proofs.EndViews.half_is_end, proofs.EndViews.parted, proofs.EndViews.given_back, proofs.Parting.rejoined}
 use Rattle.counted_channel.proofs.either.SideEndChannelEnd.split_on.Goals as goal
 
 pub of-requires-in-Some : goal.of-requires-in-Some

@@ -1,7 +1,7 @@
 use Rattle.std.proofs.Common.{Ok, Err}
 use Rattle.queue_steps.specs.declared.{model.Reply.Reply as reply, errors.PopError.PopError as pop}
-use Rattle.counted_channel.specs.QueueCalls.Polled.{party_at}
-use Rattle.counted_channel.proofs.{Polls.recv_answered, Polls.recv_empty, Polls.recv_busy, Polls.recv_taken, ends.Channel.poll_recv.Goals.in-Item, ends.Channel.poll_recv.Goals.in-Closed, ends.Channel.poll_recv.Goals.in-Empty, ends.Channel.poll_recv.Goals.in-Taken, ends.Channel.poll_recv.Goals.in-Busy}
+use Rattle.counted_channel.{specs.QueueCalls.Polled.party_at, proofs.Polls.recv_answered, proofs.Polls.recv_empty, proofs.Polls.recv_busy, proofs.Polls.recv_taken}
+use Rattle.counted_channel.proofs.ends.Channel.poll_recv.Goals.{in-Item, in-Closed, in-Empty, in-Taken, in-Busy}
 use Rattle.counted_channel.proofs.ends.Channel.poll_recv.Goals as goal
 
 pub returns-clause-polls : goal.returns-clause-polls

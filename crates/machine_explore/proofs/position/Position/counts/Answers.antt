@@ -1,6 +1,5 @@
 use Rattle.std.proofs.Common.{◌∙◌, ℕ, ap, length, sym}
-use Rattle.std.proofs.lemmas.List.{get_or_past}
-use Rattle.std.specs.Prelude.{slice_index_or}
+use Rattle.std.{proofs.lemmas.List.get_or_past, specs.Prelude.slice_index_or}
 use Rattle.machine_explore.specs.Positions.{Progress, Standing, no_progress}
 use Rattle.machine_explore.proofs.position.Position.counts.Goals as goal
 

@@ -1,9 +1,7 @@
 use Rattle.std.proofs.Common.{◌≡◌, ◌+◌, ◌<◌, ◌≤◌, ◌∙◌, ◌++◌, ◌∷◌, [], ap, arith, length, sym, take}
-use Rattle.std.specs.Prelude.{slice_index_or}
-use Rattle.std.proofs.lemmas.List.{take_all, take_more}
+use Rattle.std.{specs.Prelude.slice_index_or, proofs.lemmas.List.take_all, proofs.lemmas.List.take_more}
 use Rattle.machine_steps.specs.Machine.{world_of}
-use Rattle.machine_explore.specs.Positions.{Standing}
-use Rattle.machine_explore.proofs.Runs.{standing_is}
+use Rattle.machine_explore.{specs.Positions.Standing, proofs.Runs.standing_is}
 use Rattle.machine_explore.proofs.position.Position.fork.Goals as goal
 
 pub push_reserved-requires : goal.push_reserved-requires

@@ -1,7 +1,6 @@
 use Rattle.std.proofs.Common.{◌∙◌, ap}
 use Rattle.machine_steps.specs.{Left.left_of, Machine.world_of}
-use Rattle.machine_explore.specs.Positions.{Standing}
-use Rattle.machine_explore.proofs.Runs.{copied-some}
+use Rattle.machine_explore.{specs.Positions.Standing, proofs.Runs.copied-some}
 use Rattle.machine_explore.proofs.position.Position.list.Goals as goal
 
 pub end-requires : goal.end-requires

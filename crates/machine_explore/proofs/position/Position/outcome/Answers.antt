@@ -2,8 +2,7 @@ use Rattle.std.proofs.Common.{◌≡◌, ◌+◌, ◌<◌, ◌≤◌, ◌∙◌,
 use Rattle.std.specs.Prelude.{slice_index_or}
 use Rattle.std.proofs.lemmas.List.{map-append, take_all, take_more}
 use Rattle.machine_steps.specs.Machine.{world_of}
-use Rattle.machine_explore.specs.Positions.{Progress, Standing}
-use Rattle.machine_explore.proofs.Runs.{outcome_is}
+use Rattle.machine_explore.{specs.Positions.Progress, specs.Positions.Standing, proofs.Runs.outcome_is}
 use Rattle.machine_explore.proofs.position.Position.outcome.Goals as goal
 
 pub loop-party-preserved : goal.loop-party-preserved

@@ -1,8 +1,7 @@
 use Rattle.std.proofs.Common.{◌≡◌, ◌∙◌, [], ap, length, subst, sym}
 use Rattle.machine_steps.specs.{Left.opening_world, Machine.world_of}
-use Rattle.machine_explore.specs.{Positions.no_progress, Starts.IsPrepared}
+use Rattle.machine_explore.{specs.Positions.no_progress, specs.Starts.IsPrepared, proofs.Starting.prepared-first}
 use Rattle.std.specs.Prelude.{replicate}
-use Rattle.machine_explore.proofs.Starting.{prepared-first}
 use Rattle.machine_explore.proofs.position.Position.start.Goals as goal
 
 pub make_all-requires-clause-comes : goal.make_all-requires-clause-comes

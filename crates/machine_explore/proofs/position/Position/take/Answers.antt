@@ -2,8 +2,7 @@ use Rattle.std.proofs.Common.{◌≡◌, ◌≤◌, ◌∙◌, true, ap, arith, 
 use Rattle.std.proofs.lemmas.List.{set_past}
 use Rattle.machine_replay.specs.Conforms.{party_of}
 use Rattle.machine_steps.specs.Machine.{event_of, world_of}
-use Rattle.machine_explore.specs.{Moves.advanced, Moves.led, Positions.Standing, Positions.progress_of}
-use Rattle.machine_explore.proofs.Runs.{standing_is}
+use Rattle.machine_explore.{specs.Moves.advanced, specs.Moves.led, specs.Positions.Standing, specs.Positions.progress_of, proofs.Runs.standing_is}
 use Rattle.machine_explore.proofs.position.Position.take.Goals as goal
 
 -- a party that there is not has no progress to note

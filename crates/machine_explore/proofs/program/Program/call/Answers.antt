@@ -1,6 +1,5 @@
 use Rattle.std.proofs.Common.{◌∙◌, [], ap, sym}
-use Rattle.std.proofs.lemmas.List.{get_or_past}
-use Rattle.std.specs.Prelude.{slice_get, slice_index_or}
+use Rattle.std.{proofs.lemmas.List.get_or_past, specs.Prelude.slice_get, specs.Prelude.slice_index_or}
 use Rattle.machine_explore.proofs.Reading.{copied-is}
 use Rattle.machine_explore.proofs.program.Program.call.Goals as goal
 

@@ -1,6 +1,5 @@
 use Rattle.std.proofs.Common.{◌∙◌, [], ap, length, sym}
-use Rattle.std.proofs.lemmas.List.{get_or_past}
-use Rattle.std.specs.Prelude.{slice_index_or}
+use Rattle.std.{proofs.lemmas.List.get_or_past, specs.Prelude.slice_index_or}
 use Rattle.machine_explore.proofs.program.Program.call_count.Goals as goal
 
 pub returns-in-Some : goal.returns-in-Some

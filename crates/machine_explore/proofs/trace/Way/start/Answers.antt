@@ -1,7 +1,6 @@
 use Rattle.std.proofs.Common.{◌∙◌, [], ap, subst, sym}
 use Rattle.machine_steps.specs.Left.{left_of}
-use Rattle.machine_explore.specs.Traces.{IsUnderWay}
-use Rattle.machine_explore.proofs.Showing.{under_way-first}
+use Rattle.machine_explore.{specs.Traces.IsUnderWay, proofs.Showing.under_way-first}
 use Rattle.machine_explore.proofs.trace.Way.start.Goals as goal
 
 pub returns : goal.returns

@@ -1,11 +1,14 @@
 -- `give_up` puts the parts of a block together, and gives the room back.
-use Rattle.mem_blocks.proofs.Walks.{◌≡◌, ℕ, List, [], ◌∷◌, length, sym, refl, ap, subst, Ty, a_type, dcons, dnil, named, ty_unit, Val, vunit, vptr, has_ty, WT, inst_fn, bare, SProp, Lft, Share, Fml, ftrue, fsep, froom, flft, Incl-trans, size, align, capped, capped_fits, size-raw, align-raw, ‵, raw, ◌⊛◌, given, later, at_ret, ◌$◌, ◌∵◌, !, qed, by, move, keep, use1, use3, split, join, fsplit, fsplit3, fjoin, fpick, fpack, learn, await, rewrite, feq_i, stop, fld, unit_lit, size_word, align_word, of_opd, no_more, and_then, first, blocks, exec, returns, alloc_all, pass_all, free_all, look_at, get, get_in, sets, lands_last, env, sub, all_of_it, tables, fact, ◌⊑◌, yes, no, RattleType, owns, types_at, plain, Ptr, block_ptr, block_of, count_of, at_block, nothing, heard, param, bounded, RefOf, shr_vals, shr_Tells, Tuple, calls_at_last, Stays, stay_dropped, walk_of, Goes-dropped, proved, leaves, fm, Block, alive_at, AllVacant, Sized, block_owns, block_ty, SLOTS, after, blank_val, place_val, blank_told, place_told, spends, enters_at}
+use Rattle.mem_blocks.proofs.Walks.{◌≡◌, ℕ, List, [], ◌∷◌, length, sym, refl, ap, subst, Ty, a_type, dcons, dnil, named, ty_unit, Val, vunit, vptr, has_ty, WT, inst_fn, bare, SProp, Lft, Share, Fml, ftrue, fsep, froom, flft, Incl-trans}
+use Rattle.mem_blocks.proofs.Walks.{size, align, capped, capped_fits, size-raw, align-raw, ‵, raw, ◌⊛◌, given, later, at_ret, ◌$◌, ◌∵◌, !, qed, by, move, keep, use1, use3, split, join, fsplit, fsplit3, fjoin, fpick, fpack, learn, await}
+use Rattle.mem_blocks.proofs.Walks.{rewrite, feq_i, stop, fld, unit_lit, size_word, align_word, of_opd, no_more, and_then, first, blocks, exec, returns, alloc_all, pass_all, free_all, look_at, get, get_in, sets, lands_last, env, sub}
+use Rattle.mem_blocks.proofs.Walks.{all_of_it, tables, fact, ◌⊑◌, yes, no, RattleType, owns, types_at, plain, Ptr, block_ptr, block_of, count_of, at_block, nothing, heard, param, bounded, RefOf, shr_vals, shr_Tells, Tuple, calls_at_last}
+use Rattle.mem_blocks.proofs.Walks.{Stays, stay_dropped, walk_of, Goes-dropped, proved, leaves, fm, Block, alive_at, AllVacant, Sized, block_owns, block_ty, SLOTS, after, blank_val, place_val, blank_told, place_told, spends, enters_at}
 use Rattle.std.proofs.alloc.Calls.{Al as Handle, at_gives, Gives, Gives-goes, Gives-Gives}
 use Rattle.mem_blocks.specs.contracts.block.BlockPtr as link
 use Rattle.mem_blocks.specs.contracts.block.Loose as loose
 use Rattle.mem_blocks.proofs.Rooms as parts
-use Rattle.mem_blocks.specs.contracts.block.Loose.give_up.{ended, clauses}
-use Rattle.mem_blocks.specs.contracts.block.Loose.give_up.Key.{name as #self}
+use Rattle.mem_blocks.specs.contracts.block.Loose.give_up.{ended, clauses, Key.name as #self}
 use Rattle.mem_blocks.proofs.block.Loose.give_up.Statement.{statement}
 use Rattle.mem_blocks.proofs.block.Loose.give_up.Code as code
 

@@ -1,5 +1,12 @@
 -- `reserve` asks the allocator for room, cuts it into the parts of a block, and writes the link and the words.
-use Rattle.mem_blocks.proofs.Walks.{◌≡◌, ℕ, ◌+◌, true, false, List, [], ◌∷◌, replicate, refl, ap, arith, lit<, Ty, Body, a_type, dcons, dnil, named, Val, vptr, vstruct, vcons, vnil, WT, inst_fn, bare, SProp, Lft, Share, Fml, ftrue, fsep, fwand, froom, flft, Incl-trans, size, align, capped, capped_fits, size-raw, align-raw, Wp, after_seq, at_return, ‵, raw, ◌⊛◌, later, at_ret, any_q, ◌$◌, ◌∵◌, !, qed, by, move, keep, drop, use0, use1, use2, split, join, fsplit, fsplit3, fjoin, fjoin3, fpack, await, feq_i, stop, fld, addr, lit, size_word, align_word, of_opd, no_more, and_then, first, blocks, exec, returns, enter, assigns_last, assigns, init, switches_on, alloc_all, pass_all, free_all, look_at, get, get_in, get_tag, through, sets, sets_last, lands_as, is, env, live, vrt, in_variant, agg, rep, all_of_it, tables, fact, ◌⊑◌, yes, RattleType, Valss, owns, types_at, plain, Ptr, block_ptr, null_ptr, InBlock, nothing, heard, param, bounded, RefOf, shr_vals, shr_Tells, makes_shadow, within, Tuple, tuple_type, calls_at, Stays, stay_dropped, walk_of, Goes-dropped, Ok, Err, row, proved, leaves, fm, Home, alive_at, vacant, Small, Sized, slots_at, slots_own, block_ty, rooms, SLOTS, head, after, arm_body, ptr_good, blank_val, place_val, place_made, ok_of, err_of, tells, blank, spends}
+use Rattle.mem_blocks.proofs.Walks.{◌≡◌, ℕ, ◌+◌, true, WT, inst_fn, bare, no_more, and_then, init, switches_on, named, Val, vptr, after, arm_body, get_in, get_tag, calls_at, Stays}
+use Rattle.mem_blocks.proofs.Walks.{false, List, [], ◌∷◌, ptr_good, blank_val, vstruct, vcons, vnil, by, move, keep, drop, first, blocks, exec, alloc_all, pass_all, shr_vals, shr_Tells, slots_own, block_ty}
+use Rattle.mem_blocks.proofs.Walks.{replicate, refl, ap, rooms, SLOTS, head, a_type, dcons, dnil, size, align, capped, ftrue, fsep, fwand, align_word, of_opd, null_ptr, InBlock, Tuple, tuple_type}
+use Rattle.mem_blocks.proofs.Walks.{arith, lit<, Ty, Body, capped_fits, size-raw, makes_shadow, within, ok_of, err_of, tells, fjoin, fjoin3, fpack, addr, lit, size_word, in_variant, agg, rep, ◌⊑◌, yes, RattleType}
+use Rattle.mem_blocks.proofs.Walks.{SProp, Lft, Share, Fml, free_all, look_at, get, Home, alive_at, vacant, Small, Sized, slots_at, froom, flft, Incl-trans, after_seq, at_return, ‵, raw, ◌⊛◌, later, at_ret, any_q, ◌$◌, ◌∵◌, !, qed}
+use Rattle.mem_blocks.proofs.Walks.{align-raw, Wp, through, sets, row, proved, leaves, fm, returns, enter, blank, spends, env, live, vrt, bounded, RefOf}
+use Rattle.mem_blocks.proofs.Walks.{use0, use1, use2, split, await, feq_i, stop, fld, sets_last, lands_as, is, all_of_it, tables, fact}
+use Rattle.mem_blocks.proofs.Walks.{join, fsplit, fsplit3, assigns_last, assigns, Valss, owns, types_at, plain, Ptr, block_ptr, nothing, heard, param, stay_dropped, walk_of, Goes-dropped, Ok, Err, place_val, place_made}
 use Rattle.std.proofs.alloc.Calls.{Al as Handle, Answer-typed, Takes, at_takes, Answered, Takes-goes, Takes-gives, answers}
 use denote.Struct.Declared as declared
 use Rattle.std.specs.contracts.result.Result as Res
@@ -7,8 +14,7 @@ use Rattle.std.specs.contracts.alloc.AllocError as refusal
 use Rattle.mem_blocks.specs.contracts.block.BlockPtr as link
 use Rattle.mem_blocks.specs.contracts.block.Loose as loose
 use Rattle.mem_blocks.proofs.Rooms as parts
-use Rattle.mem_blocks.specs.contracts.block.Loose.reserve.{ended, clauses}
-use Rattle.mem_blocks.specs.contracts.block.Loose.reserve.Key.{name as #self}
+use Rattle.mem_blocks.specs.contracts.block.Loose.reserve.{ended, clauses, Key.name as #self}
 use Rattle.mem_blocks.proofs.block.Loose.reserve.Statement.{statement}
 use Rattle.mem_blocks.proofs.block.Loose.reserve.Code as code
 
@@ -45,7 +51,7 @@ reserve_spec 𝓤 𝓛 𝓜 𝓡 wired S A L LA ga da dd met _ =
     sets ! (agg ! (no_more !)) refl (tt, tt) $ sets ! (agg ! (and_then ! (get ! refl) (no_more !))) refl (tt, (tt, tt)) $ sets ! (agg ! (and_then ! (get ! refl) (no_more !))) refl (tt, (tt, tt)) $
     sets ! (agg ! (and_then ! (get ! refl) (and_then ! (get ! refl) (no_more !)))) refl (tt, ((tt, tt), ((tt, tt), tt))) $
     sets_last ! (agg ! (and_then ! (lit ! tt) (and_then ! (get ! refl) (no_more !)))) refl (tt, good) $ exec ! 𝓣.C 𝓣.Λ locals (after 2 mir.body) (at_ret locals Post) $ sets ! (of_opd ! (get ! refl)) refl (tt, good) $
-    move ! (2 ∷ []) $ fsplit ! $ use1 𝓛 (‵ (slots_own R hs₀ b (slots_at R o))) (parts.emptied 𝓛 R token SLOTS b (slots_at R o)) $ move ! (3 ∷ []) $ use1 𝓛 (‵ (row b (o + 8) ns)) (parts.zeroed 𝓛 b (o + 8)) $
+    move ! (2 ∷ []) $ fsplit ! $ use1 𝓛 (‵ (slots_own R hs₀ b (slots_at R o))) (parts.emptied 𝓛 R token SLOTS b (slots_at R o)) $ move ! (3 ∷ []) $ use1 𝓛 (‵ (row b (o + 8) ns)) (parts.zeroed 𝓛 SLOTS b (o + 8)) $
     move ! (0 ∷ 1 ∷ 4 ∷ []) $ fjoin3 ! $ move ! (1 ∷ []) $ fpack ! (Sized R (alive_at p null_ptr ns hs₀)) (λ _. ftrue) (tt, small, refl, omega arith) $ move ! (0 ∷ 2 ∷ 1 ∷ []) $ fjoin3 ! $ blank ! (Tuple (R ∷ Z ∷ [])) $ nothing ! $ move ! (1 ∷ 0 ∷ []) $ fjoin ! $
     use0 𝓛 (‵ (BlockPtr.own_val (record { ptr = p }) (place_val p ∷ []))) (place_made R 𝓛 p) $ fjoin ! $ feq_i ! (List Val) (pair ∷ []) (pair ∷ []) refl $ fjoin ! $
     fpack ! (Valss (BlockPtr ∷ Loose ∷ [])) (within (declared.shape (tuple_type (BlockPtr ∷ Loose ∷ []))) (record { ptr = p }, (r, tt)) (pair ∷ [])) (place_val p ∷ [], (blank_val ∷ [], tt)) $

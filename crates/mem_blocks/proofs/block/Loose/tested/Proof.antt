@@ -1,13 +1,15 @@
 -- `tested` asks the allocator, and hands the block on.
-use Rattle.mem_blocks.proofs.Walks.{◌≡◌, ℕ, [], ◌∷◌, length, vunit, sym, refl, Ty, a_type, dcons, dnil, named, ty_ptr, Val, vptr, inst_fn, bare, SProp, Lft, Share, Fml, ftrue, fsep, flft, Incl-trans, ‵, raw, ◌⊛◌, later, given, learn, ◌$◌, ◌∵◌, !, qed, by, move, keep, use1, use3, split, join, fsplit, fsplit3, fjoin, fjoin3, await, rewrite, stop, fld, of_opd, no_more, and_then, returns, enter, alloc_all, pass_all, free_all, look_at, get, get_in, sets, lands_as, agg, sub, all_of_it, tables, fact, ◌⊑◌, yes, no, RattleType, owns, types_at, plain, Ptr, Testable, heard, param, bounded, RefOf, shr_vals, shr_Tells, Tuple, calls_at, Stays, stay_dropped, walk_of, Goes-dropped, Good-round, proved, leaves, fm, Block, alive_at, edge, rim, block_owns, block_ty, SLOTS, ptr_good, blank_val, place_val, blank_told, place_told, tells, blank, spends}
+use Rattle.mem_blocks.proofs.Walks.{◌≡◌, ℕ, [], ◌∷◌, length, vunit, sym, refl, Ty, a_type, dcons, dnil, named, ty_ptr, Val, vptr, inst_fn, bare, SProp, Lft, Share, Fml, ftrue, fsep, flft, Incl-trans, ‵, raw, ◌⊛◌, later, given, learn, ◌$◌}
+use Rattle.mem_blocks.proofs.Walks.{◌∵◌, !, qed, by, move, keep, use1, use3, split, join, fsplit, fsplit3, fjoin, fjoin3, await, rewrite, stop, fld, of_opd, no_more, and_then, returns, enter, alloc_all, pass_all, free_all, look_at, get}
+use Rattle.mem_blocks.proofs.Walks.{get_in, sets, lands_as, agg, sub, all_of_it, tables, fact, ◌⊑◌, yes, no, RattleType, owns, types_at, plain, Ptr, Testable, heard, param, bounded, RefOf, shr_vals, shr_Tells, Tuple, calls_at, Stays}
+use Rattle.mem_blocks.proofs.Walks.{stay_dropped, walk_of, Goes-dropped, Good-round, proved, leaves, fm, Block, alive_at, edge, rim, block_owns, block_ty, SLOTS, ptr_good, blank_val, place_val, blank_told, place_told, tells, blank, spends}
 use Rattle.mem_blocks.specs.contracts.block.BlockPtr as link
 use Rattle.mem_blocks.specs.contracts.block.Loose as loose
 use denote.Triple.Statement.{Contract}
 use Rattle.std.proofs.alloc.Calls.{Al}
 use Rattle.mem_blocks.proofs.Tests as tests
 use Rattle.mem_blocks.proofs.Rooms as parts
-use Rattle.mem_blocks.specs.contracts.block.Loose.tested.{ended, clauses}
-use Rattle.mem_blocks.specs.contracts.block.Loose.tested.Key.{name as #self}
+use Rattle.mem_blocks.specs.contracts.block.Loose.tested.{ended, clauses, Key.name as #self}
 use Rattle.mem_blocks.proofs.block.Loose.tested.Statement.{statement}
 use Rattle.mem_blocks.proofs.block.Loose.tested.Code as code
 

@@ -2,18 +2,11 @@
 use mathlib.Core.List.{[], ◌∷◌, ◌++◌}
 use base.Fml.{Incl-trans}
 use contract.BorrowLft.{meet_⊑_left}
-use denote.RattleType.{RattleType}
-use denote.Param.Laws.{Laws}
-use denote.Param.Shared.{copy_shared}
-use denote.Shares.{Shares-less}
-use denote.Struct.Laws.{field_copy}
-use denote.Struct.Lending.{of_Lends}
-use denote.Struct.Tuple.{Tuple}
+use denote.{RattleType.RattleType, Shares.Shares-less, Param.Laws.Laws, Param.Shared.copy_shared, Struct.Laws.field_copy, Struct.Tuple.Tuple, Struct.Lending.of_Lends}
 use Rattle.std.specs.contracts.marker.PhantomData as phantom
 use Rattle.std.specs.declared.alloc.Allocator as Allocator
 use Rattle.mem_blocks.specs.contracts.chain.Chain as chain
-use Rattle.mem_blocks.proofs.chain.Chain.TheLaw.Statement.{statement}
-use Rattle.mem_blocks.proofs.Lent.{chain_laws, lends_chain}
+use Rattle.mem_blocks.proofs.{chain.Chain.TheLaw.Statement.statement, Lent.chain_laws, Lent.lends_chain}
 
 pub shares : (S A : RattleType) (ga : Allocator.Ghosts A.Denot) (LS : Laws S) (LA : Laws A) → statement S A ga LS LA
 shares S A ga LS LA =

@@ -1,10 +1,6 @@
-use denote.RattleType.{RattleType}
-use denote.Param.Send.{IsSync, sendable}
-use denote.Struct.Struct.{Struct}
-use denote.Struct.Owning.{shape}
+use denote.{RattleType.RattleType, Struct.Struct.Struct, Struct.Owning.shape, Param.Send.IsSync, Param.Send.sendable}
 use Rattle.std.specs.declared.alloc.Allocator as Allocator
-use Rattle.mem_blocks.specs.contracts.chain.Chain.{the_row, the_type}
-use Rattle.mem_blocks.proofs.Lent.{chain_common}
+use Rattle.mem_blocks.{specs.contracts.chain.Chain.the_row, specs.contracts.chain.Chain.the_type, proofs.Lent.chain_common}
 
 pub sync : (S A : RattleType) (g : Allocator.Ghosts A.Denot) → IsSync S → IsSync (the_row S A g)
 sync S A g y = let fields : IsSync (Struct (shape (the_type S A g))) = search sendable depth 20 in

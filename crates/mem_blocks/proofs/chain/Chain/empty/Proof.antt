@@ -1,8 +1,8 @@
 -- `empty` makes a chain that owns nothing.
-use Rattle.mem_blocks.proofs.Walks.{◌≡◌, [], ◌∷◌, refl, a_type, dcons, dnil, named, Val, vptr, inst_fn, SProp, ‵, raw, ◌⊛◌, ◌$◌, ◌∵◌, !, qed, by, keep, split, no_more, and_then, returns, enter, alloc_all, pass_all, free_all, look_at, get, sets, env, agg, tables, yes, RattleType, owns, types_at, plain, nothing, param, bounded, RefOf, shr_vals, shr_Tells, Tuple, alive, Stays, stay_dropped, walk_of, Goes-dropped, proved, leaves, blank_val, tells, blank, spends}
+use Rattle.mem_blocks.proofs.Walks.{◌≡◌, [], ◌∷◌, refl, a_type, dcons, dnil, named, Val, vptr, inst_fn, SProp, ‵, raw, ◌⊛◌, ◌$◌, ◌∵◌, !, qed, by, keep, split, no_more, and_then, returns, enter, alloc_all, pass_all, free_all, look_at, get, sets, env, agg}
+use Rattle.mem_blocks.proofs.Walks.{tables, yes, RattleType, owns, types_at, plain, nothing, param, bounded, RefOf, shr_vals, shr_Tells, Tuple, alive, Stays, stay_dropped, walk_of, Goes-dropped, proved, leaves, blank_val, tells, blank, spends}
 use Rattle.mem_blocks.specs.contracts.chain.Chain as chain
-use Rattle.mem_blocks.specs.contracts.chain.Chain.empty.{ended, clauses}
-use Rattle.mem_blocks.specs.contracts.chain.Chain.empty.Key.{name as #self}
+use Rattle.mem_blocks.specs.contracts.chain.Chain.empty.{ended, clauses, Key.name as #self}
 use Rattle.mem_blocks.proofs.chain.Chain.empty.Statement.{statement}
 use Rattle.mem_blocks.proofs.chain.Chain.empty.Code as code
 

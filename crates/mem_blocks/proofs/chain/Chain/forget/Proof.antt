@@ -1,12 +1,11 @@
 -- `forget` takes the blocks that begin the list off it.
-use Rattle.mem_blocks.proofs.Walks.{◌≡◌, ℕ, List, [], ◌∷◌, refl, Ty, a_type, dcons, dnil, named, Val, vunit, vptr, inst_fn, SProp, Fml, ftrue, fsep, flft, ‵, raw, ◌⊛◌, ◌$◌, ◌∵◌, !, qed, by, keep, use1, feq_i, unit_lit, of_opd, returns, enter, alloc_all, pass_all, free_all, look_at, sets, env, tables, fact, RattleType, owns, types_at, plain, Ptr, heard, param, bounded, mut_vals, mut_Tells, Stays, stay_ref, walk_of, Goes-ref, proved, leaves, Block, chain_owns, tells, takes_ref, opens_ref, shuts_ref}
+use Rattle.mem_blocks.proofs.Walks.{◌≡◌, ℕ, List, [], ◌∷◌, refl, Ty, a_type, dcons, dnil, named, Val, vunit, vptr, inst_fn, SProp, Fml, ftrue, fsep, flft, ‵, raw, ◌⊛◌, ◌$◌, ◌∵◌, !, qed, by, keep, use1, feq_i, unit_lit, of_opd, returns, enter, alloc_all, pass_all, free_all}
+use Rattle.mem_blocks.proofs.Walks.{look_at, sets, env, tables, fact, RattleType, owns, types_at, plain, Ptr, heard, param, bounded, mut_vals, mut_Tells, Stays, stay_ref, walk_of, Goes-ref, proved, leaves, Block, chain_owns, tells, takes_ref, opens_ref, shuts_ref}
 use Rattle.std.specs.Prelude.{take, drop}
-use Rattle.mem_blocks.specs.Web.{AllGone}
+use Rattle.mem_blocks.{specs.Web.AllGone, proofs.chain.Chain.forget.Statement.statement}
 use Rattle.mem_blocks.specs.contracts.chain.Chain as chain
 use Rattle.mem_blocks.proofs.Blocks as blocks
-use Rattle.mem_blocks.specs.contracts.chain.Chain.forget.{ended, clauses}
-use Rattle.mem_blocks.specs.contracts.chain.Chain.forget.Key.{name as #self}
-use Rattle.mem_blocks.proofs.chain.Chain.forget.Statement.{statement}
+use Rattle.mem_blocks.specs.contracts.chain.Chain.forget.{ended, clauses, Key.name as #self}
 use Rattle.mem_blocks.proofs.chain.Chain.forget.Code as code
 
 pub forget_spec : {M : Type 1} → statement M

@@ -1,10 +1,11 @@
 -- `lay` puts a block at the end of the chain.
-use Rattle.mem_blocks.proofs.Walks.{◌≡◌, ℕ, List, [], ◌∷◌, ◌++◌, refl, Ty, a_type, dcons, dnil, named, Val, vunit, vptr, inst_fn, SProp, Fml, ftrue, fsep, flft, ‵, raw, ◌⊛◌, ◌$◌, ◌∵◌, !, qed, by, move, keep, use2, split, fsplit, fsplit3, rewrite, feq_i, unit_lit, of_opd, returns, enter, alloc_all, pass_all, free_all, look_at, sets, env, tables, fact, no, RattleType, owns, types_at, plain, Ptr, heard, param, bounded, mut_vals, mut_Tells, Tuple, Stays, stay_dropped, stay_ref, walk_of, Goes-dropped, Goes-ref, proved, leaves, Block, alive_at, block_owns, chain_owns, blank_val, blank_told, tells, opens_ref, shuts_ref}
+use Rattle.mem_blocks.proofs.Walks.{◌≡◌, ℕ, List, [], ◌∷◌, ◌++◌, refl, Ty, a_type, dcons, dnil, named, Val, vunit, vptr, inst_fn, SProp, Fml, ftrue, fsep, flft, ‵, raw, ◌⊛◌, ◌$◌, ◌∵◌, !, qed, by, move, keep, use2, split, fsplit, fsplit3}
+use Rattle.mem_blocks.proofs.Walks.{rewrite, feq_i, unit_lit, of_opd, returns, enter, alloc_all, pass_all, free_all, look_at, sets, env, tables, fact, no, RattleType, owns, types_at, plain, Ptr, heard, param, bounded, mut_vals}
+use Rattle.mem_blocks.proofs.Walks.{mut_Tells, Tuple, Stays, stay_dropped, stay_ref, walk_of, Goes-dropped, Goes-ref, proved, leaves, Block, alive_at, block_owns, chain_owns, blank_val, blank_told, tells, opens_ref, shuts_ref}
 use Rattle.mem_blocks.specs.contracts.block.Loose as loose
 use Rattle.mem_blocks.specs.contracts.chain.Chain as chain
 use Rattle.mem_blocks.proofs.Blocks as blocks
-use Rattle.mem_blocks.specs.contracts.chain.Chain.lay.{ended, clauses}
-use Rattle.mem_blocks.specs.contracts.chain.Chain.lay.Key.{name as #self}
+use Rattle.mem_blocks.specs.contracts.chain.Chain.lay.{ended, clauses, Key.name as #self}
 use Rattle.mem_blocks.proofs.chain.Chain.lay.Statement.{statement}
 use Rattle.mem_blocks.proofs.chain.Chain.lay.Code as code
 

@@ -1,11 +1,12 @@
 -- `lift` takes a block out of the chain.
-use Rattle.mem_blocks.proofs.Walks.{◌≡◌, ℕ, List, [], ◌∷◌, refl, w64, Ty, a_type, dcons, dnil, named, ty_ptr, Val, vint, vptr, inst_fn, SProp, Fml, ftrue, fsep, flft, ‵, raw, ◌⊛◌, ◌$◌, ◌∵◌, !, qed, by, move, keep, use1, split, join, rewrite, no_more, and_then, returns, enter, alloc_all, pass_all, free_all, look_at, get, sets, env, agg, tables, fact, yes, no, RattleType, owns, types_at, plain, Ptr, heard, param, bounded, u64, mut_vals, mut_Tells, uint_vals, uint_Tells, Tuple, Stays, stay_dropped, stay_ref, walk_of, Goes-dropped, Goes-ref, Good-round, proved, leaves, Block, alive_at, block, Lives, without, block_owns, chain_owns, ptr_good, blank_val, place_val, place_told, tells, blank, takes_ref, opens_ref, shuts_ref}
+use Rattle.mem_blocks.proofs.Walks.{◌≡◌, ℕ, List, [], ◌∷◌, refl, w64, Ty, a_type, dcons, dnil, named, ty_ptr, Val, vint, vptr, inst_fn, SProp, Fml, ftrue, fsep, flft, ‵, raw, ◌⊛◌, ◌$◌, ◌∵◌, !, qed, by, move, keep, use1, split, join, rewrite, no_more, and_then, returns}
+use Rattle.mem_blocks.proofs.Walks.{enter, alloc_all, pass_all, free_all, look_at, get, sets, env, agg, tables, fact, yes, no, RattleType, owns, types_at, plain, Ptr, heard, param, bounded, u64, mut_vals, mut_Tells, uint_vals, uint_Tells, Tuple, Stays, stay_dropped}
+use Rattle.mem_blocks.proofs.Walks.{stay_ref, walk_of, Goes-dropped, Goes-ref, Good-round, proved, leaves, Block, alive_at, block, Lives, without, block_owns, chain_owns, ptr_good, blank_val, place_val, place_told, tells, blank, takes_ref, opens_ref, shuts_ref}
 use Rattle.mem_blocks.specs.contracts.block.BlockPtr as link
 use Rattle.mem_blocks.specs.contracts.block.Loose as loose
 use Rattle.mem_blocks.specs.contracts.chain.Chain as chain
 use Rattle.mem_blocks.proofs.Blocks as blocks
-use Rattle.mem_blocks.specs.contracts.chain.Chain.lift.{ended, clauses}
-use Rattle.mem_blocks.specs.contracts.chain.Chain.lift.Key.{name as #self}
+use Rattle.mem_blocks.specs.contracts.chain.Chain.lift.{ended, clauses, Key.name as #self}
 use Rattle.mem_blocks.proofs.chain.Chain.lift.Statement.{statement}
 use Rattle.mem_blocks.proofs.chain.Chain.lift.Code as code
 

@@ -1,13 +1,13 @@
 -- `next` reads the link of a block.
-use Rattle.mem_blocks.proofs.Walks.{◌≡◌, ℕ, ◌+◌, List, [], ◌∷◌, refl, w64, a_type, dcons, dnil, named, ty_ptr, Val, vint, vptr, inst_fn, SProp, Fml, ftrue, fsep, flft, ‵, raw, ◌⊛◌, at_ret, ◌$◌, ◌∵◌, !, qed, by, move, keep, drop, use0, use1, split, join, fsplit, stop, from, fld, hop, load, of_opd, no_more, and_then, first, blocks, exec, returns, look, alloc_all, pass_all, free_all, look_at, look_in_at, get, sets, sets_last, env, agg, sub, all_of_it, shr_bor-open, obor_close, tables, fact, yes, no, RattleType, owns, types_at, plain, Ptr, block_of, count_of, InBlock, unhide, heard, param, bounded, RefOf, u64, shr_vals, shr_Tells, uint_vals, uint_Tells, Stays, stay_dropped, walk_of, Goes-dropped, Good-round, proved, leaves, Block, block, Lives, after, ptr_good, place_val, place_told, place_made, tells, spends, enters_at}
+use Rattle.mem_blocks.proofs.Walks.{◌≡◌, ℕ, ◌+◌, List, [], ◌∷◌, refl, w64, a_type, dcons, dnil, named, ty_ptr, Val, vint, vptr, inst_fn, SProp, Fml, ftrue, fsep, flft, ‵, raw, ◌⊛◌, at_ret, ◌$◌, ◌∵◌, !, qed, by, move, keep, drop, use0}
+use Rattle.mem_blocks.proofs.Walks.{use1, split, join, fsplit, stop, from, fld, hop, load, of_opd, no_more, and_then, first, blocks, exec, returns, look, alloc_all, pass_all, free_all, look_at, look_in_at, get, sets, sets_last, env, agg}
+use Rattle.mem_blocks.proofs.Walks.{sub, all_of_it, shr_bor-open, obor_close, tables, fact, yes, no, RattleType, owns, types_at, plain, Ptr, block_of, count_of, InBlock, unhide, heard, param, bounded, RefOf, u64, shr_vals, shr_Tells}
+use Rattle.mem_blocks.proofs.Walks.{uint_vals, uint_Tells, Stays, stay_dropped, walk_of, Goes-dropped, Good-round, proved, leaves, Block, block, Lives, after, ptr_good, place_val, place_told, place_made, tells, spends, enters_at}
 use denote.Sharing.{one}
 use Rattle.mem_blocks.specs.contracts.block.BlockPtr as link
 use Rattle.mem_blocks.specs.contracts.chain.Chain as chain
-use Rattle.mem_blocks.specs.Lent.{link_part}
-use Rattle.mem_blocks.proofs.Lent.{link_halves, link_seen}
-use Rattle.mem_blocks.specs.contracts.chain.Chain.next.{ended, clauses}
-use Rattle.mem_blocks.specs.contracts.chain.Chain.next.Key.{name as #self}
-use Rattle.mem_blocks.proofs.chain.Chain.next.Statement.{statement}
+use Rattle.mem_blocks.{specs.Lent.link_part, proofs.Lent.link_halves, proofs.Lent.link_seen, proofs.chain.Chain.next.Statement.statement}
+use Rattle.mem_blocks.specs.contracts.chain.Chain.next.{ended, clauses, Key.name as #self}
 use Rattle.mem_blocks.proofs.chain.Chain.next.Code as code
 
 pub next_spec : {M : Type 1} → statement M

@@ -1,10 +1,12 @@
 -- `set_next` writes the link of a block.
-use Rattle.mem_blocks.proofs.Walks.{◌≡◌, ℕ, ◌+◌, List, [], ◌∷◌, refl, w64, Ty, a_type, dcons, dnil, named, ty_ptr, Val, vunit, vint, vptr, inst_fn, SProp, all, Fml, ftrue, fsep, flft, ‵, raw, ◌⊛◌, at_ret, ◌$◌, ◌∵◌, !, qed, by, keep, use1, split, feq_i, stop, from, fld, hop, unit_lit, of_opd, first, blocks, exec, returns, assigns_last, store, alloc_all, pass_all, free_all, look_at, look_in_at, get_in, sets, env, sub, all_of_it, tables, fact, yes, no, RattleType, owns, types_at, plain, Ptr, block_of, count_of, InBlock, heard, param, bounded, u64, mut_vals, mut_Tells, uint_vals, uint_Tells, Stays, stay_dropped, stay_ref, walk_of, Goes-dropped, Goes-ref, cell, Good-round, proved, leaves, Block, block, Lives, with_next, chain_owns, after, ptr_good, place_val, place_told, tells, takes_ref, puts_back, opens_ref, shuts_ref, enters_at}
+use Rattle.mem_blocks.proofs.Walks.{◌≡◌, ℕ, ◌+◌, List, [], ◌∷◌, refl, w64, Ty, a_type, dcons, dnil, named, ty_ptr, Val, vunit, vint, vptr, inst_fn, SProp, all, Fml, ftrue, fsep, flft, ‵, raw, ◌⊛◌, at_ret, ◌$◌, ◌∵◌, !, qed, by, keep, use1}
+use Rattle.mem_blocks.proofs.Walks.{split, feq_i, stop, from, fld, hop, unit_lit, of_opd, first, blocks, exec, returns, assigns_last, store, alloc_all, pass_all, free_all, look_at, look_in_at, get_in, sets, env, sub, all_of_it, tables}
+use Rattle.mem_blocks.proofs.Walks.{fact, yes, no, RattleType, owns, types_at, plain, Ptr, block_of, count_of, InBlock, heard, param, bounded, u64, mut_vals, mut_Tells, uint_vals, uint_Tells, Stays, stay_dropped, stay_ref, walk_of}
+use Rattle.mem_blocks.proofs.Walks.{Goes-dropped, Goes-ref, cell, Good-round, proved, leaves, Block, block, Lives, with_next, chain_owns, after, ptr_good, place_val, place_told, tells, takes_ref, puts_back, opens_ref, shuts_ref, enters_at}
 use Rattle.mem_blocks.specs.contracts.block.BlockPtr as link
 use Rattle.mem_blocks.specs.contracts.chain.Chain as chain
 use Rattle.mem_blocks.proofs.Blocks as blocks
-use Rattle.mem_blocks.specs.contracts.chain.Chain.set_next.{ended, clauses}
-use Rattle.mem_blocks.specs.contracts.chain.Chain.set_next.Key.{name as #self}
+use Rattle.mem_blocks.specs.contracts.chain.Chain.set_next.{ended, clauses, Key.name as #self}
 use Rattle.mem_blocks.proofs.chain.Chain.set_next.Statement.{statement}
 use Rattle.mem_blocks.proofs.chain.Chain.set_next.Code as code
 
@@ -22,7 +24,9 @@ set_next_spec 𝓤 𝓛 𝓜 𝓡 wired S A L _ ga da dd _ _ =
     let e : ℕ = count_of p + 0 in let b : ℕ = block_of p in let Told : Type 0 = (h.heap ≡ h.heap) × (h'.blocks ≡ h'.blocks) in let Again = blocks.Relinked 𝓛 R token bs k p in
     qed 𝓛 (((‵ (flft κs.0 qs.0) ⊛ ‵ others) ⊛ ‵ (owns (types_at goal.signature.params κs) a y.0.4)) ∷ raw (fact 𝓤 _) ∷ raw (fact 𝓤 _) ∷ raw (fact 𝓤 Asked) ∷ []) ∵
     keep ! (3 ∷ 0 ∷ []) $ heard ! Asked (λ asked. takes_ref ! $
-    enters_at ! p asked.0 𝓣.C 𝓣.Λ mir (λ u. vptr a.0.ref_ptr.0 a.0.ref_ptr.1 ∷ vint w64 a.1.0 ∷ place_val u ∷ place_val a.1.1.1.0.ptr ∷ []) Post $ alloc_all ! (λ l. pass_all ! refl ((tt, tt), ((tt, record { fits = are.1.0.1 }), ((tt, (tt, tt)), ((Good-round [] ty_ptr _ (ptr_good a.1.1.1.0.ptr)), tt)))) $ let locals = env mir.locals l in
+    enters_at ! p asked.0 𝓣.C 𝓣.Λ mir (λ u. vptr a.0.ref_ptr.0 a.0.ref_ptr.1 ∷ vint w64 a.1.0 ∷ place_val u ∷ place_val a.1.1.1.0.ptr ∷ []) Post $
+    alloc_all ! (λ l. pass_all ! refl ((tt, tt), ((tt, record { fits = are.1.0.1 }), ((tt, (tt, tt)), ((Good-round [] ty_ptr _ (ptr_good a.1.1.1.0.ptr)), tt)))) $
+    let locals = env mir.locals l in
     opens_ref ! tt Chain h b' o' (λ ts. refl) (λ ts. use1 𝓛 (‵ (cell b e (block bs k).next) ⊛ raw (all 𝓤 Again)) (blocks.link_at 𝓛 R token bs k p asked.1) $ split ! $ first ! $ blocks ! $
     assigns_last ! (of_opd ! (get_in ! (fld ! refl (stop !)) (sub ! 0 refl (all_of_it !)))) (from ! (fld ! refl (hop ! (look_in_at ! 3 (sub ! 0 refl (all_of_it !))) (fld ! refl (stop !))))) (store ! 0 refl (ptr_good n)) $
     exec ! 𝓣.C 𝓣.Λ locals (after 1 mir.body) (at_ret locals Post) $ sets ! (of_opd ! (unit_lit !)) refl (tt, tt) $ puts_back ! (cell b e) (λ x. chain_owns R token (with_next bs k x)) n $ shuts_ref ! tt Chain h' ts b' o' 3 refl refl $

@@ -1,12 +1,13 @@
 -- `share` begins the web's lifetime, and lends the blocks to its invariant.
-use Rattle.mem_blocks.proofs.Walks.{◌≡◌, List, [], ◌∷◌, refl, None, Ty, a_type, dcons, dnil, named, Val, vptr, vstruct, vcons, vnil, inst_fn, Coded, SProp, Fml, ‵, raw, ◌⊛◌, some, later, ◌$◌, ◌∵◌, !, qed, by, move, keep, drop, use1, split, join, fsplit, fjoin, fjoin3, fpack, pick, await, feq_i, no_more, and_then, returns, enter, alloc_all, pass_all, free_all, look_at, get, sets, env, agg, tables, fact, yes, no, RattleType, Valss, owns, types_at, plain, Ptr, RawPtr, nothing, heard, param, bounded, RefOf, shr_vals, shr_Tells, within, Tuple, tuple_type, alive, Stays, stay_dropped, walk_of, Goes-dropped, proved, leaves, Block, sitter, WebId, seat_owns, web_owns, blank_val, blank_told, tells, blank, spends}
+use Rattle.mem_blocks.proofs.Walks.{◌≡◌, List, [], ◌∷◌, refl, None, Ty, a_type, dcons, dnil, named, Val, vptr, vstruct, vcons, vnil, inst_fn, Coded, SProp, Fml, ‵, raw, ◌⊛◌, some, later, ◌$◌, ◌∵◌, !, qed, by, move, keep, drop, use1, split, join, fsplit, fjoin}
+use Rattle.mem_blocks.proofs.Walks.{fjoin3, fpack, pick, await, feq_i, no_more, and_then, returns, enter, alloc_all, pass_all, free_all, look_at, get, sets, env, agg, tables, fact, yes, no, RattleType, Valss, owns, types_at, plain, Ptr, RawPtr, nothing, heard, param}
+use Rattle.mem_blocks.proofs.Walks.{bounded, RefOf, shr_vals, shr_Tells, within, Tuple, tuple_type, alive, Stays, stay_dropped, walk_of, Goes-dropped, proved, leaves, Block, sitter, WebId, seat_owns, web_owns, blank_val, blank_told, tells, blank, spends}
 use denote.Struct.Declared as declared
 use Rattle.mem_blocks.specs.contracts.web.Web as web
 use Rattle.mem_blocks.specs.contracts.web.Seat as seat
 use Rattle.mem_blocks.specs.contracts.chain.Chain as chain
 use Rattle.mem_blocks.proofs.Moves as moves
-use Rattle.mem_blocks.specs.contracts.chain.Chain.share.{ended, clauses}
-use Rattle.mem_blocks.specs.contracts.chain.Chain.share.Key.{name as #self}
+use Rattle.mem_blocks.specs.contracts.chain.Chain.share.{ended, clauses, Key.name as #self}
 use Rattle.mem_blocks.proofs.chain.Chain.share.Statement.{statement}
 use Rattle.mem_blocks.proofs.chain.Chain.share.Code as code
 

@@ -1,10 +1,12 @@
 -- `take` reads a full slot of a block.
-use Rattle.mem_blocks.proofs.Walks.{◌≡◌, ℕ, ◌+◌, ◌*◌, ◌^◌, ◌<◌, ◌≤◌, List, [], ◌∷◌, sym, refl, ap, subst, arith, w64, Some, mul-le-mul_right, Ty, a_type, dcons, dnil, named, Val, vint, vptr, inst_fn, bare, SProp, all, Fml, ftrue, fsep, froom, flft, ‵, raw, ◌⊛◌, given, at_ret, ◌$◌, ◌∵◌, !, qed, by, move, keep, use1, use2, split, join, learn, stop, fld, load, addr, size_word, of_opd, bin, first, blocks, exec, returns, look_raw, alloc_all, pass_all, free_all, look_at, get, get_in, through, sets, sets_last, is, env, sub, all_of_it, tables, fact, yes, no, RattleType, owns, types_at, plain, mem, Ptr, block_of, count_of, InBlock, heard, param, bounded, layout, param_laws, u64, usize, mut_vals, mut_Tells, uint_vals, uint_Tells, Member, Stays, stay_dropped, stay_ref, walk_of, Goes-dropped, Goes-ref, spread, proved, leaves, Block, vacant, Lives, Rests, with_home, slots_at, content_owns, chain_owns, SLOTS, after, place_val, place_told, full_product, tells, takes_ref, opens_ref, shuts_ref, enters_at}
+use Rattle.mem_blocks.proofs.Walks.{◌≡◌, ℕ, ◌+◌, ◌*◌, ◌^◌, ◌<◌, ◌≤◌, List, [], ◌∷◌, sym, refl, ap, subst, arith, w64, Some, mul-le-mul_right, Ty, a_type, dcons, dnil, named, Val, vint, vptr, inst_fn, bare, SProp, all, Fml, ftrue, fsep, froom, flft, ‵, raw, ◌⊛◌, given, at_ret, ◌$◌}
+use Rattle.mem_blocks.proofs.Walks.{◌∵◌, !, qed, by, move, keep, use1, use2, split, join, learn, stop, fld, load, addr, size_word, of_opd, bin, first, blocks, exec, returns, look_raw, alloc_all, pass_all, free_all, look_at, get, get_in, through, sets, sets_last, is, env, sub}
+use Rattle.mem_blocks.proofs.Walks.{all_of_it, tables, fact, yes, no, RattleType, owns, types_at, plain, mem, Ptr, block_of, count_of, InBlock, heard, param, bounded, layout, param_laws, u64, usize, mut_vals, mut_Tells, uint_vals, uint_Tells, Member, Stays, stay_dropped, stay_ref}
+use Rattle.mem_blocks.proofs.Walks.{walk_of, Goes-dropped, Goes-ref, spread, proved, leaves, Block, vacant, Lives, Rests, with_home, slots_at, content_owns, chain_owns, SLOTS, after, place_val, place_told, full_product, tells, takes_ref, opens_ref, shuts_ref, enters_at}
 use Rattle.mem_blocks.specs.contracts.block.BlockPtr as link
 use Rattle.mem_blocks.specs.contracts.chain.Chain as chain
 use Rattle.mem_blocks.proofs.Blocks as blocks
-use Rattle.mem_blocks.specs.contracts.chain.Chain.take.{ended, clauses}
-use Rattle.mem_blocks.specs.contracts.chain.Chain.take.Key.{name as #self}
+use Rattle.mem_blocks.specs.contracts.chain.Chain.take.{ended, clauses, Key.name as #self}
 use Rattle.mem_blocks.proofs.chain.Chain.take.Statement.{statement}
 use Rattle.mem_blocks.proofs.chain.Chain.take.Code as code
 
@@ -23,7 +25,8 @@ take_spec 𝓤 𝓛 𝓜 𝓡 wired S A L _ ga da dd _ _ =
     let sz : ℕ = (mem R).size in let b : ℕ = block_of p in let e : ℕ = j * sz + slots_at R (count_of p) in let h' : Chain.Denot = record { marker = h.marker; heap = h.heap; blocks = with_home bs k j vacant } in let Told : Type 0 = (h.heap ≡ h.heap) × (h'.blocks ≡ h'.blocks) in
     qed 𝓛 (((‵ (flft κs.0 qs.0) ⊛ ‵ others) ⊛ ‵ (owns (types_at goal.signature.params κs) a y.0.4)) ∷ raw (fact 𝓤 _) ∷ raw (fact 𝓤 _) ∷ raw (fact 𝓤 Asked) ∷ []) ∵
     keep ! (3 ∷ 0 ∷ []) $ heard ! Asked (λ asked. let x : S.Denot = asked.2.0 in takes_ref ! $
-    enters_at ! p asked.0 𝓣.C 𝓣.Λ mir (λ u. vptr a.0.ref_ptr.0 a.0.ref_ptr.1 ∷ vint w64 a.1.0 ∷ place_val u ∷ vint w64 a.1.1.1.0 ∷ []) Post $ alloc_all ! (λ l. pass_all ! refl ((tt, tt), ((tt, record { fits = are.1.0.1 }), ((tt, (tt, tt)), ((tt, record { fits = are.1.1.1.0.1 }), tt)))) $ let locals = env mir.locals l in
+    enters_at ! p asked.0 𝓣.C 𝓣.Λ mir (λ u. vptr a.0.ref_ptr.0 a.0.ref_ptr.1 ∷ vint w64 a.1.0 ∷ place_val u ∷ vint w64 a.1.1.1.0 ∷ []) Post $ alloc_all ! (λ l.
+    pass_all ! refl ((tt, tt), ((tt, record { fits = are.1.0.1 }), ((tt, (tt, tt)), ((tt, record { fits = are.1.1.1.0.1 }), tt)))) $ let locals = env mir.locals l in
     opens_ref ! tt Chain h b' o' (λ ts. refl) (λ ts. use1 𝓛 (given (blocks.Placed 𝓛 R token p j) (‵ (content_owns R (Some x) b e) ⊛ raw (all 𝓤 (blocks.Rehome 𝓛 R token bs k p j)))) (blocks.content_at 𝓛 R token bs k p j (Some x) asked.1 asked.2.1) $ learn ! (λ at. split ! $
     let near : j < SLOTS = at.2 in let less : j * sz ≤ SLOTS * sz = mul-le-mul_right sz (omega arith) in let tiny : sz < 2 ^ 31 = at.1 in let small : j * sz < 2 ^ 64 = omega arith in spread v ! lawful x b e (λ w good. first ! $ blocks ! $
     sets ! (of_opd ! (get_in ! (fld ! refl (stop !)) (sub ! 0 refl (all_of_it !)))) refl (tt, tt) $ sets ! (addr ! (through ! refl (fld ! refl (stop !)))) refl (tt, tt) $

@@ -1,12 +1,14 @@
 -- `free` puts the parts of both ends together, and gives the room back.
-use Rattle.mem_blocks.proofs.Walks.{◌≡◌, ℕ, List, [], ◌∷◌, sym, refl, subst, lit<, w64, Ty, a_type, dcons, dnil, named, ty_unit, Val, vunit, vint, vptr, has_ty, WT, inst_fn, bare, SProp, Lft, Share, Fml, ftrue, fsep, froom, flft, Incl-trans, align, ‵, raw, ◌⊛◌, given, later, at_ret, ◌$◌, ◌∵◌, !, qed, by, move, keep, drop, use1, use3, split, join, fsplit, fsplit3, fjoin, fpick, fpack, learn, await, rewrite, feq_i, stop, fld, lit, unit_lit, of_opd, no_more, and_then, first, blocks, exec, returns, alloc_all, pass_all, free_all, look_at, get, get_in, sets, lands_last, env, sub, all_of_it, tables, fact, ◌⊑◌, yes, no, RattleType, owns, types_at, plain, Ptr, block_ptr, block_of, count_of, at_block, nothing, heard, param, bounded, RefOf, usize, shr_vals, shr_Tells, uint_vals, uint_Tells, Tuple, calls_at_last, Stays, stay_dropped, walk_of, Goes-dropped, proved, leaves, fm, Block, alive_at, Sized, hub_ty, hub_rim, head_of, hub_size, block_owns, after, blank_val, place_val, blank_told, place_told, spends, enters_at}
+use Rattle.mem_blocks.proofs.Walks.{◌≡◌, ℕ, List, [], ◌∷◌, sym, refl, subst, lit<, w64, Ty, a_type, dcons, dnil, named, ty_unit, Val, vunit, vint, vptr, has_ty, WT, inst_fn, bare, SProp, Lft, Share, Fml, ftrue, fsep, froom, flft, Incl-trans, align, ‵, raw, ◌⊛◌, given, later, at_ret}
+use Rattle.mem_blocks.proofs.Walks.{◌$◌, ◌∵◌, !, qed, by, move, keep, drop, use1, use3, split, join, fsplit, fsplit3, fjoin, fpick, fpack, learn, await, rewrite, feq_i, stop, fld, lit, unit_lit, of_opd, no_more, and_then, first, blocks, exec, returns, alloc_all, pass_all, free_all}
+use Rattle.mem_blocks.proofs.Walks.{look_at, get, get_in, sets, lands_last, env, sub, all_of_it, tables, fact, ◌⊑◌, yes, no, RattleType, owns, types_at, plain, Ptr, block_ptr, block_of, count_of, at_block, nothing, heard, param, bounded, RefOf, usize, shr_vals, shr_Tells, uint_vals}
+use Rattle.mem_blocks.proofs.Walks.{uint_Tells, Tuple, calls_at_last, Stays, stay_dropped, walk_of, Goes-dropped, proved, leaves, fm, Block, alive_at, Sized, hub_ty, hub_rim, head_of, hub_size, block_owns, after, blank_val, place_val, blank_told, place_told, spends, enters_at}
 use Rattle.std.proofs.alloc.Calls.{Al as Handle, at_gives, Gives, Gives-goes, Gives-Gives}
 use Rattle.mem_blocks.specs.contracts.block.BlockPtr as link
 use Rattle.mem_blocks.specs.contracts.block.Loose as loose
 use Rattle.mem_blocks.specs.contracts.hub.Hub as hub
 use Rattle.mem_blocks.proofs.Rooms as parts
-use Rattle.mem_blocks.specs.contracts.hub.Hub.free.{ended, clauses}
-use Rattle.mem_blocks.specs.contracts.hub.Hub.free.Key.{name as #self}
+use Rattle.mem_blocks.specs.contracts.hub.Hub.free.{ended, clauses, Key.name as #self}
 use Rattle.mem_blocks.proofs.hub.Hub.free.Statement.{statement}
 use Rattle.mem_blocks.proofs.hub.Hub.free.Code as code
 
@@ -14,14 +16,34 @@ pub free_spec : {M : Type 1} → statement M
 free_spec 𝓤 𝓛 𝓜 𝓡 wired S A L LA ga da dd met _ =
     let H = 𝓛.H in let 𝓣 = tables 𝓤 H 𝓜 𝓡 𝓡.env in let R : RattleType = param 0 S in let Z : RattleType = param 1 A in let BlockPtr : RattleType = link.the_row R in let Loose : RattleType = loose.the_row R Z ga in let Hub : RattleType = hub.the_row R Z ga in
     let goal = ended S A ga da dd in let c = clauses S A ga da dd 𝓛 𝓜.mem 𝓡.returns in let at_types = bounded (a_type ∷ a_type ∷ []) (S, (A, tt)) (dcons da (dcons dd dnil)) in let mir = inst_fn at_types code.function in
-    let kept_of : Stays goal.signature.params goal.kept = (stay_dropped (plain (λ _. Hub)) no, (stay_dropped (RefOf (0 ∷ []) tt (plain (λ _. Z)) (λ _. tt)) yes, (stay_dropped (plain (λ _. BlockPtr)) no, (stay_dropped (plain (λ _. Loose)) no, (stay_dropped (plain (λ _. Loose)) no, (stay_dropped (plain (λ _. usize)) yes, tt)))))) in
-    proved 𝓛 goal kept_of c 𝓜 𝓡 (Goes-dropped 𝓛 3 (plain (λ _. Hub)) no (λ κs x f. refl), (Goes-dropped 𝓛 3 (RefOf (0 ∷ []) tt (plain (λ _. Z)) (λ _. tt)) yes (λ κs x f. refl), (Goes-dropped 𝓛 3 (plain (λ _. BlockPtr)) no (λ κs x f. refl), (Goes-dropped 𝓛 3 (plain (λ _. Loose)) no (λ κs x f. refl), (Goes-dropped 𝓛 3 (plain (λ _. Loose)) no (λ κs x f. refl), (Goes-dropped 𝓛 3 (plain (λ _. usize)) yes (λ κs x f. refl), tt)))))) (#self at_types) mir
+    let kept_of : Stays goal.signature.params goal.kept = (
+      stay_dropped (plain (λ _. Hub)) no,
+      (
+        stay_dropped (RefOf (0 ∷ []) tt (plain (λ _. Z)) (λ _. tt)) yes,
+        (stay_dropped (plain (λ _. BlockPtr)) no, (stay_dropped (plain (λ _. Loose)) no, (stay_dropped (plain (λ _. Loose)) no, (stay_dropped (plain (λ _. usize)) yes, tt)))),
+      ),
+    ) in
+    proved 𝓛 goal kept_of c 𝓜 𝓡 (
+      Goes-dropped 𝓛 3 (plain (λ _. Hub)) no (λ κs x f. refl),
+      (
+        Goes-dropped 𝓛 3 (RefOf (0 ∷ []) tt (plain (λ _. Z)) (λ _. tt)) yes (λ κs x f. refl),
+        (
+          Goes-dropped 𝓛 3 (plain (λ _. BlockPtr)) no (λ κs x f. refl),
+          (Goes-dropped 𝓛 3 (plain (λ _. Loose)) no (λ κs x f. refl), (Goes-dropped 𝓛 3 (plain (λ _. Loose)) no (λ κs x f. refl), (Goes-dropped 𝓛 3 (plain (λ _. usize)) yes (λ κs x f. refl), tt))),
+        ),
+      ),
+    ) (#self at_types) mir
     (code.unfolded 𝓤 H 𝓜 𝓡 wired (S, (A, tt)) da dd) (λ κs. ((λ _. blank_val ∷ []), (shr_vals, ((λ x. place_val x.ptr ∷ []), ((λ _. blank_val ∷ []), ((λ _. blank_val ∷ []), (uint_vals w64, tt)))))))
     (λ κs. ((λ x vs so. blank_told (Tuple (R ∷ Z ∷ [])) vs so.0), (shr_Tells (named 0) κs.0 Z, (place_told R, ((λ x vs so. blank_told (Tuple (R ∷ Z ∷ [])) vs so.0), ((λ x vs so. blank_told (Tuple (R ∷ Z ∷ [])) vs so.0), (uint_Tells w64, tt))))))) (λ κs qs bounds a ghost are.
-    let y : (walk_of 𝓛 goal kept_of c).Ghost = ((κs, qs, bounds, a, (blank_val ∷ [], (vptr a.1.0.ref_ptr.0 a.1.0.ref_ptr.1 ∷ [], (place_val a.1.1.0.ptr ∷ [], (blank_val ∷ [], (blank_val ∷ [], (vint w64 a.1.1.1.1.1.0 ∷ [], tt))))))), ghost) in let Post : Val → SProp 𝓤 = (walk_of 𝓛 goal kept_of c).post y in
+    let y : (walk_of 𝓛 goal kept_of c).Ghost =
+    ((κs, qs, bounds, a, (blank_val ∷ [], (vptr a.1.0.ref_ptr.0 a.1.0.ref_ptr.1 ∷ [], (place_val a.1.1.0.ptr ∷ [], (blank_val ∷ [], (blank_val ∷ [], (vint w64 a.1.1.1.1.1.0 ∷ [], tt))))))), ghost) in
+    let Post : Val → SProp 𝓤 = (walk_of 𝓛 goal kept_of c).post y in
     let handle_of : Handle = record { row = A; laws = LA; g = ga; d = da; drops = dd } in let τ : Ty = hub_ty in let n : ℕ = a.1.1.1.1.1.0 in let al : ℕ = align τ in
-    let h : Hub.Denot = a.0 in let place : ℕ × ℕ = a.1.0.ref_ptr in let heap : A.Denot = a.1.0.now in let p : Ptr = a.1.1.0.ptr in let t₁ : Loose.Denot = a.1.1.1.0 in let t₂ : Loose.Denot = a.1.1.1.1.0 in let κ : Lft = κs.0 in let q : Share = qs.0 in let token : Ty → Ptr → Fml = ga.dealloc_token heap in
-    let others : Fml = fsep (flft κs.1.0 qs.1.0) (fsep (flft κs.1.1.0 qs.1.1.0) (ftrue)) in let Asked : Type 0 = (h.heap ≡ heap) × (t₁.heap ≡ heap) × (t₂.heap ≡ heap) × (h.at ≡ p) × (t₁.at ≡ p) × (t₂.at ≡ head_of p) × (n ≡ hub_size) in let b : ℕ = block_of p in let o : ℕ = count_of p in let p' : Ptr = block_ptr b o in
+    let h : Hub.Denot = a.0 in let place : ℕ × ℕ = a.1.0.ref_ptr in let heap : A.Denot = a.1.0.now in let p : Ptr = a.1.1.0.ptr in let t₁ : Loose.Denot = a.1.1.1.0 in
+    let t₂ : Loose.Denot = a.1.1.1.1.0 in let κ : Lft = κs.0 in let q : Share = qs.0 in let token : Ty → Ptr → Fml = ga.dealloc_token heap in
+    let others : Fml = fsep (flft κs.1.0 qs.1.0) (fsep (flft κs.1.1.0 qs.1.1.0) (ftrue)) in
+    let Asked : Type 0 = (h.heap ≡ heap) × (t₁.heap ≡ heap) × (t₂.heap ≡ heap) × (h.at ≡ p) × (t₁.at ≡ p) × (t₂.at ≡ head_of p) × (n ≡ hub_size) in
+    let b : ℕ = block_of p in let o : ℕ = count_of p in let p' : Ptr = block_ptr b o in
     let x : Ptr → Block S.Denot = λ u. alive_at u t₁.next t₁.words t₁.homes in let z : Ptr → Block S.Denot = λ u. alive_at u t₂.next t₂.words t₂.homes in let us : Ptr → List Val = λ u. blank_val ∷ vptr place.0 place.1 ∷ place_val u ∷ blank_val ∷ blank_val ∷ vint w64 n ∷ [] in
     qed 𝓛 (((‵ (flft κ q) ⊛ ‵ others) ⊛ ‵ (owns (types_at goal.signature.params κs) a y.0.4)) ∷ raw (fact 𝓤 _) ∷ raw (fact 𝓤 (κs.1.1.0 ⊑ A.lives)) ∷ raw (fact 𝓤 Asked) ∷ []) ∵
     keep ! (2 ∷ 3 ∷ 0 ∷ []) $ heard ! (κs.1.1.0 ⊑ A.lives) (λ inside. heard ! Asked (λ asked. split ! $ split ! $ move ! (2 ∷ []) $ fsplit3 ! $ fsplit ! $ move ! (2 ∷ []) $ fsplit ! $ keep ! (3 ∷ 1 ∷ 4 ∷ 5 ∷ 6 ∷ []) $

@@ -1,10 +1,9 @@
 -- The right to free a block of the usual allocator shows that its place is the start of a block.
-use Rattle.mem_blocks.proofs.Walks.{List, [], ◌∷◌, refl, named, Val, vunit, vptr, guard_i, Fml, sem, ‵, raw, ◌⊛◌, given, ◌$◌, ◌∵◌, !, qed, by, move, keep, use1, split, join, learn, feq_i, unit_lit, of_opd, returns, enter, alloc_all, pass_all, free_all, look_at, sets, tables, fact_use, yes, owns, types_at, plain, Ptr, RawPtr, ptr_val, Testable, rawptr_vals, rawptr_Tells, RefOf, shr_vals, shr_Tells, alive, Stays, stay_dropped, walk_of, Goes-dropped, proved, leaves, ptr_good, tells, spends}
+use Rattle.mem_blocks.proofs.Walks.{List, [], ◌∷◌, refl, named, Val, vunit, vptr, guard_i, Fml, sem, ‵, raw, ◌⊛◌, given, ◌$◌, ◌∵◌, !, qed, by, move, keep, use1, split, join, learn, feq_i, unit_lit, of_opd, returns, enter, alloc_all, pass_all, free_all, look_at, sets, tables}
+use Rattle.mem_blocks.proofs.Walks.{fact_use, yes, owns, types_at, plain, Ptr, RawPtr, ptr_val, Testable, rawptr_vals, rawptr_Tells, RefOf, shr_vals, shr_Tells, alive, Stays, stay_dropped, walk_of, Goes-dropped, proved, leaves, ptr_good, tells, spends}
 use Rattle.std.specs.contracts.alloc.Global as heap
-use Rattle.std.specs.contracts.impls.GlobalAllocator.TheImpl.{ghosts}
-use Rattle.std.proofs.GlobalToken.{dealloc_token-Testable}
-use Rattle.mem_blocks.specs.contracts.null_testable.GlobalNullTestable.test.{ended, clauses}
-use Rattle.mem_blocks.specs.contracts.null_testable.GlobalNullTestable.test.Key.{name as #self}
+use Rattle.std.{specs.contracts.impls.GlobalAllocator.TheImpl.ghosts, proofs.GlobalToken.dealloc_token-Testable}
+use Rattle.mem_blocks.specs.contracts.null_testable.GlobalNullTestable.test.{ended, clauses, Key.name as #self}
 use Rattle.mem_blocks.proofs.null_testable.GlobalNullTestable.test.Statement.{statement}
 use Rattle.mem_blocks.proofs.null_testable.GlobalNullTestable.test.Code as code
 

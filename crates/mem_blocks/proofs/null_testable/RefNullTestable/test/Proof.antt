@@ -1,17 +1,12 @@
 -- `test` of a `&` is that of the allocator behind it.
-use Rattle.mem_blocks.proofs.Walks.{◌≡◌, ℕ, List, [], ◌∷◌, refl, a_type, dcons, dnil, named, Val, vunit, vptr, inst_fn, SProp, Lft, Share, ftrue, flft, Incl-trans, ‵, raw, ◌⊛◌, later, given, ◌$◌, ◌∵◌, !, qed, by, move, keep, drop, use1, use3, split, split3, join, fsplit, learn, await, feq_i, stop, of_opd, unit_lit, no_more, and_then, returns, enter, alloc_all, pass_all, free_all, look_at, get, sets, lands_as, tables, fact, ◌⊑◌, yes, RattleType, owns, types_at, plain, Ptr, RawPtr, ptr_val, Testable, heard, param, bounded, rawptr_vals, rawptr_Tells, RefOf, shr_vals, calls_at, Stays, stay_dropped, walk_of, Goes-dropped, proved, leaves, fm, ptr_good, tells, spends}
-use types.Run.{load, look_raw}
-use types.ByLocal.{through}
-use denote.Ref.{ShrRef}
-use denote.Copied.{shr_Copied}
-use denote.Opens.{shr_dup}
-use denote.Signature.{Slot}
-use denote.Steps.{looks, shuts, tied, ties}
+use Rattle.mem_blocks.proofs.Walks.{◌≡◌, ℕ, List, [], ◌∷◌, refl, a_type, dcons, dnil, named, Val, vunit, vptr, inst_fn, SProp, Lft, Share, ftrue, flft, Incl-trans, ‵, raw, ◌⊛◌, later, given, ◌$◌, ◌∵◌, !, qed, by, move, keep, drop, use1, use3, split}
+use Rattle.mem_blocks.proofs.Walks.{split3, join, fsplit, learn, await, feq_i, stop, of_opd, unit_lit, no_more, and_then, returns, enter, alloc_all, pass_all, free_all, look_at, get, sets, lands_as, tables, fact, ◌⊑◌, yes, RattleType, owns, types_at}
+use Rattle.mem_blocks.proofs.Walks.{plain, Ptr, RawPtr, ptr_val, Testable, heard, param, bounded, rawptr_vals, rawptr_Tells, RefOf, shr_vals, calls_at, Stays, stay_dropped, walk_of, Goes-dropped, proved, leaves, fm, ptr_good, tells, spends}
+use types.{Run.load, Run.look_raw, ByLocal.through}
+use denote.{Ref.ShrRef, Opens.shr_dup, Copied.shr_Copied, Signature.Slot, Steps.looks, Steps.shuts, Steps.tied, Steps.ties}
 use Rattle.std.proofs.alloc.Calls.{Al, token}
-use Rattle.mem_blocks.proofs.Tests.{Asks, asked_at, asks_of, told_of}
-use Rattle.mem_blocks.specs.contracts.null_testable.RefNullTestable.test.{ended, clauses}
-use Rattle.mem_blocks.specs.contracts.null_testable.RefNullTestable.test.Key.{name as #self}
-use Rattle.mem_blocks.proofs.null_testable.RefNullTestable.test.Statement.{statement}
+use Rattle.mem_blocks.proofs.{Tests.Asks, Tests.asked_at, Tests.asks_of, Tests.told_of, null_testable.RefNullTestable.test.Statement.statement}
+use Rattle.mem_blocks.specs.contracts.null_testable.RefNullTestable.test.{ended, clauses, Key.name as #self}
 use Rattle.mem_blocks.proofs.null_testable.RefNullTestable.test.Code as code
 
 pub test_spec : {M : Type 1} → statement M

@@ -1,13 +1,13 @@
 -- `take` makes a seat of the view, with nothing in hand.
-use Rattle.mem_blocks.proofs.Walks.{◌≡◌, ℕ, [], ◌∷◌, refl, None, a_type, dcons, dnil, named, Val, vptr, inst_fn, Coded, SProp, Fml, ftrue, fsep, flft, ‵, raw, ◌⊛◌, ◌$◌, ◌∵◌, !, qed, by, move, keep, join, fjoin3, rewrite, no_more, and_then, returns, enter, alloc_all, pass_all, free_all, look_at, get, sets, env, agg, tables, fact, yes, RattleType, owns, types_at, plain, heard, param, bounded, Tuple, RefOf, Stays, stay_dropped, stay_ref, walk_of, Goes-dropped, Goes-ref, proved, leaves, mut_vals, mut_Tells, shr_vals, shr_Tells, Sitter, sitter, blank_val, tells, blank, nothing, takes_ref, opens_ref, shuts_ref}
+use Rattle.mem_blocks.proofs.Walks.{◌≡◌, ℕ, [], ◌∷◌, refl, None, a_type, dcons, dnil, named, Val, vptr, inst_fn, Coded, SProp, Fml, ftrue, fsep, flft, ‵, raw, ◌⊛◌, ◌$◌, ◌∵◌, !, qed, by, move, keep, join, fjoin3, rewrite, no_more}
+use Rattle.mem_blocks.proofs.Walks.{and_then, returns, enter, alloc_all, pass_all, free_all, look_at, get, sets, env, agg, tables, fact, yes, RattleType, owns, types_at, plain, heard, param, bounded, Tuple, RefOf, Stays, stay_dropped}
+use Rattle.mem_blocks.proofs.Walks.{stay_ref, walk_of, Goes-dropped, Goes-ref, proved, leaves, mut_vals, mut_Tells, shr_vals, shr_Tells, Sitter, sitter, blank_val, tells, blank, nothing, takes_ref, opens_ref, shuts_ref}
 use Rattle.std.specs.Prelude.{Bool, true, false}
-use Rattle.mem_blocks.specs.Laid.{rested_owns}
+use Rattle.mem_blocks.{specs.Laid.rested_owns, proofs.web.Rested.take.Statement.statement}
 use Rattle.mem_blocks.specs.contracts.web.Web as web
 use Rattle.mem_blocks.specs.contracts.web.Seat as seat
 use Rattle.mem_blocks.specs.contracts.web.Rested as rested
-use Rattle.mem_blocks.specs.contracts.web.Rested.take.{ended, clauses}
-use Rattle.mem_blocks.specs.contracts.web.Rested.take.Key.{name as #self}
-use Rattle.mem_blocks.proofs.web.Rested.take.Statement.{statement}
+use Rattle.mem_blocks.specs.contracts.web.Rested.take.{ended, clauses, Key.name as #self}
 use Rattle.mem_blocks.proofs.web.Rested.take.Code as code
 
 pub take_spec : {M : Type 1} → statement M

@@ -1,11 +1,12 @@
 -- `finish` ends the web's lifetime, and has its blocks back.
-use Rattle.mem_blocks.proofs.Walks.{◌≡◌, List, [], ◌∷◌, refl, Ty, a_type, dcons, dnil, Val, inst_fn, Coded, SProp, Fml, ‵, raw, ◌⊛◌, some, given, later, ◌$◌, ◌∵◌, !, qed, by, move, keep, drop, use2, split, fsplit, fsplit3, pick, learn, await, rewrite, no_more, and_then, returns, enter, alloc_all, pass_all, free_all, look_at, get, sets, env, agg, tables, fact, no, RattleType, owns, types_at, plain, Ptr, RawPtr, heard, param, bounded, Tuple, alive, Stays, stay_dropped, walk_of, Goes-dropped, proved, leaves, Block, Sitter, LastBlocksBy, Sits, WebId, chain_owns, seat_owns, blank_val, blank_told, tells, blank, spends}
+use Rattle.mem_blocks.proofs.Walks.{◌≡◌, List, [], ◌∷◌, refl, Ty, a_type, dcons, dnil, Val, inst_fn, Coded, SProp, Fml, ‵, raw, ◌⊛◌, some, given, later, ◌$◌, ◌∵◌, !, qed, by, move, keep, drop, use2, split, fsplit, fsplit3, pick, learn}
+use Rattle.mem_blocks.proofs.Walks.{await, rewrite, no_more, and_then, returns, enter, alloc_all, pass_all, free_all, look_at, get, sets, env, agg, tables, fact, no, RattleType, owns, types_at, plain, Ptr, RawPtr, heard, param, bounded}
+use Rattle.mem_blocks.proofs.Walks.{Tuple, alive, Stays, stay_dropped, walk_of, Goes-dropped, proved, leaves, Block, Sitter, LastBlocksBy, Sits, WebId, chain_owns, seat_owns, blank_val, blank_told, tells, blank, spends}
 use Rattle.mem_blocks.specs.contracts.web.Web as web
 use Rattle.mem_blocks.specs.contracts.web.Seat as seat
 use Rattle.mem_blocks.specs.contracts.chain.Chain as chain
 use Rattle.mem_blocks.proofs.Moves as moves
-use Rattle.mem_blocks.specs.contracts.web.Seat.finish.{ended, clauses}
-use Rattle.mem_blocks.specs.contracts.web.Seat.finish.Key.{name as #self}
+use Rattle.mem_blocks.specs.contracts.web.Seat.finish.{ended, clauses, Key.name as #self}
 use Rattle.mem_blocks.proofs.web.Seat.finish.Statement.{statement}
 use Rattle.mem_blocks.proofs.web.Seat.finish.Code as code
 

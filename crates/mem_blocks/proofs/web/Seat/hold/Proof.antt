@@ -1,9 +1,10 @@
 -- `hold` moves the block into the seat.
-use Rattle.mem_blocks.proofs.Walks.{◌≡◌, ℕ, List, [], ◌∷◌, refl, Some, None, Ty, a_type, dcons, dnil, named, Val, vunit, vptr, inst_fn, Coded, SProp, Fml, ftrue, fsep, flft, ‵, raw, ◌⊛◌, ◌$◌, ◌∵◌, !, qed, by, move, keep, drop, split, join, fsplit, fsplit3, fjoin3, rewrite, feq_i, unit_lit, of_opd, returns, enter, alloc_all, pass_all, free_all, look_at, sets, env, tables, fact, no, RattleType, owns, types_at, plain, Ptr, heard, param, bounded, mut_vals, mut_Tells, Tuple, Stays, stay_dropped, stay_ref, walk_of, Goes-dropped, Goes-ref, proved, leaves, Block, Sitter, sitter, alive_at, Same, block_owns, blank_val, blank_told, tells, opens_ref, shuts_ref}
+use Rattle.mem_blocks.proofs.Walks.{◌≡◌, ℕ, List, [], ◌∷◌, refl, Some, None, Ty, a_type, dcons, dnil, named, Val, vunit, vptr, inst_fn, Coded, SProp, Fml, ftrue, fsep, flft, ‵, raw, ◌⊛◌, ◌$◌, ◌∵◌, !, qed, by, move, keep, drop, split, join, fsplit}
+use Rattle.mem_blocks.proofs.Walks.{fsplit3, fjoin3, rewrite, feq_i, unit_lit, of_opd, returns, enter, alloc_all, pass_all, free_all, look_at, sets, env, tables, fact, no, RattleType, owns, types_at, plain, Ptr, heard, param, bounded, mut_vals}
+use Rattle.mem_blocks.proofs.Walks.{mut_Tells, Tuple, Stays, stay_dropped, stay_ref, walk_of, Goes-dropped, Goes-ref, proved, leaves, Block, Sitter, sitter, alive_at, Same, block_owns, blank_val, blank_told, tells, opens_ref, shuts_ref}
 use Rattle.mem_blocks.specs.contracts.block.Loose as loose
 use Rattle.mem_blocks.specs.contracts.web.Seat as seat
-use Rattle.mem_blocks.specs.contracts.web.Seat.hold.{ended, clauses}
-use Rattle.mem_blocks.specs.contracts.web.Seat.hold.Key.{name as #self}
+use Rattle.mem_blocks.specs.contracts.web.Seat.hold.{ended, clauses, Key.name as #self}
 use Rattle.mem_blocks.proofs.web.Seat.hold.Statement.{statement}
 use Rattle.mem_blocks.proofs.web.Seat.hold.Code as code
 

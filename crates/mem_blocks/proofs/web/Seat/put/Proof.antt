@@ -1,10 +1,14 @@
 -- `put` writes the slot that the seat has in hand.
-use Rattle.mem_blocks.proofs.Walks.{◌≡◌, ℕ, ◌+◌, ◌*◌, ◌^◌, ◌<◌, ◌≤◌, List, [], ◌∷◌, ◌++◌, sym, refl, ap, subst, arith, w64, Option, Some, None, mul-le-mul_right, a_type, dcons, dnil, Val, vunit, vint, vptr, inst_fn, bare, full_share, Coded, SProp, ent, id⊢, Fml, ftrue, fsep, froom, fat, flft, WpFn, ‵, raw, ◌⊛◌, at_ret, ◌$◌, ◌∵◌, !, qed, by, move, keep, drop, use1, split, join, fsplit, fsplit3, fjoin, fjoin3, fpick, fpack, suffices, rewrite, feq_i, stop, fld, addr, unit_lit, size_word, of_opd, bin, first, blocks, exec, returns, assigns_last, init, alloc_all, pass_all, free_all, look_at, get, get_in, through, sets, is, env, sub, all_of_it, tables, fact, yes, no, RattleType, owns, types_at, plain, mem, Ptr, block_of, count_of, InBlock, nothing, heard, param, bounded, layout, param_laws, usize, Member, Stays, stay_dropped, stay_ref, walk_of, Goes-dropped, Goes-ref, one, gather, proved_at, leaves, Hand, Sitter, sitter, Same, slots_at, hand_owns, SLOTS, after, place_val, place_told, full_product, tells, opens_ref, shuts_ref, enters_at}
+use Rattle.mem_blocks.proofs.Walks.{◌≡◌, ℕ, ◌+◌, ◌*◌, ◌^◌, blocks, exec, returns, get_in, through, sets, tables, fact, yes, no, fjoin3, fpick, fpack, types_at, plain, mem, Sitter, sitter, Same, opens_ref, shuts_ref}
+use Rattle.mem_blocks.proofs.Walks.{◌<◌, ◌≤◌, List, [], ◌∷◌, stay_dropped, stay_ref, ftrue, fsep, froom, fat, flft, WpFn, ‵, raw, ◌⊛◌, drop, use1, split, join, is, env, sub, all_of_it, Ptr, block_of, count_of, InBlock, nothing, heard}
+use Rattle.mem_blocks.proofs.Walks.{◌++◌, sym, refl, ap, assigns_last, init, Option, Some, None, of_opd, bin, first, subst, arith, w64, full_share, Coded, suffices, rewrite, param_laws, usize}
+use Rattle.mem_blocks.proofs.Walks.{mul-le-mul_right, RattleType, owns, inst_fn, bare, Member, Stays, proved_at, leaves, Hand, SLOTS, after, place_val}
+use Rattle.mem_blocks.proofs.Walks.{a_type, dcons, dnil, at_ret, ◌$◌, ◌∵◌, !, qed, by, move, keep, unit_lit, size_word, SProp, ent, id⊢, Fml, full_product, tells, alloc_all, pass_all, slots_at, hand_owns}
+use Rattle.mem_blocks.proofs.Walks.{Val, vunit, vint, vptr, place_told, enters_at, walk_of, Goes-dropped, Goes-ref, one, gather, fsplit, fsplit3, fjoin, feq_i, stop, fld, addr, free_all, look_at, get, param, bounded, layout}
 use Rattle.mem_blocks.specs.contracts.block.BlockPtr as link
 use Rattle.mem_blocks.specs.contracts.web.Seat as seat
 use Rattle.mem_blocks.proofs.Blocks as blocks
-use Rattle.mem_blocks.specs.contracts.web.Seat.put.{ended, clauses}
-use Rattle.mem_blocks.specs.contracts.web.Seat.put.Key.{name as #self}
+use Rattle.mem_blocks.specs.contracts.web.Seat.put.{ended, clauses, Key.name as #self}
 use Rattle.mem_blocks.proofs.web.Seat.put.Statement.{statement}
 use Rattle.mem_blocks.proofs.web.Seat.put.Code as code
 
@@ -23,7 +27,9 @@ put_spec 𝓤 𝓛 𝓜 𝓡 wired S V A L _ _ ga da dd _ _ =
     qed 𝓛 (((‵ (flft κs.0 qs.0) ⊛ ‵ others) ⊛ ‵ (owns (types_at goal.signature.params κs) a vss)) ∷ raw (fact 𝓤 _) ∷ raw (fact 𝓤 _) ∷ raw (fact 𝓤 _) ∷ raw (fact 𝓤 Asked) ∷ []) ∵
     keep ! (4 ∷ 0 ∷ []) $ heard ! Asked (λ asked. split ! $ split ! $ move ! (2 ∷ []) $ fsplit3 ! $ fsplit3 ! $ move ! (4 ∷ []) $ fsplit3 ! $ keep ! (4 ∷ 5 ∷ 7 ∷ 1 ∷ 8 ∷ []) $
     rewrite ! 3 (λ (ws : List Val). ‵ (R.own_val new ws)) got.1 refl $ let us : Ptr → List Val = λ u. vptr b' o' ∷ place_val u ∷ vint w64 j ∷ vy ∷ [] in let Run : List Val → SProp 𝓤 = λ ws. WpFn 𝓤 H 𝓣.C 𝓣.Λ mir ws Post in
-    suffices ! (Run (us p)) (subst (λ (ws : List Val). ent 𝓤 (Run (us p)) (Run ws)) (sym (λ i. are.0.0 i ++ (place_told R a.1.0 vss.1.0 are.1.0 i ++ (are.1.1.0.0 i ++ (got.1 i ++ []))))) (id⊢ 𝓤 (Run (us p)))) $ enters_at ! p asked.0 𝓣.C 𝓣.Λ mir us Post $ alloc_all ! (λ l. pass_all ! refl ((tt, tt), ((tt, (tt, tt)), ((tt, record { fits = are.1.1.0.1 }), (got.2, tt)))) $ let locals = env mir.locals l in
+    suffices ! (Run (us p)) (subst (λ (ws : List Val). ent 𝓤 (Run (us p)) (Run ws))
+    (sym (λ i. are.0.0 i ++ (place_told R a.1.0 vss.1.0 are.1.0 i ++ (are.1.1.0.0 i ++ (got.1 i ++ []))))) (id⊢ 𝓤 (Run (us p)))) $ enters_at ! p asked.0 𝓣.C 𝓣.Λ mir us Post $
+    alloc_all ! (λ l. pass_all ! refl ((tt, tt), ((tt, (tt, tt)), ((tt, record { fits = are.1.1.0.1 }), (got.2, tt)))) $ let locals = env mir.locals l in
     opens_ref ! tt Seat h b' o' (λ ts. refl) (λ ts. fsplit3 ! $ rewrite ! 1 (λ (u : Option (Hand S.Denot)). ‵ (hand_owns R u)) asked.1 refl $ move ! (1 ∷ []) $ fsplit ! $ fpick ! (λ at. drop ! $
     let near : j < SLOTS = at.2 in let less : j * sz ≤ SLOTS * sz = mul-le-mul_right sz (omega arith) in let tiny : sz < 2 ^ 31 = at.1 in let small : j * sz < 2 ^ 64 = omega arith in use1 𝓛 (‵ (froom (layout S) b e)) (𝓛.laws.raw-room (layout S) b e) $ first ! $ blocks ! $
     sets ! (of_opd ! (get_in ! (fld ! refl (stop !)) (sub ! 0 refl (all_of_it !)))) refl (tt, tt) $ sets ! (addr ! (through ! refl (fld ! refl (stop !)))) refl (tt, tt) $

@@ -1,9 +1,10 @@
 -- `release` moves the block out of the seat.
-use Rattle.mem_blocks.proofs.Walks.{◌≡◌, ℕ, List, [], ◌∷◌, refl, Option, Some, None, Ty, a_type, dcons, dnil, named, Val, vptr, inst_fn, Coded, SProp, Fml, ftrue, fsep, flft, ‵, raw, ◌⊛◌, ◌$◌, ◌∵◌, !, qed, by, move, keep, join, fsplit3, fjoin3, rewrite, no_more, and_then, returns, enter, alloc_all, pass_all, free_all, look_at, get, sets, env, agg, tables, fact, RattleType, owns, types_at, plain, Ptr, nothing, heard, param, bounded, mut_vals, mut_Tells, Tuple, Stays, stay_ref, walk_of, Goes-ref, proved, leaves, Home, Block, Sitter, sitter, alive_at, Same, spare_owns, blank_val, tells, blank, takes_ref, opens_ref, shuts_ref}
+use Rattle.mem_blocks.proofs.Walks.{◌≡◌, ℕ, List, [], ◌∷◌, refl, Option, Some, None, Ty, a_type, dcons, dnil, named, Val, vptr, inst_fn, Coded, SProp, Fml, ftrue, fsep, flft, ‵, raw, ◌⊛◌, ◌$◌, ◌∵◌, !, qed, by, move, keep, join, fsplit3}
+use Rattle.mem_blocks.proofs.Walks.{fjoin3, rewrite, no_more, and_then, returns, enter, alloc_all, pass_all, free_all, look_at, get, sets, env, agg, tables, fact, RattleType, owns, types_at, plain, Ptr, nothing, heard, param, bounded}
+use Rattle.mem_blocks.proofs.Walks.{mut_vals, mut_Tells, Tuple, Stays, stay_ref, walk_of, Goes-ref, proved, leaves, Home, Block, Sitter, sitter, alive_at, Same, spare_owns, blank_val, tells, blank, takes_ref, opens_ref, shuts_ref}
 use Rattle.mem_blocks.specs.contracts.block.Loose as loose
 use Rattle.mem_blocks.specs.contracts.web.Seat as seat
-use Rattle.mem_blocks.specs.contracts.web.Seat.release.{ended, clauses}
-use Rattle.mem_blocks.specs.contracts.web.Seat.release.Key.{name as #self}
+use Rattle.mem_blocks.specs.contracts.web.Seat.release.{ended, clauses, Key.name as #self}
 use Rattle.mem_blocks.proofs.web.Seat.release.Statement.{statement}
 use Rattle.mem_blocks.proofs.web.Seat.release.Code as code
 

@@ -1,10 +1,10 @@
 -- `rests` keeps the view of a seat.
-use Rattle.mem_blocks.proofs.Walks.{◌≡◌, [], ◌∷◌, refl, None, a_type, dcons, dnil, Val, inst_fn, SProp, ‵, raw, ◌⊛◌, ◌$◌, ◌∵◌, !, qed, by, move, keep, split, fsplit, fsplit3, no_more, and_then, returns, enter, alloc_all, pass_all, free_all, look_at, get, sets, env, agg, tables, fact, no, RattleType, owns, types_at, plain, heard, param, bounded, Tuple, alive, Stays, stay_dropped, walk_of, Goes-dropped, proved, leaves, Sitter, blank_val, blank_told, tells, blank, spends}
+use Rattle.mem_blocks.proofs.Walks.{◌≡◌, [], ◌∷◌, refl, None, a_type, dcons, dnil, Val, inst_fn, SProp, ‵, raw, ◌⊛◌, ◌$◌, ◌∵◌, !, qed, by, move, keep, split, fsplit, fsplit3, no_more, and_then, returns, enter, alloc_all, pass_all, free_all, look_at, get, sets, env}
+use Rattle.mem_blocks.proofs.Walks.{agg, tables, fact, no, RattleType, owns, types_at, plain, heard, param, bounded, Tuple, alive, Stays, stay_dropped, walk_of, Goes-dropped, proved, leaves, Sitter, blank_val, blank_told, tells, blank, spends}
 use Rattle.std.specs.Prelude.{true}
 use Rattle.mem_blocks.specs.contracts.web.Seat as seat
 use Rattle.mem_blocks.specs.contracts.web.Rested as rested
-use Rattle.mem_blocks.specs.contracts.web.Seat.rests.{ended, clauses}
-use Rattle.mem_blocks.specs.contracts.web.Seat.rests.Key.{name as #self}
+use Rattle.mem_blocks.specs.contracts.web.Seat.rests.{ended, clauses, Key.name as #self}
 use Rattle.mem_blocks.proofs.web.Seat.rests.Statement.{statement}
 use Rattle.mem_blocks.proofs.web.Seat.rests.Code as code
 

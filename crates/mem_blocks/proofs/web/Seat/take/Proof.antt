@@ -1,10 +1,12 @@
 -- `take` reads the slot that the seat has in hand.
-use Rattle.mem_blocks.proofs.Walks.{◌≡◌, ℕ, ◌+◌, ◌*◌, ◌^◌, ◌<◌, ◌≤◌, [], ◌∷◌, sym, refl, ap, subst, arith, w64, Option, Some, None, mul-le-mul_right, a_type, dcons, dnil, named, Val, vint, vptr, inst_fn, bare, Coded, SProp, Fml, ftrue, fsep, froom, flft, ‵, raw, ◌⊛◌, at_ret, ◌$◌, ◌∵◌, !, qed, by, move, keep, drop, use1, join, fsplit, fsplit3, fjoin, fjoin3, fpick, fpack, rewrite, stop, fld, load, addr, size_word, of_opd, bin, first, blocks, exec, returns, look_raw, alloc_all, pass_all, free_all, look_at, get, get_in, through, sets, sets_last, is, env, sub, all_of_it, tables, fact, yes, no, RattleType, owns, types_at, plain, mem, Ptr, block_of, count_of, InBlock, nothing, heard, param, bounded, layout, param_laws, usize, mut_vals, mut_Tells, uint_vals, uint_Tells, Member, Stays, stay_dropped, stay_ref, walk_of, Goes-dropped, Goes-ref, spread, proved, leaves, Hand, Sitter, sitter, Same, slots_at, hand_owns, SLOTS, after, place_val, place_told, full_product, tells, takes_ref, opens_ref, shuts_ref, enters_at}
+use Rattle.mem_blocks.proofs.Walks.{◌≡◌, ℕ, ◌+◌, ◌*◌, ◌^◌, ◌<◌, ◌≤◌, [], ◌∷◌, sym, refl, ap, subst, arith, w64, Option, Some, None, mul-le-mul_right, a_type, dcons, dnil, named, Val, vint, vptr, inst_fn, bare, Coded, SProp, Fml, ftrue, fsep, froom, flft, ‵, raw, ◌⊛◌, at_ret, ◌$◌, ◌∵◌}
+use Rattle.mem_blocks.proofs.Walks.{ !, qed, by, move, keep, drop, use1, join, fsplit, fsplit3, fjoin, fjoin3, fpick, fpack, rewrite, stop, fld, load, addr, size_word, of_opd, bin, first, blocks, exec, returns, look_raw, alloc_all, pass_all, free_all, look_at, get, get_in, through}
+use Rattle.mem_blocks.proofs.Walks.{sets, sets_last, is, env, sub, all_of_it, tables, fact, yes, no, RattleType, owns, types_at, plain, mem, Ptr, block_of, count_of, InBlock, nothing, heard, param, bounded, layout, param_laws, usize, mut_vals, mut_Tells, uint_vals, uint_Tells, Member}
+use Rattle.mem_blocks.proofs.Walks.{Stays, stay_dropped, stay_ref, walk_of, Goes-dropped, Goes-ref, spread, proved, leaves, Hand, Sitter, sitter, Same, slots_at, hand_owns, SLOTS, after, place_val, place_told, full_product, tells, takes_ref, opens_ref, shuts_ref, enters_at}
 use Rattle.mem_blocks.specs.contracts.block.BlockPtr as link
 use Rattle.mem_blocks.specs.contracts.web.Seat as seat
 use Rattle.mem_blocks.proofs.Blocks as blocks
-use Rattle.mem_blocks.specs.contracts.web.Seat.take.{ended, clauses}
-use Rattle.mem_blocks.specs.contracts.web.Seat.take.Key.{name as #self}
+use Rattle.mem_blocks.specs.contracts.web.Seat.take.{ended, clauses, Key.name as #self}
 use Rattle.mem_blocks.proofs.web.Seat.take.Statement.{statement}
 use Rattle.mem_blocks.proofs.web.Seat.take.Code as code
 

@@ -1,16 +1,9 @@
 -- A `&` to a web holds only what can be had twice. Assumes `Logic`.
-use denote.RawPtr.{RawPtr}
-use denote.RattleType.{RattleType}
-use denote.Param.Laws.{Laws}
-use denote.Param.Shared.{copy_shared}
-use denote.Struct.Laws.{field_copy}
-use denote.Struct.Lending.{of_Lends}
+use denote.{RawPtr.RawPtr, RattleType.RattleType, Param.Laws.Laws, Param.Shared.copy_shared, Struct.Laws.field_copy, Struct.Lending.of_Lends}
 use Rattle.std.specs.contracts.marker.PhantomData as phantom
 use Rattle.std.specs.declared.alloc.Allocator as Allocator
-use Rattle.mem_blocks.specs.declared.web.WebRule.{Ghosts}
+use Rattle.mem_blocks.{specs.declared.web.WebRule.Ghosts, proofs.web.Web.TheLaw.Statement.statement, proofs.Shown.shown_laws, proofs.Shown.lends_shown}
 use Rattle.mem_blocks.specs.contracts.web.Web as web
-use Rattle.mem_blocks.proofs.web.Web.TheLaw.Statement.{statement}
-use Rattle.mem_blocks.proofs.Shown.{shown_laws, lends_shown}
 
 pub shares : (S V K P A : RattleType) (g : Ghosts P.Denot S.Denot V.Denot K.Denot) (ga : Allocator.Ghosts A.Denot) (LS : Laws S) (LV : Laws V) (LK : Laws K) (LP : Laws P) (LA : Laws A) → statement S V K P A g ga LS LV LK LP LA
 shares S V K P A g ga LS LV LK LP LA =

@@ -1,8 +1,6 @@
-use denote.RattleType.{RattleType}
-use denote.Param.Send.{IsSend, Frees}
+use denote.{RattleType.RattleType, Param.Send.IsSend, Param.Send.Frees}
 use Rattle.std.specs.declared.alloc.Allocator as Allocator
-use Rattle.mem_blocks.specs.{declared.web.WebRule.Ghosts, contracts.web.Web.the_row}
-use Rattle.mem_blocks.proofs.Sent.{owns_sent}
+use Rattle.mem_blocks.{specs.declared.web.WebRule.Ghosts, specs.contracts.web.Web.the_row, proofs.Sent.owns_sent}
 
 pub send : (S V K P A : RattleType) (g : Ghosts P.Denot S.Denot V.Denot K.Denot) (ga : Allocator.Ghosts A.Denot) → IsSend S → IsSend A → Frees ga ga.dealloc_token → IsSend (the_row S V K P A g ga)
 send S V K P A g ga s _ f = record {

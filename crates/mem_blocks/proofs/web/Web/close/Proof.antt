@@ -1,11 +1,11 @@
 -- `close` ends the web's lifetime, and has its blocks back.
-use Rattle.mem_blocks.proofs.Walks.{◌≡◌, List, [], ◌∷◌, refl, Ty, a_type, dcons, dnil, Val, inst_fn, Coded, SProp, Fml, ‵, raw, ◌⊛◌, some, given, later, ◌$◌, ◌∵◌, !, qed, by, move, keep, use1, split, fsplit, pick, learn, await, no_more, and_then, returns, enter, alloc_all, pass_all, free_all, look_at, get, sets, env, agg, tables, no, RattleType, owns, types_at, plain, Ptr, RawPtr, param, bounded, Tuple, alive, Stays, stay_dropped, walk_of, Goes-dropped, proved, leaves, Block, LastBlocks, chain_owns, blank_val, blank_told, tells, blank, spends}
+use Rattle.mem_blocks.proofs.Walks.{◌≡◌, List, [], ◌∷◌, refl, Ty, a_type, dcons, dnil, Val, inst_fn, Coded, SProp, Fml, ‵, raw, ◌⊛◌, some, given, later, ◌$◌, ◌∵◌, !, qed, by, move, keep, use1, split, fsplit, pick, learn, await, no_more, and_then, returns, enter, alloc_all, pass_all, free_all}
+use Rattle.mem_blocks.proofs.Walks.{look_at, get, sets, env, agg, tables, no, RattleType, owns, types_at, plain, Ptr, RawPtr, param, bounded, Tuple, alive, Stays, stay_dropped, walk_of, Goes-dropped, proved, leaves, Block, LastBlocks, chain_owns, blank_val, blank_told, tells, blank, spends}
 use Rattle.mem_blocks.specs.contracts.web.Web as web
 use Rattle.mem_blocks.specs.contracts.web.Seat as seat
 use Rattle.mem_blocks.specs.contracts.chain.Chain as chain
 use Rattle.mem_blocks.proofs.Moves as moves
-use Rattle.mem_blocks.specs.contracts.web.Web.close.{ended, clauses}
-use Rattle.mem_blocks.specs.contracts.web.Web.close.Key.{name as #self}
+use Rattle.mem_blocks.specs.contracts.web.Web.close.{ended, clauses, Key.name as #self}
 use Rattle.mem_blocks.proofs.web.Web.close.Statement.{statement}
 use Rattle.mem_blocks.proofs.web.Web.close.Code as code
 

@@ -1,10 +1,12 @@
 -- `peek` is one load, which leaves the web as it is.
-use Rattle.mem_blocks.proofs.Walks.{ℕ, ◌+◌, ◌*◌, ◌^◌, ◌<◌, [], ◌∷◌, refl, arith, lit<, w64, Ty, a_type, dcons, dnil, named, Val, vint, vptr, inst_fn, Coded, SProp, via, Lft, Fml, ftrue, fsep, flft, mean, ‵, raw, ◌⊛◌, given, at_ret, ◌$◌, ◌∵◌, !, qed, by, move, keep, drop, use3, split, join, fsplit, fsplit3, fjoin, learn, stop, from, fld, hop, addr, lit, of_opd, bin, no_more, and_then, first, blocks, exec, Calls-last, returns, alloc_all, pass_all, free_all, look_at, look_in_at, get, sets, lands_last, env, agg, sub, all_of_it, shr_bor-open, obor_close, tokens_halve, tables, fact, yes, no, RattleType, owns, types_at, plain, Ptr, block_ptr, block_of, count_of, InBlock, nothing, unhide, param, bounded, RefOf, usize, shr_vals, shr_Tells, uint_vals, uint_Tells, Stays, stay_dropped, walk_of, Goes-dropped, proved, leaves, fm, seq_cst, found, finds, loads, StaysIn, WebId, age, SLOTS, after, place_val, place_told, numbers, enters_at}
+use Rattle.mem_blocks.proofs.Walks.{ℕ, ◌+◌, ◌*◌, ◌^◌, ◌<◌, [], ◌∷◌, refl, arith, lit<, w64, Ty, a_type, dcons, dnil, named, Val, vint, vptr, inst_fn, Coded, SProp, via, Lft, Fml, ftrue, fsep, flft, mean, ‵, raw, ◌⊛◌, given, at_ret, ◌$◌, ◌∵◌, !, qed, by, move, END_WORDS}
+use Rattle.mem_blocks.proofs.Walks.{keep, drop, use3, split, join, fsplit, fsplit3, fjoin, learn, stop, from, fld, hop, addr, lit, of_opd, bin, no_more, and_then, first, blocks, exec, Calls-last, returns, alloc_all, pass_all, free_all, look_at, look_in_at, get}
+use Rattle.mem_blocks.proofs.Walks.{sets, lands_last, env, agg, sub, all_of_it, shr_bor-open, obor_close, tokens_halve, tables, fact, yes, no, RattleType, owns, types_at, plain, Ptr, block_ptr, block_of, count_of, InBlock, nothing, unhide, param, bounded, RefOf}
+use Rattle.mem_blocks.proofs.Walks.{usize, shr_vals, shr_Tells, uint_vals, uint_Tells, Stays, stay_dropped, walk_of, Goes-dropped, proved, leaves, fm, seq_cst, found, finds, loads, StaysIn, WebId, age, after, place_val, place_told, numbers, enters_at}
 use Rattle.mem_blocks.specs.contracts.block.BlockPtr as link
 use Rattle.mem_blocks.specs.contracts.web.Web as web
 use Rattle.mem_blocks.proofs.Moves as moves
-use Rattle.mem_blocks.specs.contracts.web.Web.peek.{ended, clauses}
-use Rattle.mem_blocks.specs.contracts.web.Web.peek.Key.{name as #self}
+use Rattle.mem_blocks.specs.contracts.web.Web.peek.{ended, clauses, Key.name as #self}
 use Rattle.mem_blocks.proofs.web.Web.peek.Statement.{statement}
 use Rattle.mem_blocks.proofs.web.Web.peek.Code as code
 
@@ -22,7 +24,7 @@ peek_spec 𝓤 𝓛 𝓜 𝓡 wired S V K P A _ _ _ _ _ g d ga da dd _ _ _ =
     let y : (walk_of 𝓛 goal kept_of c).Ghost = ((κs, qs, bounds, a, (vptr a.0.ref_ptr.0 a.0.ref_ptr.1 ∷ [], (place_val a.1.0.ptr ∷ [], (vint w64 a.1.1.0 ∷ [], tt)))), ghost) in let Post : Val → SProp 𝓤 = (walk_of 𝓛 goal kept_of c).post y in
     let t : Web.Denot = a.0.now in let z : WebId = t.id in let α : Lft = age z in let token : Ty → Ptr → Fml = ga.dealloc_token t.heap in let holds = g.holds t.key in let p : Ptr = a.1.0.ptr in let i : ℕ = a.1.1.0 in
     let others : Fml = fsep (flft κs.1.0 qs.1.0) (fsep (flft κs.1.1.0 qs.1.1.0) (fsep (flft κs.1.1.1.0 qs.1.1.1.0) (fsep (flft κs.1.1.1.1.0 qs.1.1.1.1.0) (fsep (flft κs.1.1.1.1.1.0 qs.1.1.1.1.1.0) (ftrue))))) in
-    qed 𝓛 (((‵ (flft κs.0 qs.0) ⊛ ‵ others) ⊛ ‵ (owns (types_at goal.signature.params κs) a y.0.4)) ∷ raw (fact 𝓤 _) ∷ raw (fact 𝓤 _) ∷ raw (fact 𝓤 _) ∷ raw (fact 𝓤 _) ∷ raw (fact 𝓤 _) ∷ (given (InBlock p × (i < SLOTS)) (‵ ftrue) ⊛ given (StaysIn holds p) (‵ ftrue)) ∷ []) ∵
+    qed 𝓛 (((‵ (flft κs.0 qs.0) ⊛ ‵ others) ⊛ ‵ (owns (types_at goal.signature.params κs) a y.0.4)) ∷ raw (fact 𝓤 _) ∷ raw (fact 𝓤 _) ∷ raw (fact 𝓤 _) ∷ raw (fact 𝓤 _) ∷ raw (fact 𝓤 _) ∷ (given (InBlock p × (i < END_WORDS)) (‵ ftrue) ⊛ given (StaysIn holds p) (‵ ftrue)) ∷ []) ∵
     keep ! (6 ∷ 0 ∷ []) $ split ! $ learn ! (λ there. drop ! $ learn ! (λ stays. drop ! $ split ! $ split ! $ move ! (2 ∷ []) $ fsplit ! $ fsplit ! $ drop ! $ unhide ! $ fsplit3 ! $ drop ! $ move ! (2 ∷ []) $ drop ! $
     -- [the web's token, shared; its invariant; the token of the reference; the other tokens]
     enters_at ! p there.0 𝓣.C 𝓣.Λ mir (λ u. vptr a.0.ref_ptr.0 a.0.ref_ptr.1 ∷ place_val u ∷ vint w64 a.1.1.0 ∷ []) Post $ alloc_all ! (λ l. pass_all ! refl ((tt, tt), ((tt, (tt, tt)), ((tt, record { fits = are.1.1.0.1 }), tt))) $ let locals = env mir.locals l in

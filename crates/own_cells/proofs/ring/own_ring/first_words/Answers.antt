@@ -1,8 +1,7 @@
 use Rattle.std.proofs.Common.{ℕ, ◌++◌, ◌∷◌, [], ap, ◌∙◌, arith, rules, subst}
 use Rattle.std.proofs.lemmas.Result.{IfOk-from_err}
-use Rattle.own_cells.specs.{OneRing.RingOpening.Opened, declared.ring.ring_words.TheConstants.STAMPS}
+use Rattle.own_cells.{specs.OneRing.RingOpening.Opened, specs.declared.ring.ring_words.TheConstants.STAMPS, proofs.OneRing.Filling.room_before, proofs.OneRing.Openings.Opened-more}
 use Rattle.queue_laws.proofs.Common.Filling.{at_end}
-use Rattle.own_cells.proofs.OneRing.{Filling.room_before, Openings.Opened-more}
 use Rattle.own_cells.proofs.ring.own_ring.first_words.Goals as goal
 
 pub loop-slot-preserved : goal.loop-slot-preserved

@@ -1,8 +1,7 @@
 use Rattle.std.proofs.Common.{◌≡◌, ℕ, ◌<◌, List, Option, None, length, map, ap, sym, ◌∙◌, subst}
-use Rattle.std.proofs.lemmas.{List.length-replicate, Result.IfOk-from_err}
+use Rattle.std.{proofs.lemmas.List.length-replicate, proofs.lemmas.Result.IfOk-from_err, specs.Mem.Slots.slots_items, specs.Mem.Slots.slots_counts}
 use mathlib.Core.Option.{some}
 use lib.ListN.{get_elem?}
-use Rattle.std.specs.Mem.Slots.{slots_items, slots_counts}
 use Rattle.atomic_table.specs.Table.{Final}
 use Rattle.own_cells.specs.OneRing.RingOpening.{IsUntouched}
 use Rattle.own_cells.proofs.OneRing.{Openings.IsOpening-length, Openings.ring_opens, Openings.homes_at, Emptying.replicated}

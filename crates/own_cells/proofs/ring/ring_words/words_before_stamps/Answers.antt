@@ -1,6 +1,5 @@
 use Rattle.std.proofs.Common.{ℕ, ◌≡◌, List, set, ap, ◌∙◌}
-use Rattle.std.specs.Prelude.{replicate}
-use Rattle.std.proofs.lemmas.Result.{IfOk-from_err}
+use Rattle.std.{specs.Prelude.replicate, proofs.lemmas.Result.IfOk-from_err}
 use Rattle.own_cells.specs.declared.ring.ring_words.TheConstants.{TAIL, HEAD, STAMPS}
 use Rattle.queue_laws.proofs.Common.Filling.{at_end, one_more, replicated_more}
 use Rattle.own_cells.proofs.OneRing.Filling.{room_behind}

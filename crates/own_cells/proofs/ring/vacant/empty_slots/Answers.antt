@@ -1,6 +1,5 @@
 use Rattle.std.proofs.Common.{None, ap, ◌∙◌}
-use Rattle.std.specs.Prelude.{replicate}
-use Rattle.std.proofs.lemmas.Result.{IfOk-from_err}
+use Rattle.std.{specs.Prelude.replicate, proofs.lemmas.Result.IfOk-from_err}
 use Rattle.queue_laws.proofs.Common.Filling.{room_left, at_end, one_more, replicated_more}
 use Rattle.own_cells.proofs.ring.vacant.empty_slots.Goals as goal
 

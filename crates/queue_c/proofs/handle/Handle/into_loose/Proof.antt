@@ -1,36 +1,22 @@
 -- `into_loose` has the box back, where there is one.
 use Rattle.std.proofs.Common.{◌≡◌, List, [], ◌∷◌, ◌++◌, refl, sym, subst, lit<}
 use mir.Val.{Val, vptr, vcons, vnil}
-use base.Logic.{SProp, ent, emp, id⊢}
-use base.Fml.{ftrue}
+use base.{Logic.SProp, Logic.ent, Logic.emp, Logic.id⊢, Fml.ftrue}
 use prog.Wp.{WpFn}
-use Rattle.core.proofs.atomic.Steps.{Ptr-Good}
+use Rattle.core.proofs.{atomic.Steps.Ptr-Good, alloc.Shapes.after, cell.Inside.Good, option.Made.Some-of, option.Made.none_of}
 use types.Kit.{‵, raw, prop, regoal, ◌⊛◌, at_ret, ◌$◌, ◌∵◌, !, qed, by, move, keep, split, fsplit, fjoin, suffices, use0, use1}
 use types.Run.{stop, fld, lit, of_opd, bin, no_more, and_then, first, branches, exec, returns, enter}
 use types.ByLocal.{alloc_all, pass_all, free_all, look_at, get, get_in, sets, sets_last, env}
-use types.Part.{agg, sub, whole}
-use types.Match.{live}
-use contract.Monad.{fact, fact_i}
-use contract.Running.{tables}
-use denote.Exit.{yes}
-use denote.RattleType.{RattleType, owns}
-use denote.Signature.{types_at, type_at, plain}
-use denote.RawPtr.{Ptr, block_ptr, null_ptr, ptr_val, tests_null}
-use denote.Steps.{nothing}
-use denote.Param.{layout}
+use types.{Part.agg, Part.sub, Part.whole, Match.live}
+use contract.{Monad.fact, Monad.fact_i, Running.tables}
+use denote.{Exit.yes, Param.layout, Steps.nothing, RattleType.RattleType, RattleType.owns, Signature.types_at, Signature.type_at, Signature.plain, RawPtr.Ptr, RawPtr.block_ptr, RawPtr.null_ptr, RawPtr.ptr_val, RawPtr.tests_null}
 use denote.Triple.Walked.{Stays, stay_dropped, walk_of, Goes-dropped}
-use Rattle.core.proofs.alloc.Shapes.{after}
-use Rattle.core.proofs.cell.Inside.{Good}
-use Rattle.core.proofs.option.Made.{Some-of, none_of}
 use Rattle.std_alloc.proofs.ResultValues.{and_tt}
-use Rattle.std.specs.declared.option.Option.TheVariants.{None, Some}
-use Rattle.std.specs.contracts.impls.GlobalAllocator.TheImpl.{ghosts}
+use Rattle.std.specs.{declared.option.Option.TheVariants.None, declared.option.Option.TheVariants.Some, contracts.impls.GlobalAllocator.TheImpl.ghosts}
 use Rattle.std.proofs.raw_atomic.Walks.{proved_at, leaves}
-use Rattle.queue_c.proofs.Values.{both, Loose, loose_good, loose_in}
+use Rattle.queue_c.proofs.{Values.both, Values.Loose, Values.loose_good, Values.loose_in, handle.Handle.into_loose.Statement.statement}
 use Rattle.queue_c.proofs.Handles.{Z, LZ, E, Hd, handle_out, either_held, null_good}
-use Rattle.queue_c.specs.contracts.handle.Handle.into_loose.{ended, clauses}
-use Rattle.queue_c.specs.contracts.handle.Handle.into_loose.Key.{name as #self}
-use Rattle.queue_c.proofs.handle.Handle.into_loose.Statement.{statement}
+use Rattle.queue_c.specs.contracts.handle.Handle.into_loose.{ended, clauses, Key.name as #self}
 use Rattle.queue_c.proofs.handle.Handle.into_loose.Code as code
 
 pub into_loose_spec : {M : Type 1} → statement M

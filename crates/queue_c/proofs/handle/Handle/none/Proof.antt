@@ -1,29 +1,18 @@
 -- `none` makes a handle of nothing.
 use Rattle.std.proofs.Common.{◌≡◌, List, [], ◌∷◌, ◌++◌, refl, sym, subst}
 use mir.Val.{Val}
-use base.Logic.{SProp, ent, emp, id⊢}
-use base.Fml.{ftrue}
+use base.{Logic.SProp, Logic.ent, Logic.emp, Logic.id⊢, Fml.ftrue}
 use prog.Wp.{WpFn}
 use types.Kit.{‵, raw, ◌⊛◌, ◌$◌, ◌∵◌, !, qed, by, move, keep, split, fsplit, fjoin, suffices, use0}
-use types.Run.{lit, no_more, and_then, returns, enter}
+use types.{Run.lit, Run.no_more, Run.and_then, Run.returns, Run.enter, Part.agg}
 use types.ByLocal.{alloc_all, pass_all, free_all, look_at, get, sets}
-use types.Part.{agg}
-use contract.Monad.{fact, fact_i}
-use contract.Running.{tables}
-use denote.Exit.{yes}
-use denote.RattleType.{owns}
-use denote.Signature.{types_at, plain}
-use denote.RawPtr.{null_ptr, ptr_val}
-use denote.Steps.{nothing}
+use contract.{Monad.fact, Monad.fact_i, Running.tables}
+use denote.{Exit.yes, Steps.nothing, RattleType.owns, RawPtr.null_ptr, RawPtr.ptr_val, Signature.types_at, Signature.plain}
 use denote.Triple.Walked.{Stays, stay_dropped, walk_of, Goes-dropped}
 use Rattle.core.proofs.alloc.Calls.{handle_tells}
-use Rattle.std.specs.declared.option.Option.TheVariants.{None}
-use Rattle.std.proofs.raw_atomic.Walks.{proved_at, leaves}
-use Rattle.queue_c.proofs.Values.{both}
-use Rattle.queue_c.proofs.Handles.{Z, E, al, handle_in, null_good}
-use Rattle.queue_c.specs.contracts.handle.Handle.none.{ended, clauses}
-use Rattle.queue_c.specs.contracts.handle.Handle.none.Key.{name as #self}
-use Rattle.queue_c.proofs.handle.Handle.none.Statement.{statement}
+use Rattle.std.{specs.declared.option.Option.TheVariants.None, proofs.raw_atomic.Walks.proved_at, proofs.raw_atomic.Walks.leaves}
+use Rattle.queue_c.proofs.{Values.both, handle.Handle.none.Statement.statement, Handles.Z, Handles.E, Handles.al, Handles.handle_in, Handles.null_good}
+use Rattle.queue_c.specs.contracts.handle.Handle.none.{ended, clauses, Key.name as #self}
 use Rattle.queue_c.proofs.handle.Handle.none.Code as code
 
 pub none_spec : {M : Type 1} → statement M

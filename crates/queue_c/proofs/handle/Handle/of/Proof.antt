@@ -1,28 +1,18 @@
 -- `of` lets a box go, for C to keep.
 use Rattle.std.proofs.Common.{◌≡◌, List, [], ◌∷◌, ◌++◌, refl, sym, subst}
 use mir.Val.{Val, vptr}
-use base.Logic.{SProp, ent, emp, id⊢}
-use base.Fml.{ftrue}
+use base.{Logic.SProp, Logic.ent, Logic.emp, Logic.id⊢, Fml.ftrue}
 use prog.Wp.{WpFn}
 use types.Kit.{‵, raw, ◌⊛◌, ◌$◌, ◌∵◌, !, qed, by, move, keep, split, fsplit, fjoin, suffices, use0}
 use types.Run.{stop, fld, of_opd, no_more, and_then, returns, enter}
 use types.ByLocal.{alloc_all, pass_all, free_all, look_at, get, get_in, sets}
 use types.Part.{agg, sub, whole}
-use contract.Monad.{fact, fact_i}
-use contract.Running.{tables}
-use denote.Exit.{yes}
-use denote.RattleType.{owns}
-use denote.Signature.{types_at, plain}
-use denote.RawPtr.{block_ptr}
-use denote.Steps.{nothing}
+use contract.{Monad.fact, Monad.fact_i, Running.tables}
+use denote.{Exit.yes, Steps.nothing, RattleType.owns, RawPtr.block_ptr, Signature.types_at, Signature.plain}
 use denote.Triple.Walked.{Stays, stay_dropped, walk_of, Goes-dropped}
-use Rattle.std.specs.contracts.impls.GlobalAllocator.TheImpl.{ghosts}
-use Rattle.std.proofs.raw_atomic.Walks.{proved_at, leaves}
-use Rattle.queue_c.proofs.Values.{both, Loose, loose_good, loose_out}
-use Rattle.queue_c.proofs.Handles.{Z, LZ, E, held_in, handle_in}
-use Rattle.queue_c.specs.contracts.handle.Handle.of.{ended, clauses}
-use Rattle.queue_c.specs.contracts.handle.Handle.of.Key.{name as #self}
-use Rattle.queue_c.proofs.handle.Handle.of.Statement.{statement}
+use Rattle.std.{specs.contracts.impls.GlobalAllocator.TheImpl.ghosts, proofs.raw_atomic.Walks.proved_at, proofs.raw_atomic.Walks.leaves}
+use Rattle.queue_c.proofs.{Values.both, Values.Loose, Values.loose_good, Values.loose_out, handle.Handle.of.Statement.statement, Handles.Z, Handles.LZ, Handles.E, Handles.held_in, Handles.handle_in}
+use Rattle.queue_c.specs.contracts.handle.Handle.of.{ended, clauses, Key.name as #self}
 use Rattle.queue_c.proofs.handle.Handle.of.Code as code
 
 pub of_spec : {M : Type 1} → statement M

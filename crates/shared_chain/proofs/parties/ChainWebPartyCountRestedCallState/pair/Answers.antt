@@ -1,6 +1,5 @@
 use Rattle.std.proofs.Common.{rules, ◌≡◌, ap, sym, subst}
-use Rattle.shared_parties.specs.CallStates.{IsResting}
-use Rattle.shared_parties.proofs.Crowds.{joins_up}
+use Rattle.shared_parties.{specs.CallStates.IsResting, proofs.Crowds.joins_up}
 use Rattle.shared_chain.proofs.Crowds.{merges}
 use Rattle.shared_chain.proofs.parties.ChainWebPartyCountRestedCallState.pair.Goals as goal
 

@@ -1,6 +1,5 @@
 use Rattle.std.proofs.Common.{rules, ◌≡◌, ap, sym, subst}
-use Rattle.shared_parties.specs.Parting.{IsTwo}
-use Rattle.shared_parties.proofs.Crowds.{splits_apart}
+use Rattle.shared_parties.{specs.Parting.IsTwo, proofs.Crowds.splits_apart}
 use Rattle.shared_chain.proofs.Crowds.{forks}
 use Rattle.shared_chain.proofs.parties.ChainWebPartyCountRestedCallState.part.Goals as goal
 

@@ -1,6 +1,5 @@
 use Rattle.std.proofs.Common.{rules, subst}
-use Rattle.shared_chain.specs.Turning.{Operated}
-use Rattle.shared_chain.proofs.Steps.Turns.{same_twice, can_touch, touched_at}
+use Rattle.shared_chain.{specs.Turning.Operated, proofs.Steps.Turns.same_twice, proofs.Steps.Turns.can_touch, proofs.Steps.Turns.touched_at}
 use Rattle.shared_chain.proofs.web.ChainWeb.take_step.Goals as goal
 
 pub touch-requires : goal.touch-requires

@@ -1,7 +1,6 @@
 use Rattle.std.proofs.Common.{rules, sym, subst}
 use Rattle.atomic_table.specs.Table.{Allows}
-use Rattle.shared_tables.specs.{TableRule.Rule, Quitting.HasQuit}
-use Rattle.shared_tables.proofs.Quits.{gives_up}
+use Rattle.shared_tables.{specs.TableRule.Rule, specs.Quitting.HasQuit, proofs.Quits.gives_up}
 use Rattle.shared_tables.proofs.table.SharedTable.quit.Goals as goal
 
 pub load-requires-clause-may : goal.load-requires-clause-may

@@ -1,7 +1,6 @@
 use Rattle.std.proofs.Common.{◌∙◌, subst}
 use Rattle.shared_parties.specs.declared.known.InCall.{InCall}
-use Rattle.shared_tables.specs.TableTurns.{Follows}
-use Rattle.shared_tables.proofs.TableTouches.{can_touch, touched_at}
+use Rattle.shared_tables.{specs.TableTurns.Follows, proofs.TableTouches.can_touch, proofs.TableTouches.touched_at}
 use Rattle.shared_tables.proofs.table.SharedTableSite.take_step.Goals as goal
 
 pub touch-requires-clause-can : goal.touch-requires-clause-can

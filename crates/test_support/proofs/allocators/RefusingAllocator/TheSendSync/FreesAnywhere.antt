@@ -1,7 +1,6 @@
 -- Any thread may give a block back where any may to the inner allocator.
 use mir.Syntax.{Dict}
-use denote.RattleType.{RattleType}
-use denote.Param.Send.{Frees}
+use denote.{RattleType.RattleType, Param.Send.Frees}
 use Rattle.std.specs.declared.alloc.Allocator.{Ghosts}
 use Rattle.test_support.specs.contracts.allocators.RefusingAllocator.TheImpl.{ghosts}
 

@@ -2,37 +2,19 @@
 use Rattle.std.proofs.Common.{◌≡◌, ℕ, ◌^◌, ◌<◌, Bool, true, false, Ok, Err, List, [], ◌∷◌, refl, w64, Bor}
 use seplogic.Ra.Ura.{Ura}
 use mir.Syntax.{Ty, Args, Fn, a_type, dnil, dcons}
-use mir.Val.{Val, vbool, vint, vptr}
-use mir.MapTy.{inst_fn}
-use base.Logic.{SProp, ent}
-use base.Fml.{Lft, Share, ftrue, flft}
-use prog.Memory.{Memory, size, align, capped}
-use prog.Routine.{Routine}
-use prog.Wp.{WpFn, Tables}
-use types.Logic.{Logic}
+use mir.{Val.Val, Val.vbool, Val.vint, Val.vptr, MapTy.inst_fn}
+use base.{Logic.SProp, Logic.ent, Fml.Lft, Fml.Share, Fml.ftrue, Fml.flft}
+use prog.{Memory.Memory, Memory.size, Memory.align, Memory.capped, Routine.Routine, Wp.WpFn, Wp.Tables}
+use types.{Logic.Logic, Part.agg}
 use types.Kit.{Sq, prop, ‵, raw, ◌⊛◌, some, later, given, at_ret, pick, drop, use0, ◌$◌, ◌∵◌, !, qed, move, keep, use1, use2, split, join, learn, fsplit, fjoin, suffices, await, done}
 use types.Run.{stop, fld, addr, lit, no_more, and_then, first, branches, skips, exec, returns, returns_within, enter}
-use types.Part.{agg}
 use types.ByLocal.{alloc_all, pass_all, free_all, look_at, get, through, sets, lands_as, env}
 use contract.BorrowLft.{◌⊑◌, ⊑_trans}
-use contract.Monad.{Fun, fact}
-use contract.Running.{tables, tables_of}
+use contract.{Monad.Fun, Monad.fact, Running.tables, Running.tables_of}
 use sound.WpLaws.{fm_of, WpFn-mono}
-use denote.Exit.{yes}
-use denote.RattleType.{owns}
-use denote.Ref.{shr_vals}
-use denote.Memory.{hidden_shr}
-use denote.Param.{bounded, param}
-use denote.Plain.{uint_vals, uint_Tells}
-use denote.RawPtr.{block_ptr}
-use denote.Builtin.{usize, RefOf}
+use denote.{Exit.yes, Ref.shr_vals, Memory.hidden_shr, RattleType.owns, RawPtr.block_ptr, Param.bounded, Param.param, Steps.heard, Steps.nothing, Plain.uint_vals, Plain.uint_Tells, Builtin.usize, Builtin.RefOf}
 use denote.Signature.{Slot, plain, types_at}
-use denote.Steps.{heard, nothing}
-use denote.Triple.Call.{calls_at}
-use denote.Triple.Clauses.{Ended, Clauses}
-use denote.Triple.Spec.{triple_of}
-use denote.Triple.Statement.{Triple}
-use denote.Triple.Table.{entered, cited}
+use denote.Triple.{Call.calls_at, Spec.triple_of, Statement.Triple, Table.entered, Table.cited, Clauses.Ended, Clauses.Clauses}
 use denote.Triple.Walked.{Stays, stay_dropped, walk_of, ends_at, walked, Goes-dropped, walk_Meets}
 use Rattle.std.proofs.alloc.Calls.{Al, seen, Answer, answer_val, Answer-typed, Answer-Ok, Answer-err, takes_key, Takes, at_takes, Answered, Takes-goes, Takes-gives, answers}
 use Rattle.test_support.proofs.Tallies.{Counted, inner_at, tally_at, fields-seen, later_of, IsRefused, at_refused, IsRefused-goes, IsRefused-gives}

@@ -2,36 +2,21 @@
 use Rattle.std.proofs.Common.{◌≡◌, ℕ, ◌^◌, ◌<◌, List, [], ◌∷◌, refl, w64, Bor}
 use seplogic.Ra.Ura.{Ura}
 use mir.Syntax.{Ty, Args, Fn, a_type, dnil, dcons}
-use mir.Val.{Val, vunit, vint, vptr}
-use mir.MapTy.{inst_fn}
+use mir.{Val.Val, Val.vunit, Val.vint, Val.vptr, MapTy.inst_fn}
 use base.Logic.{SProp, ent, never_e}
 use base.Fml.{Lft, Share, ftrue, ffalse, flft, fsep, froom}
-use prog.Memory.{Memory, size, align, capped}
-use prog.Routine.{Routine}
-use prog.Wp.{WpFn, Tables}
+use prog.{Memory.Memory, Memory.size, Memory.align, Memory.capped, Routine.Routine, Wp.WpFn, Wp.Tables}
 use types.Logic.{Logic}
 use types.Kit.{Item, ‵, raw, ◌⊛◌, later, given, ◌$◌, ◌∵◌, !, qed, by, move, keep, use1, use2, split, split3, join, learn, fsplit, fjoin, feq_i, suffices, await, done}
 use types.Run.{stop, fld, addr, no_more, and_then, of_opd, unit_lit, returns, enter}
 use types.ByLocal.{alloc_all, pass_all, free_all, look_at, get, through, sets, lands_as}
 use contract.BorrowLft.{◌⊑◌, ⊑_trans}
-use contract.Monad.{Fun, fact}
-use contract.Running.{tables, tables_of}
+use contract.{Monad.Fun, Monad.fact, Running.tables, Running.tables_of}
 use sound.WpLaws.{fm_of, WpFn-mono}
-use denote.Exit.{yes}
-use denote.RattleType.{owns}
-use denote.Ref.{shr_vals}
-use denote.Memory.{hidden_shr}
-use denote.Param.{bounded, param}
-use denote.Plain.{uint_vals, uint_Tells}
+use denote.{Exit.yes, Ref.shr_vals, RattleType.owns, Memory.hidden_shr, Param.bounded, Param.param, Steps.heard, Steps.nothing, Plain.uint_vals, Plain.uint_Tells, Builtin.usize, Builtin.RawPtr, Builtin.RefOf}
 use denote.RawPtr.{Ptr, block_ptr, null_ptr, ptr_val, rawptr_vals, rawptr_Tells}
-use denote.Builtin.{usize, RawPtr, RefOf}
 use denote.Signature.{Slot, plain, types_at}
-use denote.Steps.{heard, nothing}
-use denote.Triple.Call.{calls_at}
-use denote.Triple.Clauses.{Ended, Clauses}
-use denote.Triple.Spec.{triple_of}
-use denote.Triple.Statement.{Triple}
-use denote.Triple.Table.{entered, cited}
+use denote.Triple.{Call.calls_at, Spec.triple_of, Statement.Triple, Table.entered, Table.cited, Clauses.Ended, Clauses.Clauses}
 use denote.Triple.Walked.{Stays, stay_dropped, walk_of, ends_at, walked, Goes-dropped, walk_Meets}
 use Rattle.std.proofs.alloc.Calls.{Al, seen, token, gives_key, Gives, at_gives, Gives-goes, Gives-Gives}
 use Rattle.test_support.proofs.Tallies.{Counted, inner_at, tally_at, fields-seen, GivesBack, at_back, GivesBack-goes, GivesBack-gives}

@@ -1,15 +1,14 @@
 -- `test` asks the inner allocator. Assumes `Logic`.
-use Rattle.mem_blocks.proofs.Walks.{◌≡◌, ℕ, List, [], ◌∷◌, refl, a_type, dcons, dnil, Val, vunit, vptr, inst_fn, SProp, Lft, Share, ftrue, flft, Incl-trans, ‵, raw, ◌⊛◌, later, given, ◌$◌, ◌∵◌, !, qed, by, move, keep, use1, use3, split, join, fsplit, learn, await, feq_i, stop, fld, addr, of_opd, unit_lit, no_more, and_then, returns, enter, alloc_all, pass_all, free_all, look_at, get, sets, lands_as, tables, fact, ◌⊑◌, yes, owns, types_at, plain, Ptr, RawPtr, ptr_val, Testable, heard, param, bounded, rawptr_vals, rawptr_Tells, RefOf, shr_vals, calls_at, Stays, stay_dropped, walk_of, Goes-dropped, proved, leaves, fm, ptr_good, tells, spends}
+use Rattle.mem_blocks.proofs.Walks.{◌≡◌, ℕ, List, [], ◌∷◌, refl, a_type, dcons, dnil, Val, vunit, vptr, inst_fn, SProp, Lft, Share, ftrue, flft, Incl-trans, ‵, raw, ◌⊛◌, later, given, ◌$◌, ◌∵◌, !, qed, by, move, keep, use1, use3, split, join}
+use Rattle.mem_blocks.proofs.Walks.{fsplit, learn, await, feq_i, stop, fld, addr, of_opd, unit_lit, no_more, and_then, returns, enter, alloc_all, pass_all, free_all, look_at, get, sets, lands_as, tables, fact, ◌⊑◌, yes, owns, types_at, plain}
+use Rattle.mem_blocks.proofs.Walks.{Ptr, RawPtr, ptr_val, Testable, heard, param, bounded, rawptr_vals, rawptr_Tells, RefOf, shr_vals, calls_at, Stays, stay_dropped, walk_of, Goes-dropped, proved, leaves, fm, ptr_good, tells, spends}
 use types.ByLocal.{through}
-use denote.Memory.{hidden_shr}
-use denote.Signature.{Slot}
+use denote.{Memory.hidden_shr, Signature.Slot}
 use Rattle.std.proofs.alloc.Calls.{Al, seen, token}
 use Rattle.mem_blocks.proofs.Tests.{Asks, asked_at, asks_of, told_of}
-use Rattle.test_support.proofs.Tallies.{Counted, inner_at, tally_at, fields-seen}
+use Rattle.test_support.proofs.{Tallies.Counted, Tallies.inner_at, Tallies.tally_at, Tallies.fields-seen, allocators.RefusingNullTestable.test.Statement.statement}
 use Rattle.test_support.specs.contracts.allocators.Refusing as refusing
-use Rattle.test_support.specs.contracts.allocators.RefusingNullTestable.test.{ended, clauses}
-use Rattle.test_support.specs.contracts.allocators.RefusingNullTestable.test.Key.{name as #self}
-use Rattle.test_support.proofs.allocators.RefusingNullTestable.test.Statement.{statement}
+use Rattle.test_support.specs.contracts.allocators.RefusingNullTestable.test.{ended, clauses, Key.name as #self}
 use Rattle.test_support.proofs.allocators.RefusingNullTestable.test.Code as code
 
 pub test_spec : {M : Type 1} → statement M

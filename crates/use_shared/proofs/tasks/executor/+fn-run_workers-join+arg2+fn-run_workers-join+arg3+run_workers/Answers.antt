@@ -1,6 +1,5 @@
 use Rattle.std.proofs.Common.{◌∙◌}
-use Rattle.use_shared.specs.Sharing.{none}
-use Rattle.use_shared.proofs.{Moving.then, Shifts.joined_shift}
+use Rattle.use_shared.{specs.Sharing.none, proofs.Moving.then, proofs.Shifts.joined_shift}
 use Rattle.use_shared.proofs.tasks.executor.+fn-run_workers-join+arg2+fn-run_workers-join+arg3+run_workers.Goals as goal
 
 pub returns-in-Err : goal.returns-in-Err

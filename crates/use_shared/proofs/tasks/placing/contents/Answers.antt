@@ -1,6 +1,5 @@
 use Rattle.std.proofs.Common.{[], ◌∷◌, ◌++◌, length, map, Some, ap, sym, ◌∙◌, append_assoc, arith}
-use Rattle.std.proofs.lemmas.List.{length-map, map-append}
-use Rattle.std.specs.Vec.Iter.{into_iter_items}
+use Rattle.std.{proofs.lemmas.List.length-map, proofs.lemmas.List.map-append, specs.Vec.Iter.into_iter_items}
 use Rattle.use_shared.proofs.Places.{number_below, all_came, none_missing}
 use Rattle.use_shared.proofs.tasks.placing.contents.Goals as goal
 

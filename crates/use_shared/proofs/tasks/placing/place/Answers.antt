@@ -1,7 +1,6 @@
 use Rattle.std.proofs.Common.{[], ◌∷◌, ◌++◌, length, slice_get, Some, None, ap, sym, ◌∙◌, append_assoc, append-nil, arith}
 use Rattle.std.proofs.lemmas.{List.length-set, List.length-replicate, Option.slice_get_within}
-use Rattle.use_shared.specs.declared.tasks.numbered.Finished.{Finished}
-use Rattle.use_shared.proofs.Places.{placed_none, placed_more, placed_all}
+use Rattle.use_shared.{specs.declared.tasks.numbered.Finished.Finished, proofs.Places.placed_none, proofs.Places.placed_more, proofs.Places.placed_all}
 use Rattle.use_shared.proofs.tasks.placing.place.Goals as goal
 
 pub loop-done-preserved : goal.loop-done-preserved

@@ -1,7 +1,7 @@
 use Rattle.std.proofs.Common.{◌≡◌, ◌∙◌, ◌%◌, arith, ap, refl, [], ◌∷◌, ◌++◌}
 use Rattle.queue_steps.specs.declared.sizes.TheConstants.{BLOCK_SLOTS}
 use Rattle.mem_blocks.specs.Web.{alive_at}
-use Rattle.own_cells.proofs.OneChain.Layings.{Opened-none, Opened-more, Opened-lives, opened-idle, made_at}
+use Rattle.own_cells.proofs.OneChain.Layings.{Opened-none, Opened-more, Opened-holds, opened-idle, made_at}
 use Rattle.own_cells.proofs.chain.own_chain.OwnChain.after.Goals as goal
 
 pub loop-slot-init : goal.loop-slot-init
@@ -15,7 +15,7 @@ loop-slot-init g c =
     }
 
 pub set_word-requires : goal.set_word-requires
-set_word-requires g c = (c.in_ok-link.ensures.2, omega arith, Opened-lives c.in_ok-link.link.ptr c.loop-slot.slot _ c.loop-slot.invariant.opened)
+set_word-requires g c = (c.in_ok-link.ensures.2, Opened-holds c.in_ok-link.link.ptr c.loop-slot.slot c.loop-slot.slot _ (omega arith) c.loop-slot.invariant.opened)
 
 pub loop-slot-preserved : goal.loop-slot-preserved
 loop-slot-preserved g c =

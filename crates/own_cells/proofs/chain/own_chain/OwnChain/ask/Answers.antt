@@ -1,6 +1,5 @@
 use Rattle.std.proofs.Common.{arith, ap}
-use Rattle.own_cells.specs.OneChain.OwnChain.{own_chain_view}
-use Rattle.own_cells.proofs.OneChain.{Pieces.length-pieces_of, Linked.oldest, Linked.blocks_in}
+use Rattle.own_cells.{specs.OneChain.OwnChain.own_chain_view, proofs.OneChain.Pieces.length-pieces_of, proofs.OneChain.Linked.oldest, proofs.OneChain.Linked.blocks_in}
 use Rattle.own_cells.proofs.chain.own_chain.OwnChain.ask.Goals as goal
 
 pub returns-in-None : goal.returns-in-None

@@ -1,5 +1,5 @@
 use Rattle.std.proofs.Common.{bit_or}
-use Rattle.own_cells.proofs.OneChain.Linked.{Knows-named, block_of, lives, in_block, worded-held, set-linked, bits-set}
+use Rattle.own_cells.proofs.OneChain.Linked.{Knows-named, block_of, holds_word, in_block, worded-held, set-linked, bits-set}
 use Rattle.own_cells.proofs.chain.own_chain.OwnChain.set_bits.Goals as goal
 
 pub word-found-requires : goal.word-found-requires
@@ -8,7 +8,7 @@ word-found-requires g c =
     let b = c.args.block in
     let can = rw (← c.self.view_is) at c.requires in
     let k = Knows-named s b c.self.invariant can.0 in
-    (in_block s b k, can.1, lives s b k)
+    (in_block s b k, holds_word s b c.args.slot k can.1)
 
 pub set_word-requires : goal.set_word-requires
 set_word-requires g c =
@@ -16,7 +16,7 @@ set_word-requires g c =
     let b = c.args.block in
     let can = rw (← c.self.view_is) at c.requires in
     let k = Knows-named s b c.self.invariant can.0 in
-    rw c.word-found.ensures.0 (in_block s b k, can.1, lives s b k)
+    rw c.word-found.ensures.0 (in_block s b k, holds_word s b c.args.slot k can.1)
 
 pub invariant_of-self : goal.invariant_of-self
 invariant_of-self g c =

@@ -1,5 +1,6 @@
 use Rattle.std.proofs.Common.{◌<◌, arith}
-use Rattle.own_cells.proofs.{OneRing.ItemsLeft.one_fewer, OneChain.ItemsLeft.can-read, OneChain.ItemsLeft.can-pass, OneChain.ItemsLeft.reads, OneChain.ItemsLeft.reads-behind, chain.reading.ItemsIterator.next.Goals.then-self-eq-BLOCK_SLOTS, chain.reading.ItemsIterator.next.Goals.else-self-eq-BLOCK_SLOTS}
+use Rattle.own_cells.proofs.{OneRing.ItemsLeft.one_fewer, chain.reading.ItemsIterator.next.Goals.then-self-eq-BLOCK_SLOTS, chain.reading.ItemsIterator.next.Goals.else-self-eq-BLOCK_SLOTS}
+use Rattle.own_cells.proofs.OneChain.ItemsLeft.{can-read, can-pass, reads, reads-behind}
 use Rattle.own_cells.proofs.chain.reading.ItemsIterator.next.Goals as goal
 
 pub item-item-requires : goal.item-item-requires

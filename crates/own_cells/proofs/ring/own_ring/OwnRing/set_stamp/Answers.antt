@@ -1,7 +1,6 @@
 use Rattle.std.proofs.Common.{ap, ◌∙◌, arith}
 use Rattle.std.specs.Mem.Slots.{slots_items, slots_counts, slots_small}
-use Rattle.own_cells.specs.OneRing.RingMemory.{ring_in}
-use Rattle.own_cells.proofs.OneRing.RingLies.{stamp_low, stamp_written}
+use Rattle.own_cells.{specs.OneRing.RingMemory.ring_in, proofs.OneRing.RingLies.stamp_low, proofs.OneRing.RingLies.stamp_written}
 use Rattle.own_cells.proofs.ring.own_ring.OwnRing.set_stamp.Goals as goal
 
 pub overflow_add-slot : goal.overflow_add-slot

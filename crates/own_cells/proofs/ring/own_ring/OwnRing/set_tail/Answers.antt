@@ -1,7 +1,6 @@
 use Rattle.std.proofs.Common.{ap, ◌∙◌}
 use Rattle.std.specs.Mem.Slots.{slots_items, slots_counts}
-use Rattle.own_cells.specs.OneRing.RingMemory.{ring_in}
-use Rattle.own_cells.proofs.OneRing.RingLies.{tail_written}
+use Rattle.own_cells.{specs.OneRing.RingMemory.ring_in, proofs.OneRing.RingLies.tail_written}
 use Rattle.own_cells.proofs.ring.own_ring.OwnRing.set_tail.Goals as goal
 
 pub returns : goal.returns

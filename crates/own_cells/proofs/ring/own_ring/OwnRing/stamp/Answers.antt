@@ -1,5 +1,4 @@
-use Rattle.std.proofs.Common.{arith}
-use Rattle.std.specs.Mem.Slots.{slots_items, slots_counts, slots_small}
+use Rattle.std.{proofs.Common.arith, specs.Mem.Slots.slots_items, specs.Mem.Slots.slots_counts, specs.Mem.Slots.slots_small}
 use Rattle.own_cells.proofs.OneRing.RingLies.{stamp_low, stamp_read}
 use Rattle.own_cells.proofs.ring.own_ring.OwnRing.stamp.Goals as goal
 

@@ -8,4 +8,5 @@ returns-in-Ok g c =
 
 pub loop-preserved : goal.loop-preserved
 loop-preserved g c =
-    not_handed_in g.W.Numbered.number g.W.Numbered.finished_number c.args.worker.now c.loop.worker c.push.new.party (g.W.Numbered.finished_number c.args.finished) c.loop.finished c.into_inner-finished.result c.in-Err.why c.loop.invariant c.show_view.ensures c.in-Err.ensures c.into_inner-finished.ensures
+    not_handed_in g.W.Numbered.number g.W.Numbered.finished_number c.args.worker.now c.loop.worker c.push.new.party (g.W.Numbered.finished_number c.args.finished)
+    c.loop.finished c.into_inner-finished.result c.in-Err.why c.loop.invariant c.show_view.ensures c.in-Err.ensures c.into_inner-finished.ensures

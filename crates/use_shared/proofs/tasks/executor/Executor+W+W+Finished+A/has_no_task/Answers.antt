@@ -1,5 +1,4 @@
-use Rattle.use_shared.specs.Sharing.{none}
-use Rattle.use_shared.proofs.Moving.{at_tasks, saw_empty}
+use Rattle.use_shared.{specs.Sharing.none, proofs.Moving.at_tasks, proofs.Moving.saw_empty}
 use Rattle.use_shared.proofs.tasks.executor.Executor+W+W+Finished+A.has_no_task.Goals as goal
 
 pub returns : goal.returns

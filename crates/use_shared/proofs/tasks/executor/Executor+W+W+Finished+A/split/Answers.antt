@@ -1,6 +1,5 @@
 use Rattle.std.proofs.Common.{sym, subst}
-use Rattle.use_shared.specs.Sharing.{Moves, none}
-use Rattle.use_shared.proofs.{Moving.stays, Shifts.rejoined}
+use Rattle.use_shared.{specs.Sharing.Moves, specs.Sharing.none, proofs.Moving.stays, proofs.Shifts.rejoined}
 use Rattle.use_shared.proofs.tasks.executor.Executor+W+W+Finished+A.split.Goals as goal
 
 pub returns-in-Err : goal.returns-in-Err

@@ -1,6 +1,5 @@
 use Rattle.std.proofs.Common.{◌∙◌}
-use Rattle.use_shared.specs.Sharing.{none}
-use Rattle.use_shared.proofs.Moving.{stepped, then}
+use Rattle.use_shared.{specs.Sharing.none, proofs.Moving.stepped, proofs.Moving.then}
 use Rattle.use_shared.proofs.tasks.executor.Executor+W+W+Finished+A.work.Goals as goal
 
 pub returns-in_default-clause-moved : goal.returns-in_default-clause-moved
