@@ -47,7 +47,7 @@ party_goes {T} cap parties b c (Step p granted) (Ran k r) q h = elim (eqb_tells 
   | inr ne ↦ became refl (ap (λ z. z q) h.1.calls ∙ put-other calls p q _ (λ z. ne.1 (sym z))) (beside (Ran k r) (watched c.queue) (b.open_call q) ne.1 (λ o. refl))
 ]
   where
-    abbrev calls : ℕ → Option (Open T)
+    calls : ℕ → Option (Open T)
     calls j = at_open (watched c.queue) (b.open_call j)
 
     now : (y : Option (Open T)) → c.open_call ≡ put (λ j. at_open (watched c.queue) (b.open_call j)) p y → p ≡ q → c.open_call q ≡ y
