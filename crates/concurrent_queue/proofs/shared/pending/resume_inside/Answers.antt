@@ -6,8 +6,8 @@ use Rattle.shared_calls.specs.Laws.ChainSite.{site_goes_on}
 use Rattle.concurrent_queue.proofs.StopsIn.{first_asking, taken_up_in, resumes_in}
 use Rattle.concurrent_queue.proofs.shared.pending.resume_inside.Goals as goal
 
-pub go_on_inside-requires-clause-left : goal.go_on_inside-requires-clause-left
-go_on_inside-requires-clause-left g c =
+pub go_on_inside-ended-requires-clause-left : goal.go_on_inside-ended-requires-clause-left
+go_on_inside-ended-requires-clause-left g c =
     let q = c.args.queue.now in let s = c.args.asking in let l = c.args.left in let (v, h) = c.requires.stands in
     let on = again _ (site_goes_on (λ m. m.chain) (λ p. p.seat)) (λ n m first call a b p x on. on) (SOLO_STEPS - 1) l.kind l.call q (first_asking q.chain s) (its_call s.seat.sitter.view).call l.progress l.carried s
         ((h.1.kind, h.1.call), taken_up_in q.chain s l v h) in
@@ -18,4 +18,4 @@ returns g c = λ v h.
     let q = c.args.queue.now in let s = c.args.asking in let l = c.args.left in
     let on = again _ (site_goes_on (λ m. m.chain) (λ p. p.seat)) (λ n m first call a b p x on. on) (SOLO_STEPS - 1) l.kind l.call q (first_asking q.chain s) (its_call s.seat.sitter.view).call l.progress l.carried s
         ((h.1.kind, h.1.call), taken_up_in q.chain s l v h) in
-    c.outcome_of.ensures v (c.go_on_inside.ensures v (resumes_in q _ s l v h on))
+    c.outcome_of.ensures v (c.go_on_inside-ended.ensures v (resumes_in q _ s l v h on))
