@@ -1,9 +1,8 @@
 -- What is owed of the shared memory at each step of a call on a chain.
 use Rattle.std.proofs.Common.{ℕ, ◌≡◌, Bool, List}
 use Rattle.queue_steps.specs.{State.State, ChainNext.chain_next}
-use Rattle.machine_replay.specs.Vocabulary.{Kind}
+use Rattle.machine_replay.{specs.Vocabulary.Kind, proofs.Engine.StandOf.running_of, proofs.Chain.Names.Codes}
 use Rattle.queue_laws.specs.{Common.Stand.Stand, Chain.ChainCells.Chain, Chain.ChainCells.ChainOk, Chain.ChainAt.At, Chain.ChainAnswers.Answers, Chain.ChainAfter.chain_of, Chain.ChainAfter.carried_of, Chain.ChainAfter.after_of, Chain.ChainAfter.left_by}
-use Rattle.machine_replay.proofs.{Engine.StandOf.running_of, Chain.Names.Codes}
 use Rattle.queue_laws.proofs.Chain.ChainRight.{Gives}
 use Rattle.machine_memory.specs.SharedMemory.{MemoryState, CanTouch, CanOperate, slots_there, block_touched}
 use Rattle.machine_steps.specs.Steps.{after_touch, carried_then, answer_to, shared_then}

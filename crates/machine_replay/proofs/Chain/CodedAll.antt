@@ -5,10 +5,9 @@ use Rattle.queue_laws.specs.{Common.Stand.Stand, Chain.ChainCells.Chain, Chain.C
 use Rattle.queue_laws.specs.Chain.ChainAt.{At, push_tail, push_block, asking, installing, showing, claiming, laying, opening, chaining, writing, spending, pop_head, pop_block, pop_tail, taking, following, peeking, passing, entering, awaiting, count_tail, count_head, count_again, empty_head}
 use Rattle.queue_laws.specs.Chain.ChainAt.{empty_tail, closing, closed_tail, walking, destroying, reading, beginning}
 use Rattle.machine_memory.specs.SharedMemory.{MemoryState}
-use Rattle.machine_replay.proofs.Chain.{Coded.CodesShared, Coded.Coded, CodedRead.coded_walking, CodedRead.coded_destroying, CodedRead.coded_reading, CodedRead.coded_beginning}
+use Rattle.machine_replay.proofs.Chain.{Coded.CodesShared, Coded.Coded, CodedRead.coded_walking, CodedRead.coded_destroying, CodedRead.coded_reading, CodedRead.coded_beginning, CodedPop.coded_closed_tail}
 use Rattle.machine_replay.proofs.Chain.CodedPush.{coded_push_tail, coded_push_block, coded_asking, coded_installing, coded_showing, coded_claiming, coded_laying, coded_opening, coded_chaining, coded_writing, coded_spending}
 use Rattle.machine_replay.proofs.Chain.CodedPop.{coded_pop_head, coded_pop_block, coded_pop_tail, coded_taking, coded_following, coded_peeking, coded_passing, coded_entering, coded_awaiting, coded_count_tail, coded_count_head, coded_count_again, coded_empty_head, coded_empty_tail, coded_closing}
-use Rattle.machine_replay.proofs.Chain.CodedPop.{coded_closed_tail}
 
 pub coded : {A : Type 0} {c : Chain A} {who : ℕ} {ms : List (State A)} {k : Stand A} (ok : Bool) (s : MemoryState A) (at : At c who ms k)
     → ChainOk c → CodesShared s c → Coded c who ms ok s at

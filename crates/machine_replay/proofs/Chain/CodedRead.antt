@@ -92,7 +92,7 @@ module _ {A : Type 0} (c : Chain A) (who : ℕ) (ms : List (State A)) (ok : Bool
           (record { written = same.written; read = same.read; destroyed = λ ne. absurd (ne (done_is (c.readers (item_at b slot)) done)) })
           changed left codes))
 
-  -- W2: the reader of a passed block's slot is told to go on with the walk
+  -- W2: the reader of a passed block's slot has to go on with the walk
   pub coded_destroying : (x : A) (b name slot : ℕ) (holds : HoldsOnly c who (Only (Passed b))) (is : c.walks b ≡ Walker who slot) (named : IsNamed c b name)
       → ChainOk c → CodesShared s c → Coded c who ms ok s (destroying x b name slot holds is named)
   coded_destroying x b name slot holds is named right codes = record {

@@ -4,8 +4,7 @@ use Rattle.std.proofs.lemmas.{List.length-set, Bool.Decides.eqb_tells}
 use Rattle.machine_replay.specs.Vocabulary.{BLOCK_SLOTS, READ, Running}
 use Rattle.machine_memory.specs.{declared.blocks.BlockPlace.BlockPlace, Blocks.BlockState, Blocks.blank, Blocks.places_in, Blocks.with_place, Blocks.with_next, Blocks.put_item}
 use Rattle.machine_steps.specs.ChainLeft.{settled_by, settled_blocks}
-use Rattle.machine_replay.proofs.Chain.Deeds.{Deed, Rest, Puts, Lays, Reads, deed_of, done, deed_done, PutsAt, LinksTo}
-use Rattle.machine_replay.proofs.Chain.Counted.{within_list}
+use Rattle.machine_replay.proofs.Chain.{Deeds.Deed, Deeds.Rest, Deeds.Puts, Deeds.Lays, Deeds.Reads, Deeds.deed_of, Deeds.done, Deeds.deed_done, Deeds.PutsAt, Deeds.LinksTo, Counted.within_list}
 
 -- the block with this item in a place
 abbrev with_item : {A : Type 0} → ℕ → Option A → BlockState A → BlockState A

@@ -1,12 +1,11 @@
 -- A block that was just granted stands for a block of the chain that nobody has touched.
 use Rattle.std.proofs.Common.{ℕ, ◌+◌, ◌*◌, ◌≤◌, ◌≡◌, ◌≢◌, not, ◌∙◌, inl, inr, zero, suc, Some, None, refl, sym, ap, subst, arith}
 use Rattle.std.proofs.lemmas.List.{get_or-replicate, length-replicate}
-use Rattle.machine_replay.specs.Vocabulary.{BLOCK_SLOTS}
+use Rattle.machine_replay.{specs.Vocabulary.BLOCK_SLOTS, proofs.Chain.Codes.BlockIs, proofs.Chain.Codes.lies}
 use Rattle.queue_laws.specs.Chain.ChainCells.{Free, Unread, Done, Mover, Rests, LinkState, Linked, Walk, Before, GivenUp, Chain, BlocksOk, LinkOk, WalkOk, ChainOk, item_at, LAST}
 use Rattle.queue_laws.proofs.Chain.ChainTransitions.{item_free}
 use Rattle.queue_laws.specs.Chain.ChainAnswers.{last_of, linked_of, is_wrote, is_done, waits_at, IsState}
 use Rattle.machine_memory.specs.Blocks.{blank, fresh_block}
-use Rattle.machine_replay.proofs.Chain.Codes.{BlockIs, lies}
 
 -- the items of the next block are all beyond the tail
 pub next_high : (tail blocks : ℕ) (m : Mover) → BlocksOk tail blocks m → tail ≤ blocks * BLOCK_SLOTS

@@ -1,8 +1,7 @@
 -- All that a chain of blocks owes the machine.
 use Rattle.std.proofs.Common.{ℕ, Option, Some, None}
 use Rattle.machine_replay.specs.{Vocabulary.Kind, Vocabulary.Running, Book.Book, Book.Open}
-use Rattle.queue_laws.specs.Chain.ChainCells.{Chain}
-use Rattle.queue_laws.proofs.Chain.ChainFirst.{first}
+use Rattle.queue_laws.{specs.Chain.ChainCells.Chain, proofs.Chain.ChainFirst.first}
 use Rattle.machine_memory.specs.SharedMemory.{MemoryState}
 use Rattle.machine_steps.specs.{Steps.CanStep, Steps.step_of, Steps.start_of, World.World, World.call_at}
 use Rattle.machine_replay.proofs.Engine.Events as engine

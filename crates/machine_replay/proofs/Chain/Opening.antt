@@ -1,10 +1,9 @@
 -- The opening of a chain: the words stand for it, and every party is idle.
 use Rattle.std.proofs.{Common.ℕ, Common.None, Common.[], Common.refl, Common.arith, lemmas.List.get_or_past}
 use Rattle.queue_steps.specs.State.{start}
-use Rattle.machine_replay.specs.Vocabulary.{Kind}
+use Rattle.machine_replay.{specs.Vocabulary.Kind, proofs.Chain.Fits.ChainIdle, proofs.Chain.Holding.ChainHolds}
 use Rattle.queue_laws.proofs.Chain.ChainFirst.{first, first_ok, first_idle, first_spares}
 use Rattle.machine_memory.specs.Opening.{opening_shared}
-use Rattle.machine_replay.proofs.Chain.{Fits.ChainIdle, Holding.ChainHolds}
 
 pub chain_opens : (A : Type 0) → ChainHolds {A = A} (opening_shared Kind.Unbounded) (start None 0) first
 chain_opens A = record {

@@ -2,8 +2,7 @@
 use Rattle.std.proofs.Common.{ℕ, ◌≡◌, Bool, true, false, Option, Some, List, refl, sym, subst}
 use Rattle.machine_replay.specs.Vocabulary.{Call, Effect, Local, Next, PushKind, Running, Look}
 use Rattle.queue_steps.specs.{State.State, Looks.call_of_look, declared.steps.chain.ChainLocal.ChainLocal as chain}
-use Rattle.queue_laws.specs.{Common.Pushes.pushes, Common.Stand.Stand, Chain.ChainCells.Chain}
-use Rattle.queue_laws.proofs.Chain.ChainRight.{NextOkSpares}
+use Rattle.queue_laws.{specs.Common.Pushes.pushes, specs.Common.Stand.Stand, specs.Chain.ChainCells.Chain, proofs.Chain.ChainRight.NextOkSpares}
 use Rattle.queue_laws.specs.Chain.ChainAt.{At, push_tail, push_block, asking, installing, showing, claiming, laying, opening, chaining, writing, spending, count_tail, count_head, count_again}
 use Rattle.machine_steps.specs.Steps.{running_after}
 

@@ -1,7 +1,6 @@
 -- A block of a chain, once every call in progress has done what it has claimed, shows its part of the list.
 use Rattle.std.proofs.Common.{ℕ, suc, zero, ◌+◌, ◌-◌, ◌*◌, ◌/◌, ◌%◌, ◌<◌, ◌≤◌, ◌≡◌, ◌==◌, not, ◌∙◌, Bool, true, false, if◌then◌else◌, Option, Some, None, List, [], ◌∷◌, ◌++◌, length, refl, sym, ap, subst, get_or, slice_get, drop, bit_and, arith}
-use Rattle.std.proofs.lemmas.List.{append_assoc, drop_all}
-use Rattle.std.specs.Option.{option_to_list}
+use Rattle.std.{proofs.lemmas.List.append_assoc, proofs.lemmas.List.drop_all, specs.Option.option_to_list}
 use Rattle.machine_replay.specs.Vocabulary.{BLOCK_SLOTS, READ, Running}
 use Rattle.queue_laws.specs.Chain.ChainCells.{Writer, Free, Writing, Wrote, Reader, Unread, Reading, Done, Chained, Chain, ChainOk, ItemOk, item_at, Part, Write, Read, owner, writer_of, reader_of}
 use Rattle.queue_laws.specs.Chain.ChainAnswers.{is_done}

@@ -94,7 +94,7 @@ mover_links (Local.Chain (chain.Laying d tail block fresh)) h = tt
 mover_links (Local.Chain (chain.Opening d tail block fresh)) h = tt
 mover_links _ h = absurd h
 
--- the steps at which a call can go back, told apart by numbers
+-- the steps at which a call can go back, each with its number
 abbrev row_of : Local ℕ → ℕ
 row_of (Local.Chain (chain.PushTail d spare)) = 1
 row_of (Local.Chain chain.PopHead) = 2

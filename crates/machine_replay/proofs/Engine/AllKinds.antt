@@ -3,12 +3,11 @@ use Rattle.std.proofs.Common.{ℕ, ◌+◌, ◌≤◌, ◌≡◌, Bool, nat_lt, 
 use Rattle.machine_replay.specs.Vocabulary.{Call, Kind, MAX_CAPACITY, Event, Told, Peak, Begin, Step, Running}
 use Rattle.queue_steps.specs.Words.{IsRing}
 use Rattle.machine_replay.specs.{Book.opening, Conforms.capacity_of, Replays.CanReplay, Replays.is_too_large, Peaks.opening_peak, Peaks.peaked}
-use Rattle.machine_memory.specs.SharedMemory.{MemoryState}
+use Rattle.machine_memory.{specs.SharedMemory.MemoryState, proofs.Presence.Sparing}
 use Rattle.machine_steps.specs.{Steps.CanStart, Left.left_of, Left.opening_world, Left.HasSlot, Machine.event_of, Machine.CanHandle, Machine.Handles, Machine.Passes, Machine.PassesAll, World.World, World.call_at}
 use Rattle.machine_replay.proofs.{Engine.KindLaws.KindLaws, Slot.Left.slot_laws, Ring.Kind.ring_laws, Chain.Kind.chain_laws, Replays.Peaking.Run-length, Replays.Peaking.peaked-if}
 use Rattle.machine_replay.proofs.Engine.SoFar.{SoFar, so_far-first, so_far-more, so_far-can, so_far-grows, so_far-none, so_far-room}
 use Rattle.std.proofs.lemmas.Bool.{ltb-false}
-use Rattle.machine_memory.proofs.Presence.{Sparing}
 use Rattle.machine_steps.proofs.EventPresence.{event-sparing}
 
 -- the machine has queues of this kind

@@ -1,10 +1,9 @@
 -- A queue with a capacity has no block.
 use Rattle.std.proofs.Common.{◌≡◌, ℕ, Some, [], length, ap, arith}
 use Rattle.queue_steps.specs.Sequential.{blocks_of, spanned}
-use Rattle.machine_replay.specs.{Vocabulary.Running, Book.Book}
+use Rattle.machine_replay.{specs.Vocabulary.Running, specs.Book.Book, proofs.Engine.KindLaws.IsCounted}
 use Rattle.machine_memory.specs.{SharedMemory.MemoryState, Present.present}
 use Rattle.machine_steps.specs.World.{World}
-use Rattle.machine_replay.proofs.Engine.KindLaws.{IsCounted}
 
 pub counted-none : {T : Type 0} (w : World (MemoryState T) (Running T)) (b : Book T) (n : ℕ) → w.shared.blocks ≡ [] → b.queue.cap ≡ Some n → IsCounted w b
 counted-none w b n none capped =

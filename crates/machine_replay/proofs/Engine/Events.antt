@@ -6,8 +6,7 @@ use Rattle.queue_steps.specs.{State.State, Replies.IsRightAt}
 use Rattle.machine_replay.specs.Vocabulary.{Call, Reply, Effect, Event, Begin, Step, Skipped}
 use Rattle.machine_replay.specs.Book.{Book, Open, Moves, GoesOn, Stays, MayEnd, Steps, Happens, put, watched, joined, at_open, after_own, begun, has_steps}
 use Rattle.machine_steps.specs.World.{World, StepOutcome, Begun, call_at, can_begin, stepped, stepped_if, began, began_by, world_event}
-use Rattle.machine_memory.specs.Present.{present}
-use Rattle.machine_memory.proofs.Busy.{busy_set, one_if, one_busy}
+use Rattle.machine_memory.{specs.Present.present, proofs.Busy.busy_set, proofs.Busy.one_if, proofs.Busy.one_busy}
 
 and_false : (a : Bool) → (a && false) ≡ false
 and_false true = refl

@@ -3,9 +3,8 @@ use Rattle.std.proofs.Common.{ℕ, ◌+◌, ◌/◌, ◌<◌, ◌≤◌, ◌≡�
 use Rattle.std.proofs.lemmas.List.{length-replicate}
 use Rattle.machine_replay.specs.{Vocabulary.Kind, Vocabulary.BLOCK_SLOTS, Vocabulary.Event, Vocabulary.Told, Vocabulary.Peak, Vocabulary.Running, Book.Book, Book.Run, Book.Happens, Book.opening, Conforms.capacity_of, Conforms.party_of, Conforms.entries_from, Conforms.IsPeak, Conforms.HasNoBlocks}
 use Rattle.machine_replay.specs.{Conforms.share, Peaks.bound_of, Peaks.opening_peak, Peaks.peaked}
-use Rattle.machine_memory.specs.{SharedMemory.MemoryState, Present.present}
+use Rattle.machine_memory.{specs.SharedMemory.MemoryState, specs.Present.present, proofs.Busy.nobody_calls, proofs.Busy.none_are_busy}
 use Rattle.machine_steps.specs.{Steps.CanStep, Steps.step_of, Steps.start_of, Left.left_of, Left.opening_world, Machine.event_of, World.World, World.call_at}
-use Rattle.machine_memory.proofs.Busy.{nobody_calls, none_are_busy}
 use Rattle.machine_replay.proofs.Engine.Events as engine
 use Rattle.machine_replay.proofs.{Engine.KindLaws.KindLaws, Engine.KindLaws.SimulatesOf, Replays.Growing.run-grows, Replays.Growing.run-cap, Replays.Growing.happens-grows, Replays.Peaking.Run-length, Replays.Peaking.peak-first, Replays.Peaking.peak-more, Replays.Peaking.peaked-covers}
 

@@ -1,9 +1,9 @@
 -- How soon a solo call and a wait-free call reply.
-use Rattle.std.proofs.Common.{◌≡◌, ◌≢◌, ◌⊎◌, ◌∙◌, ℕ, zero, suc, ◌+◌, ◌<◌, ◌&&◌, nat_lt, Bool, true, false, Option, Some, None, is_some, is_none, List, [], ◌∷◌, refl, sym, ap, subst, arith, inl, inr}
+use Rattle.std.proofs.Common.{◌≡◌, ◌≢◌, ◌⊎◌, ◌∙◌, ℕ, zero, suc, ◌+◌, ◌<◌, ◌&&◌, nat_lt, Bool, true, false, Option, Some, None, is_some, is_none, refl, sym, ap, subst, arith, inl, inr}
 use Rattle.std.proofs.lemmas.Bool.{ltb-true, eq-eqb, Decides.eqb_tells}
 use Rattle.queue_laws.proofs.Common.Tests.{is_none_true}
 use Rattle.machine_replay.specs.Vocabulary.{Reply, SOLO_STEPS, WAIT_FREE_STEPS, Event, Told, EffectKind, Begin, Step, Skipped, Ran}
-use Rattle.machine_replay.specs.Book.{Book, Open, Run, Happens, Steps, is_wait_free, opening, put, at_open, joined, watched, after_own, begun}
+use Rattle.machine_replay.specs.Book.{Book, Open, Happens, Steps, is_wait_free, opening, put, at_open, joined, watched, after_own, begun}
 use Rattle.machine_replay.proofs.Traces.TraceSteps.{put-cases, at_open-cases}
 
 abbrev one_if : {X : Type 0} → Option X → ℕ

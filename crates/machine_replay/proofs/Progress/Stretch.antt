@@ -4,9 +4,8 @@ use Rattle.std.proofs.lemmas.{List.length-replicate, Bool.ltb-true, List.Sums.su
 use Rattle.queue_steps.specs.State.{State, start}
 use Rattle.machine_replay.specs.Vocabulary.{Call, Reply, Kind, Event, Told, Begin, Step, Skipped, Ran, Running}
 use Rattle.machine_replay.specs.{Book.Book, Book.Open, Book.Happens, Book.opening, Conforms.capacity_of, Conforms.party_of, Played.told_of, Played.world_after, Within.is_step_of}
-use Rattle.machine_memory.specs.{Opening.opening_shared, SharedMemory.MemoryState}
+use Rattle.machine_memory.{specs.Opening.opening_shared, specs.SharedMemory.MemoryState, proofs.Busy.nobody_calls, proofs.Busy.none_are_busy}
 use Rattle.machine_steps.specs.{Left.opening_world, Machine.event_of, Steps.CanStep, Steps.step_of, Steps.start_of, World.World, World.call_at, World.can_begin, World.began, World.stepped_if}
-use Rattle.machine_memory.proofs.Busy.{nobody_calls, none_are_busy}
 use Rattle.machine_replay.proofs.Engine.Events as engine
 use Rattle.machine_replay.proofs.{Engine.KindLaws.LawsOf, Engine.KindLaws.SimulatesOf, Progress.Standings.Agrees, Progress.Standings.agrees-next, Progress.Standings.in_call-next, Progress.Standings.not_half-next}
 use Rattle.machine_replay.specs.Progress.{Standing, Between, Undone, HalfDone, stands_after, stands_by, stands_then, effect_told, reply_told, IsLeftToIt, NobodyShows, IsSilent, HalfDoneTakesNone, UnhinderedWithin, NeverWaits}

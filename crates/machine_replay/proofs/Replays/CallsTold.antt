@@ -9,7 +9,7 @@ none-same None (Some y) e = cc
 none-same (Some x) None e = cc
 none-same o r e = refl
 
--- what holds where there is a value, and only there, is told by whether there is one
+-- what holds where there is a value, and only there, is known by whether there is one
 tells : {X P : Type 0} (o : Option X) → ((x : X) → o ≡ Some x → P) → (o ≡ None → P → ⊥) → IsTrue (is_some o) ↔ P
 tells None there none = (λ e. cc, λ p. absurd (none refl p))
 tells (Some x) there none = (λ e. there x refl, λ p. refl)

@@ -1,8 +1,7 @@
 -- With one party, the replies are those of a queue that has one owner.
 use Rattle.std.proofs.Common.{ℕ, ◌<◌, ◌≡◌, ◌∙◌, inl, false, Option, Some, None, List, [], ◌∷◌, length, refl, sym, subst, arith, get_or, zero, suc}
 use Rattle.std.specs.List.{Any}
-use Rattle.queue_steps.specs.{State.State, Replies.IsRightAt, Sequential.Owned}
-use Rattle.queue_steps.proofs.LookLaws.{look_right_tells}
+use Rattle.queue_steps.{specs.State.State, specs.Replies.IsRightAt, specs.Sequential.Owned, proofs.LookLaws.look_right_tells}
 use Rattle.machine_replay.specs.{Vocabulary.Call, Vocabulary.Reply, Vocabulary.Effect, Vocabulary.EffectKind, Book.Open, Book.Allows, Book.MayEnd, Book.Moves, Book.MayMake, Book.kind_of, Book.has_steps, Book.after_own}
 use Rattle.queue_laws.specs.Common.Effects.{MayFront}
 use Rattle.queue_laws.proofs.{Common.Alone.Only, Common.Alone.Alone, Common.Alone.alone_more, Moment.Table.Agrees, Moment.Table.Done, Moment.Table.finish}

@@ -1,7 +1,6 @@
 -- A whole run with one party, as a run of the one-owner table.
 use Rattle.std.proofs.Common.{ℕ, ◌+◌, ◌<◌, ◌≡◌, ◌&&◌, ◌∙◌, nat_lt, Bool, true, false, Option, Some, None, is_some, is_none, List, [], ◌∷◌, ◌++◌, length, map, refl, sym, ap, subst, arith, inr}
-use Rattle.std.specs.Option.{option_to_list}
-use Rattle.std.proofs.lemmas.Bool.{ltb-true}
+use Rattle.std.{specs.Option.option_to_list, proofs.lemmas.Bool.ltb-true}
 use Rattle.queue_laws.proofs.{Common.Tests.is_none_true, Common.Alone.alone_first, Moment.Table.Agrees}
 use Rattle.queue_steps.specs.{State.start, Legal.IsShown, Sequential.Owned, Sequential.SequentialRun, Sequential.fresh}
 use Rattle.machine_replay.specs.Vocabulary.{Call, Reply, Event, Told, Replay, Begin, Step, Skipped, Ran}

@@ -1,7 +1,6 @@
--- A replay of one party is a run of one owner, told from its lists.
+-- A replay of one party is a run of one owner, read from its lists.
 use Rattle.std.proofs.Common.{◌≡◌, ◌∙◌, ℕ, ◌+◌, ◌<◌, ◌≤◌, ◌==◌, true, false, List, [], ◌∷◌, ◌++◌, length, refl, sym, ap, arith, append_assoc, inl, inr}
-use Rattle.std.specs.List.{AllByRecursion}
-use Rattle.std.proofs.lemmas.Bool.{eq-eqb, Decides.eqb_tells}
+use Rattle.std.{specs.List.AllByRecursion, proofs.lemmas.Bool.eq-eqb, proofs.lemmas.Bool.Decides.eqb_tells}
 use Rattle.machine_replay.specs.{Book.opening, Conforms.entries_from, Conforms.skipped_entry, OneOwner.begun_calls, OneOwner.calls_from, OneOwner.is_among, OneOwner.OnePartyIsOneOwner}
 use Rattle.machine_replay.specs.Vocabulary.{Call, Event, Told, Begin, Step, Skipped, Ran}
 use Rattle.machine_replay.proofs.{Engine.Entries.each-all, Engine.Entries.each-more, Replays.OneOwnerRun.one_owner, Replays.Peaking.Run-length, Replays.Rising.skipped-late}

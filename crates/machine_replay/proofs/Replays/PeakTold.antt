@@ -1,8 +1,7 @@
--- The greatest number of blocks, told from the lists of a replay and its history: what is told of the first events fixes how many items there are then, and how many calls are in progress.
+-- The greatest number of blocks, read from the lists of a replay and its history: what is told of the first events fixes how many items there are then, and how many calls are in progress.
 use Rattle.std.proofs.Common.{◌≡◌, ◌∙◌, ℕ, ◌+◌, ◌/◌, ◌<◌, ◌≤◌, ◌==◌, ◌||◌, nat_lt, Bool, true, false, Option, Some, None, List, [], ◌∷◌, ◌++◌, length, take, drop, filter, refl, sym, ap, subst, arith, append_assoc, length-append, length-take-le, take-append-drop}
 use lib.Seq.{take-append_seam}
-use Rattle.std.specs.List.{AllByRecursion}
-use Rattle.std.proofs.lemmas.Bool.{lt-ltb, le-ltb}
+use Rattle.std.{specs.List.AllByRecursion, proofs.lemmas.Bool.lt-ltb, proofs.lemmas.Bool.le-ltb}
 use Rattle.machine_replay.specs.Vocabulary.{Call, Reply, BLOCK_SLOTS, Event, Told, EffectKind, Begin, Step, Skipped, Ran}
 use Rattle.queue_steps.specs.{State.State, State.start, Effect.Runs, Effect.IsHistory, Effect.made, Effect.after_from, Sequential.blocks_of, Sequential.spanned}
 use Rattle.queue_laws.proofs.Common.Runs.{cap_made}

@@ -3,10 +3,9 @@ use Rattle.std.proofs.Common.{◌≡◌, ◌∙◌, ◌⊎◌, inl, inr, ℕ, �
 use Rattle.std.proofs.lemmas.{List.length_push, Bool.ltb-true, Bool.ltb-false, Bool.le-ltb}
 use Rattle.queue_steps.specs.Sequential.{blocks_of}
 use Rattle.machine_replay.specs.{Vocabulary.Event, Vocabulary.Told, Vocabulary.Peak, Vocabulary.Running, Book.Book, Book.Run, Book.opening, Conforms.ComesBy, Conforms.IsPeak, Conforms.share, Peaks.bound_of, Peaks.opening_peak, Peaks.peaked}
-use Rattle.machine_memory.specs.{Present.present, SharedMemory.MemoryState}
+use Rattle.machine_memory.{specs.Present.present, specs.SharedMemory.MemoryState, proofs.Presence.Sparing}
 use Rattle.machine_steps.specs.World.{World}
 use Rattle.machine_replay.proofs.Replays.Counting.{same-accepted, same-blocks}
-use Rattle.machine_memory.proofs.Presence.{Sparing}
 
 -- a beginning of a list with one entry more is all of it, or a beginning of the list
 abbrev IsSplit : {A : Type 0} → List A → A → List A → List A → Type 0

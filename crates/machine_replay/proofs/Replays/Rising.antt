@@ -1,7 +1,6 @@
 -- The lists of a replay stand in the order of the events, with one entry an event at most.
 use Rattle.std.proofs.Common.{◌≡◌, ℕ, ◌+◌, ◌<◌, ◌≤◌, Some, List, [], ◌∷◌, ◌++◌, length, refl, arith}
-use Rattle.std.specs.List.{AllByRecursion, AllPairs}
-use Rattle.std.proofs.lemmas.List.{Elements.All-from_recursion, Kept.AllPairs-cons}
+use Rattle.std.{specs.List.AllByRecursion, specs.List.AllPairs, proofs.lemmas.List.Elements.All-from_recursion, proofs.lemmas.List.Kept.AllPairs-cons}
 use Rattle.machine_replay.specs.{Vocabulary.Reply, Vocabulary.Event, Vocabulary.Told, Vocabulary.EffectKind, Vocabulary.Skipped, Vocabulary.Ran, Conforms.entries_from, Conforms.effect_entry, Conforms.party_of, Conforms.reply_entry, Conforms.skipped_entry}
 use Rattle.machine_replay.proofs.Engine.Entries.{each-all}
 

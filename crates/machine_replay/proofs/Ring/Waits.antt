@@ -96,7 +96,7 @@ module _ {A : Type 0} (cap head tail i : ℕ) (items : List A) (coming : Option 
 abbrev EqualTells : ℕ → ℕ → Type 0
 EqualTells a b = (((a == b) ≡ true) × (a ≡ b)) ⊎ (((a == b) ≡ false) × (a ≢ b))
 
--- the steps that a call comes from and goes back to, told apart by numbers
+-- the steps that a call comes from and goes back to, each with its number
 abbrev stage : Local ℕ → ℕ
 stage (Local.Ring (RingLocal.PushTail d)) = 1
 stage (Local.Ring (RingLocal.PushStamp d tail)) = 2

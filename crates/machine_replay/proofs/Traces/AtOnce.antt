@@ -1,7 +1,6 @@
 -- The history of a replay settles into one whose displacements are moments.
 use Rattle.std.proofs.Common.{◌≡◌, ◌⊎◌, ℕ, ◌+◌, ◌<◌, ◌≤◌, ◌==◌, ◌&&◌, nat_lt, Bool, true, false, Option, Some, None, List, [], ◌∷◌, length, refl, ap, sym, ◌∙◌, subst, inl, inr, arith, slice_get}
-use Rattle.std.specs.List.{AllByRecursion}
-use Rattle.std.proofs.lemmas.{Bool.Decides.eqb_tells, Option.slice_get_within}
+use Rattle.std.{specs.List.AllByRecursion, proofs.lemmas.Bool.Decides.eqb_tells, proofs.lemmas.Option.slice_get_within}
 use Rattle.queue_steps.specs.{State.State, State.start, Effect.IsHistory, Replies.IsRightAt, Replies.Allows, Replies.Tells}
 use Rattle.machine_replay.specs.{Vocabulary.Call, Vocabulary.Reply, Vocabulary.Effect, Vocabulary.Event, Vocabulary.Begin, Vocabulary.Step, Book.IsBegun, Book.has_steps, InCall.IsStepOf, InCall.IsUnanswered, InCall.IsInCall, Meaning.state_after, Meaning.own_effects, Meaning.SawOpen, Meaning.IsOwn}
 use Rattle.machine_replay.specs.{Meaning.EndsCall, Meaning.RepliesAtOnce, Meaning.IsAnswer, AtOnce.IsWithinCall, AtOnce.IsGlanced, AtOnce.IsWhole, AtOnce.RunsDisplaceAtOnce, Skips.IsExact, Skips.SkippedIsExact}

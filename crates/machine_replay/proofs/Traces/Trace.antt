@@ -1,7 +1,6 @@
 -- What is known of a run so far: its history, with the event and the party of each effect, and where each call stands in it.
 use Rattle.std.proofs.Common.{◌≡◌, ◌∙◌, ℕ, ◌+◌, ◌<◌, ◌≤◌, true, Option, Some, None, List, [], ◌∷◌, ◌++◌, length, refl, sym, ap, arith, inl, inr, append-nil}
-use Rattle.std.specs.List.{AllByRecursion, AllPairs}
-use Rattle.std.proofs.lemmas.List.{Elements.All-from_recursion, Quantifiers.all_pairs_push}
+use Rattle.std.{specs.List.AllByRecursion, specs.List.AllPairs, proofs.lemmas.List.Elements.All-from_recursion, proofs.lemmas.List.Quantifiers.all_pairs_push}
 use Rattle.queue_steps.specs.{State.State, State.start, Effect.Fits, Effect.made, Effect.Runs, Effect.after_from}
 use Rattle.queue_laws.proofs.Common.Runs.{after_snoc, runs_snoc}
 use Rattle.machine_replay.specs.{Vocabulary.Reply, Vocabulary.Effect, Vocabulary.Event, Vocabulary.Told, Vocabulary.Begin, Book.Book, Book.Open, Book.IsBegun, Book.kind_of, Conforms.party_of, Conforms.entries_from, Conforms.reply_entry, Conforms.effect_entry, InCall.IsInCall}

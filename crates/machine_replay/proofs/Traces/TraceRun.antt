@@ -1,7 +1,6 @@
 -- Every run leaves a trace, and so a conforming replay has a history.
 use Rattle.std.proofs.Common.{zero, suc, length, ◌≡◌, ◌≢◌, ◌⊎◌, ◌∙◌, ℕ, ◌+◌, ◌<◌, nat_lt, Bool, false, if◌then◌else◌, Option, Some, None, is_some, is_none, List, [], ◌∷◌, ◌++◌, refl, sym, ap, subst, arith, inl, inr, append-nil, append_assoc, slice_get, Contains}
-use Rattle.std.specs.List.{AllByRecursion}
-use Rattle.std.proofs.lemmas.List.Elements.{All-contains, All-from_recursion}
+use Rattle.std.{specs.List.AllByRecursion, proofs.lemmas.List.Elements.All-contains, proofs.lemmas.List.Elements.All-from_recursion}
 use Rattle.queue_laws.proofs.Common.Tests.{is_none_true}
 use Rattle.queue_steps.specs.Replies.{IsRightAt}
 use Rattle.machine_replay.specs.Vocabulary.{Call, Reply, Effect, Event, Told, EffectKind, Begin, Step, Skipped, Ran}

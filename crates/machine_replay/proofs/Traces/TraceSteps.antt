@@ -1,7 +1,6 @@
 -- Where each call stands after an event.
 use Rattle.std.proofs.Common.{◌≡◌, ◌≢◌, ◌⊎◌, ◌∙◌, ℕ, zero, suc, ◌+◌, ◌<◌, ◌≤◌, ◌||◌, not, Bool, true, Option, Some, None, List, [], ◌∷◌, ◌++◌, length, refl, sym, ap, subst, arith, inl, inr, get_or, append-nil, is_some, Contains}
-use Rattle.std.specs.List.{AllByRecursion, Any}
-use Rattle.std.proofs.lemmas.Bool.Decides.{eqb_tells}
+use Rattle.std.{specs.List.AllByRecursion, specs.List.Any, proofs.lemmas.Bool.Decides.eqb_tells}
 use Rattle.queue_laws.proofs.Common.Tests.{or_true, not_true}
 use Rattle.queue_steps.specs.{State.State, State.start, Effect.after_from}
 use Rattle.machine_replay.specs.{Vocabulary.Reply, Vocabulary.Effect, Vocabulary.Event, Vocabulary.EffectKind, Vocabulary.Step, Vocabulary.Ran, Conforms.effect_entry, InCall.IsStepOf}

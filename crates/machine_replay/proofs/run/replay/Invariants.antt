@@ -1,7 +1,6 @@
 use Rattle.std.proofs.Common.{◌≡◌, ◌+◌, length}
 use Rattle.machine_memory.specs.Room.{HasRoomFor}
-use Rattle.machine_replay.specs.Replays.{IsRoomy}
-use Rattle.machine_replay.proofs.Replays.Noting.{Notes}
+use Rattle.machine_replay.{specs.Replays.IsRoomy, proofs.Replays.Noting.Notes}
 use Rattle.machine_replay.proofs.run.replay.Given as goal
 
 abbrev pub invariant-loop-event : goal.invariant-loop-event
