@@ -11,7 +11,8 @@ use Rattle.shared_parties.specs.{declared.known.CallState.CallState, declared.kn
 use Rattle.shared_parties.proofs.CallSteps.{stands_at}
 use Rattle.shared_chain.specs.{ChainCalls.chain_calls, Rule.lead_of, Rule.Rule, Spots.spot, Names.is_set_once}
 use Rattle.shared_chain.specs.Steps.{HoldsBy, op_place, word_index, link_makes, blocks_made, link_found, answered, LeadsThere, BlockStep, Follows, FollowsLink}
-use Rattle.shared_chain.proofs.{CallLaws.chain_call_laws, CallLaws.OnBlocks, CallLaws.chain_opens, Steps.Allowing.follows, Frames.Tested.next_tested, Frames.Tested.word_held, Frames.Tested.count_kept, Steps.BlockSteps.block_steps, Frames.Written.out_wrote, Frames.Unset.FindsUnset, Frames.Unset.finds_unset}
+use Rattle.shared_chain.proofs.{CallLaws.chain_call_laws, CallLaws.OnBlocks, CallLaws.chain_opens, Steps.Allowing.follows, Steps.BlockSteps.block_steps, Frames.Written.out_wrote, Frames.Unset.FindsUnset, Frames.Unset.finds_unset}
+use Rattle.shared_chain.proofs.Frames.Tested.{next_tested, word_held, count_kept}
 
 -- an operation on a word
 abbrev pub IsWordOp : Op ℕ → Type 0
