@@ -6,18 +6,17 @@ use Rattle.shared_parties.specs.{declared.known.CallState.CallState, declared.kn
 use Rattle.shared_chain.specs.{Names.link_of, Names.next_map, Turning.SitsAt, Turning.ChainStands, Turning.ChainEnded, declared.web.ChainWeb.ChainWeb}
 use Rattle.shared_chain.specs.Steps as chain
 use Rattle.shared_chain.proofs.Frames.Renamed.{next_of_map}
-use Rattle.shared_calls.{specs.declared.chain.Asking.Asking, specs.declared.left.Left.Left, specs.InWeb.EndedAt, specs.Pausing.IsStep, proofs.Steps.in_step, proofs.Steps.step_named}
-use Rattle.concurrent_queue.specs.{declared.party.SeatPlace.SeatPlace, declared.party.SeatPlace.SeatPlace as place, Shared.QueueId, Shared.in_web, Shared.PartyView, Shared.party_view, Shared.IsHeld, Shared.Calls, Shared.party_view_of, Begun.Begun, Pending.IsStoppedIn, Pending.StopsInside}
+use Rattle.call_driver.specs.declared.site.Site.{Ghosts}
+use Rattle.shared_calls.specs.{declared.allocated_chain.AllocatedChain.AllocatedChain, declared.chain.Asking.Asking, declared.left.Left.Left, InWeb.EndedAt, Leaving.IsLeft, Pausing.IsStep}
+use Rattle.shared_calls.proofs.Steps.{in_step, step_named}
+use Rattle.concurrent_queue.specs.{declared.party.SeatPlace.SeatPlace, declared.party.SeatPlace.SeatPlace as place, Begun.Begun, Leaves.LeavesInside, Pending.IsStoppedIn, Pending.StopsInside}
+use Rattle.concurrent_queue.specs.Shared.{QueueId, in_web, PartyView, party_view, IsHeld, Calls, party_view_of}
 use Rattle.concurrent_queue.proofs.{Stops.begun_is, WebParties.web_ends}
 
 module _ {T A Q : Type 0} (w : ChainWeb T A) where
   -- the seat with which the call of this seat began
   abbrev pub first_asking : Asking T A Q → Asking T A Q
   first_asking s = let c = its_call s.seat.sitter.view in record s { seat = record s.seat { sitter = sitter (idle (party None c.since c.before c.share)) None None } }
-
-  -- its next step is one
-  pub own_step_in : (s : Asking T A Q) (l : Left T (Link T)) (v : Begun T) → StopsInside w s l v → IsStep (next_of l.kind l.progress.local l.progress.answer)
-  own_step_in s l v h = subst (λ (k : Kind). IsStep (next_of k l.progress.local l.progress.answer)) (sym h.1.kind) h.1.step
 
   -- where a call stands, it may be taken up
   pub taken_up_in : (s : Asking T A Q) (l : Left T (Link T)) (v : Begun T) → StopsInside w s l v
@@ -65,14 +64,6 @@ module _ {T A Q : Type 0} (w : ChainWeb T A) where
       let h = stops_in p q c l (subst (IsView None) (sym view_is) (subst (λ (z : Option ℕ). IsView z (view_of r.view.known)) cap_is (subst IsHeld sits is).0.1)) kind call stands step in
       (h.0, h.1, begun_is (in_web q.seat.web) None q.seat.sitter.view v c (queue ∙ (λ i. record { name = in_web (sym h.0.0 i); cap = None })) (h.2 ∙ (view_is ∙ ap (λ (z : PartyView T). z.view) is_v')) h.3)
 
-  -- and one that was taken up
-  pub went_on_in : (s q : Asking T A Q) (l m : Left T (Link T)) (v : Begun T) → StopsInside w s l v → m.kind ≡ queue.Unbounded → m.call ≡ call_kind (its_call s.seat.sitter.view).call
-      → ChainStands w (first_asking s).seat (its_call s.seat.sitter.view).call m.progress.local m.progress.answer q.seat m.carried → IsStep (next_of m.kind m.progress.local m.progress.answer) → StopsInside w q m v
-  went_on_in s q l m v old kind call stands step =
-      let h = stops_in (first_asking s) q (its_call s.seat.sitter.view).call m old.1.view kind call stands step in
-      let web : q.seat.web ≡ s.seat.web = h.0.0 ∙ sym old.0.0 in
-      (h.0, h.1, (λ i. record { party = record { queue = record { name = in_web (web i); cap = None }; view = h.2 i }; call = h.3 i }) ∙ old.2)
-
   -- a call of its party that has ended
   pub comes_back_in : (s q : Asking T A Q) (l : Left T (Link T)) (v : Begun T) (k : Call T) (y : Reply T) (r : Rested (CallState T)) → StopsInside w s l v → ChainEnded w (first_asking s).seat k y q.seat
       → r.asleep ≡ true → r.web ≡ q.seat.web → r.view ≡ q.seat.sitter.view → IsHeld (place.Web r) × Calls v.party k y (party_view_of (place.Web r))
@@ -91,9 +82,17 @@ module _ {T A Q : Type 0} (w : ChainWeb T A) where
       ) in
       web_ends (place.Web first) (place.Web r) first r v.party k y y refl ((refl, old.1.view), asleep) refl refl is_v (ap (λ (z : Begun T). z.party.queue.cap) (sym old.2)) ends
 
-  -- a call that was taken up and has ended
-  pub ended_in : (s q : Asking T A Q) (l : Left T (Link T)) (v : Begun T) (y : Reply T) (r : Rested (CallState T)) → StopsInside w s l v → ChainEnded w (first_asking s).seat (its_call s.seat.sitter.view).call y q.seat
-      → r.asleep ≡ true → r.web ≡ q.seat.web → r.view ≡ q.seat.sitter.view → IsHeld (place.Web r) × Calls v.party v.call y (party_view_of (place.Web r))
-  ended_in s q l v y r old e asleep web view =
-      let h = comes_back_in s q l v (its_call s.seat.sitter.view).call y r old e asleep web view in
-      (h.0, subst (λ (z : Call T). Calls v.party z y (party_view_of (place.Web r))) (ap (λ (z : Begun T). z.call) old.2) h.1)
+-- where a call stands, it goes on as one that has left its fast steps
+module _ {T A Q : Type 0} (queue : AllocatedChain T A) where
+  pub resumes_in : {O H : Type 0} (m : Ghosts O (AllocatedChain T A) T (Link T) (Asking T A Q) H) (s : Asking T A Q) (l : Left T (Link T)) (v : Begun T) → StopsInside queue.chain s l v
+      → IsLeft m queue (first_asking queue.chain s) (its_call s.seat.sitter.view).call l s → LeavesInside m queue l s v
+  resumes_in m s l v h left =
+      let c = its_call s.seat.sitter.view in
+      let began : Rested (CallState T) = record { marker = record {}; web = s.seat.web; id = s.seat.id; asleep = true; view = idle (party None c.since c.before c.share) } in (
+        began,
+        first_asking queue.chain s,
+        (((refl, h.1.view), refl), λ i. record { name = in_web (h.0.0 i); cap = None }),
+        refl,
+        ap (λ (z : Begun T). z.party) h.2,
+        subst (λ (d : Call T). IsLeft m queue (first_asking queue.chain s) d l s) (ap (λ (z : Begun T). z.call) h.2) left,
+      )
