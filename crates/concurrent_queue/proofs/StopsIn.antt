@@ -1,15 +1,16 @@
 -- A call of a party of a shared chain that stands before one of its steps: how it comes to stand there, and how it is taken up.
-use Rattle.std.proofs.Common.{◌≡◌, ℕ, true, None, Option, refl, sym, ap, subst, ◌∙◌}
+use Rattle.std.proofs.Common.{◌≡◌, ◌-◌, ℕ, true, None, Option, refl, sym, ap, subst, ◌∙◌}
 use Rattle.mem_blocks.specs.{Web.Sitter, Web.sitter, declared.block.BlockPtr.BlockPtr as Link, declared.web.Rested.Rested}
-use Rattle.queue_steps.specs.{declared.model.Call.Call, declared.model.Reply.Reply, declared.steps.types.Kind.Kind, declared.steps.types.Kind.Kind as queue, Kinds.call_kind, Next.next_of, Parties.IsView, Parties.SharedCall}
+use Rattle.queue_steps.specs.{declared.model.Call.Call, declared.model.Reply.Reply, declared.sizes.TheConstants.SOLO_STEPS, declared.steps.types.Kind.Kind, declared.steps.types.Kind.Kind as queue, Kinds.call_kind, Next.next_of, Parties.IsView, Parties.SharedCall}
 use Rattle.shared_parties.specs.{declared.known.CallState.CallState, declared.known.InCall.InCall, declared.known.Work.Work as work, Called.call_of_work, Called.nothing_called, CallsAt.begun_at, Quitting.its_call, CallStates.idle, CallStates.IsResting, CallStates.HasAll, Known.party, Known.view_of}
-use Rattle.shared_chain.specs.{Names.link_of, Names.next_map, Turning.SitsAt, Turning.ChainStands, Turning.ChainEnded, declared.web.ChainWeb.ChainWeb}
+use Rattle.shared_chain.specs.{Names.link_of, Names.next_map, Turning.SitsAt, Turning.ChainCan, Turning.ChainDoes, Turning.ChainStands, Turning.ChainEnded, declared.web.ChainWeb.ChainWeb}
 use Rattle.shared_chain.specs.Steps as chain
 use Rattle.shared_chain.proofs.Frames.Renamed.{next_of_map}
-use Rattle.call_driver.specs.declared.site.Site.{Ghosts}
-use Rattle.shared_calls.specs.{declared.allocated_chain.AllocatedChain.AllocatedChain, declared.chain.Asking.Asking, declared.left.Left.Left, InWeb.EndedAt, Leaving.IsLeft, Pausing.IsStep}
+use Rattle.call_driver.specs.Leads.{GoesOn}
+use Rattle.shared_calls.specs.{declared.allocated_chain.AllocatedChain.AllocatedChain, declared.chain.Asking.Asking, declared.left.Left.Left, InWeb.EndedAt, Pausing.IsStep}
+use Rattle.shared_calls.specs.{ChainSite.ChainSpares, ChainSite.ChainGives, ChainSite.ChainOnWay, Laws.ChainSite.site_goes_on}
 use Rattle.shared_calls.proofs.Steps.{in_step, step_named}
-use Rattle.concurrent_queue.specs.{declared.party.SeatPlace.SeatPlace, declared.party.SeatPlace.SeatPlace as place, Begun.Begun, Leaves.LeavesInside, Pending.IsStoppedIn, Pending.StopsInside}
+use Rattle.concurrent_queue.specs.{declared.party.SeatPlace.SeatPlace, declared.party.SeatPlace.SeatPlace as place, declared.shared.Form.Form as form, Begun.Begun, Calling.IsHeldIn, Pending.IsStoppedIn, Pending.StopsInside}
 use Rattle.concurrent_queue.specs.Shared.{QueueId, in_web, PartyView, party_view, IsHeld, Calls, party_view_of}
 use Rattle.concurrent_queue.proofs.{Stops.begun_is, WebParties.web_ends}
 
@@ -82,17 +83,29 @@ module _ {T A Q : Type 0} (w : ChainWeb T A) where
       ) in
       web_ends (place.Web first) (place.Web r) first r v.party k y y refl ((refl, old.1.view), asleep) refl refl is_v (ap (λ (z : Begun T). z.party.queue.cap) (sym old.2)) ends
 
--- where a call stands, it goes on as one that has left its fast steps
-module _ {T A Q : Type 0} (queue : AllocatedChain T A) where
-  pub resumes_in : {O H : Type 0} (m : Ghosts O (AllocatedChain T A) T (Link T) (Asking T A Q) H) (s : Asking T A Q) (l : Left T (Link T)) (v : Begun T) → StopsInside queue.chain s l v
-      → IsLeft m queue (first_asking queue.chain s) (its_call s.seat.sitter.view).call l s → LeavesInside m queue l s v
-  resumes_in m s l v h left =
-      let c = its_call s.seat.sitter.view in
-      let began : Rested (CallState T) = record { marker = record {}; web = s.seat.web; id = s.seat.id; asleep = true; view = idle (party None c.since c.before c.share) } in (
-        began,
-        first_asking queue.chain s,
+module _ {T A Q : Type 0} (here : AllocatedChain T A) where
+  -- the party that began it, and the call
+  abbrev pub began_in : Asking T A Q → Begun T
+  began_in s = begun_by (in_web s.seat.web) None s.seat.sitter.view
+
+  abbrev LeadsOn : Kind → Asking T A Q → Call T → Left T (Link T) → Asking T A Q → Type 0
+  LeadsOn k first c l s =
+      GoesOn {M = AllocatedChain T A} {S = Asking T A Q} (λ m s. ChainCan m.chain s.seat) (λ m s k l u o x a q. ChainDoes s.seat k l u o x a q.seat) (λ m s. ChainSpares m.chain s.seat) (λ m s b q. ChainGives m.chain s.seat b q.seat)
+      (λ n m s c l a q. ChainOnWay n m.chain s.seat c l a q.seat) (λ m s c r q. ChainEnded m.chain s.seat c r q.seat)
+      (SOLO_STEPS - 1) k here first c l.progress.local l.progress.answer s l.carried
+
+  -- a call that stands there goes on as one that has left its fast steps
+  pub resumes_in : (s : Asking T A Q) (l : Left T (Link T)) (v : Begun T) → StopsInside here.chain s l v
+      → (r : Rested (CallState T)) × (first : Asking T A Q) × IsHeldIn (form.Chain here) (place.Web r) × (first.seat.sitter ≡ sitter r.view None None) × (party_view_of (place.Web r) ≡ (began_in s).party)
+      × ((l.kind ≡ queue.Unbounded) × (l.call ≡ call_kind (began_in s).call)) × LeadsOn l.kind first (began_in s).call l s
+  resumes_in s l v h =
+      let c = its_call s.seat.sitter.view in let first = first_asking here.chain s in (
+        record { marker = record {}; web = s.seat.web; id = s.seat.id; asleep = true; view = idle (party None c.since c.before c.share) },
+        first,
         (((refl, h.1.view), refl), λ i. record { name = in_web (h.0.0 i); cap = None }),
         refl,
-        ap (λ (z : Begun T). z.party) h.2,
-        subst (λ (d : Call T). IsLeft m queue (first_asking queue.chain s) d l s) (ap (λ (z : Begun T). z.call) h.2) left,
+        refl,
+        (h.1.kind, h.1.call),
+        subst (λ (k : Kind). LeadsOn k first c.call l s) (sym h.1.kind)
+            (site_goes_on (λ (m : AllocatedChain T A). m.chain) (λ (p : Asking T A Q). p.seat) (SOLO_STEPS - 1) here first c.call l.progress.local l.progress.answer s l.carried (taken_up_in here.chain s l v h)),
       )
