@@ -17,4 +17,4 @@ pub returns : goal.returns
 returns g c = λ v h.
     let t = c.args.table.now in let b = began g.K.TableKind.layout t.table.shared.table_id c.args.seat in
     subst (λ (z : Begun _). Comes z.party z.call c.outcome_of.result) h.2
-        (c.outcome_of.ensures b (c.go_on_here-ended.ensures b (resumes g.K.TableKind.layout t (λ m. m.table.shared.table_id) c.args.seat c.args.left v h)))
+    (c.outcome_of.ensures b (c.go_on_here-ended.ensures b (resumes g.K.TableKind.layout t (λ m. m.table.shared.table_id) c.args.seat c.args.left v h)))

@@ -17,4 +17,4 @@ pub returns : goal.returns
 returns g c = λ v h.
     let q = c.args.queue.now in let s = c.args.asking in
     subst (λ (z : Begun _). Comes z.party z.call c.outcome_of.result) h.2
-        (c.outcome_of.ensures (began_in q s) (c.go_on_inside-ended.ensures (began_in q s) (resumes_in q s c.args.left v h)))
+    (c.outcome_of.ensures (began_in q s) (c.go_on_inside-ended.ensures (began_in q s) (resumes_in q s c.args.left v h)))
