@@ -10,7 +10,7 @@ use Rattle.call_driver.specs.Leads.{GoesOn}
 use Rattle.shared_calls.specs.{declared.allocated_chain.AllocatedChain.AllocatedChain, declared.chain.Asking.Asking, declared.left.Left.Left, InWeb.EndedAt, Pausing.IsStep}
 use Rattle.shared_calls.specs.{ChainSite.ChainSpares, ChainSite.ChainGives, ChainSite.ChainOnWay, Laws.ChainSite.site_goes_on}
 use Rattle.shared_calls.proofs.Steps.{in_step, step_named}
-use Rattle.concurrent_queue.specs.{declared.party.SeatPlace.SeatPlace, declared.party.SeatPlace.SeatPlace as place, declared.shared.Form.Form as form, Begun.Begun, Calling.IsHeldIn, Pending.IsStoppedIn, Pending.StopsInside}
+use Rattle.concurrent_queue.specs.{declared.party.SeatPlace.SeatPlace, declared.party.SeatPlace.SeatPlace as place, declared.shared.Form.Form as form, Begun.Begun, Calling.IsHeldIn, Pending.begun_by, Pending.IsStoppedIn, Pending.StopsInside}
 use Rattle.concurrent_queue.specs.Shared.{QueueId, in_web, PartyView, party_view, IsHeld, Calls, party_view_of}
 use Rattle.concurrent_queue.proofs.{Stops.begun_is, WebParties.web_ends}
 

@@ -6,15 +6,18 @@ use Rattle.concurrent_queue.proofs.shared.pending.resume_inside.Goals as goal
 pub go_on_inside-ended-requires-clause-left : goal.go_on_inside-ended-requires-clause-left
 go_on_inside-ended-requires-clause-left g c =
     let q = c.args.queue.now in let s = c.args.asking in let (v, h) = c.requires.stands in
-    (began_in q s, resumes_in q s c.args.left v h)
+    let r = resumes_in q s c.args.left v h in
+    (began_in q s, (r.0, r.1, r.2, r.3, r.4, (r.5, r.6)))
 
-pub outcome_of-requires-clause-comes : goal.outcome_of-requires-clause-comes
-outcome_of-requires-clause-comes g c =
+pub outcome_of-requires : goal.outcome_of-requires
+outcome_of-requires g c =
     let q = c.args.queue.now in let s = c.args.asking in let (v, h) = c.requires.stands in
-    (began_in q s, c.go_on_inside-ended.ensures (began_in q s) (resumes_in q s c.args.left v h))
+    let r = resumes_in q s c.args.left v h in
+    record { comes = (began_in q s, c.go_on_inside-ended.ensures (began_in q s) (r.0, r.1, r.2, r.3, r.4, (r.5, r.6))) }
 
 pub returns : goal.returns
 returns g c = λ v h.
     let q = c.args.queue.now in let s = c.args.asking in
+    let r = resumes_in q s c.args.left v h in
     subst (λ (z : Begun _). Comes z.party z.call c.outcome_of.result) h.2
-    (c.outcome_of.ensures (began_in q s) (c.go_on_inside-ended.ensures (began_in q s) (resumes_in q s c.args.left v h)))
+    (c.outcome_of.ensures (began_in q s) (c.go_on_inside-ended.ensures (began_in q s) (r.0, r.1, r.2, r.3, r.4, (r.5, r.6))))
