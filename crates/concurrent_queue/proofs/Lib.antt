@@ -4,4 +4,5 @@ mod Stops
 mod StopsIn
 mod TableCalls
 mod Told
+mod Turns
 mod WebParties

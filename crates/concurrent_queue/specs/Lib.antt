@@ -6,6 +6,7 @@ pub mod Pending
 pub mod Standing
 pub mod Leaves
 pub mod Comes
+pub mod Turns
 pub mod SawMore
 pub mod TryErrors
 pub mod Tries

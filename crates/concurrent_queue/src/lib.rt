@@ -11,5 +11,5 @@ pub use exclusive_queue::{Exclusive, Store, exclusive as exclusive, run};
 pub use mem_blocks::null_testable::NullTestable as NullTestable;
 pub use queue_steps::errors::{ForcePushError, PopError, PushError};
 pub use queue_steps::{errors as errors, model as model};
-pub use shared::{ConcurrentQueue, Outcome, Party, Pending, TryIter};
+pub use shared::{ConcurrentQueue, Outcome, Party, Pending, TryIter, Turn};
 pub use try_errors::{TryForcePushError, TryPopError, TryPushError};

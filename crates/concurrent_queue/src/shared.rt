@@ -44,11 +44,13 @@ mod parting;
 pub mod pending;
 mod standing;
 mod trying;
+pub mod turn;
 mod wait_free;
 
 use calling::on_ring;
 pub use iter::TryIter;
 pub use pending::{Outcome, Pending};
+pub use turn::Turn;
 
 /// A queue that parties share.
 ///

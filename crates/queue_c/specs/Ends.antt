@@ -2,8 +2,9 @@
 use Rattle.std.specs.Prelude.{◌≡◌, ◌<◌, ℕ, false, [], length, Option, Some, None, Result, Ok, Err}
 use Rattle.std.specs.Arc.{arc_value}
 use Rattle.queue_steps.specs.{declared.model.Call.Call, WaitFree.is_wait_free, Shares.entire, Shares.IsEntire, Effect.after}
-use Rattle.concurrent_queue.specs.{Begun.Begun, Shared.PartyView, Shared.Calls, Shared.Parts}
-use Rattle.queue_c.specs.declared.{answers.Answer.Answer, answers.Answer.Answer as answer, end.Turn.Turn, end.End.End, end.Refusal.Refusal, end.Refusal.Refusal as refusal, end.Finished.Finished, end.Finished.Finished as finished}
+use Rattle.concurrent_queue.specs.{Begun.Begun, Turns.TurnView, Shared.PartyView, Shared.Calls, Shared.Parts}
+use Rattle.queue_c.specs.Answers.{number_of, written}
+use Rattle.queue_c.specs.declared.{answers.Answer.Answer, answers.Answer.Answer as answer, end.End.End, end.Refusal.Refusal, end.Refusal.Refusal as refusal, end.Finished.Finished, end.Finished.Finished as finished}
 
 abbrev pub IsRoom : Option ℕ → Type 0
 IsRoom (Some cap) = 0 < cap
@@ -29,8 +30,12 @@ TakesAt c (Some v) None answer.Pending None (Some p) = (p ≡ record { party = v
 TakesAt c None (Some p) answer.Busy None (Some q) = q ≡ p
 TakesAt c _ _ _ _ _ = ⊥
 
-abbrev pub Takes : Call ℕ → Turn → Answer → Turn → Type 0
+abbrev pub Takes : Call ℕ → TurnView ℕ → Answer → TurnView ℕ → Type 0
 Takes c t a u = TakesAt c t.party t.pending a u.party u.pending
+
+-- and C is told of the answer: it gets the number n, and where a value goes, what was `was` becomes `is`
+abbrev pub Tells : Call ℕ → TurnView ℕ → ℕ → ℕ → ℕ → TurnView ℕ → Type 0
+Tells c t n was is u = (a : Answer) × Takes c t a u × (n ≡ number_of a) × (is ≡ written a was)
 
 -- the pending call is answered, as if it were made now by its party as that was when the call began; or none was pending
 abbrev pub ResumesAt : Option (PartyView ℕ) → Option (Begun ℕ) → Answer → Option (PartyView ℕ) → Option (Begun ℕ) → Type 0
@@ -38,7 +43,7 @@ ResumesAt None (Some p) a party pending = TakesAt p.call (Some p.party) None a p
 ResumesAt (Some v) None answer.Idle (Some w) None = w ≡ v
 ResumesAt _ _ _ _ _ = ⊥
 
-abbrev pub Resumes : Turn → Answer → Turn → Type 0
+abbrev pub Resumes : TurnView ℕ → Answer → TurnView ℕ → Type 0
 Resumes t a u = ResumesAt t.party t.pending a u.party u.pending
 
 abbrev pub PartsAt : Option (PartyView ℕ) → Option (PartyView ℕ) → Option (PartyView ℕ) → Type 0
@@ -55,7 +60,7 @@ HasOthers (Some v) = ¬ IsEntire v.view.share
 HasOthers None = ⊥
 
 -- why a party in this turn may be refused
-abbrev pub IsRefusal : Refusal → Turn → Type 0
+abbrev pub IsRefusal : Refusal → TurnView ℕ → Type 0
 IsRefusal refusal.NoMemory t = Unit {0}
 IsRefusal refusal.Pending t = IsCalling t.pending
 IsRefusal refusal.TooMany t = HasOthers t.party

@@ -130,34 +130,13 @@ impl Answer {
         }
     }
 
-    /// The same of a call that is a push: its replies are told apart before all others, so the compiler knows where it stands.
-    #[inline(always)]
-    pub(crate) fn number_of_push(self) -> u32
-        ensures { result ≡ number_of self }
-    {
-        match self {
-            Answer::Reply(Reply::Push(pushed)) => push_number(pushed),
-            other => other.number(),
-        }
-    }
-
-    /// The same of a call that is a pop, whose item is written.
-    #[inline(always)]
-    pub(crate) fn number_of_pop(self, out: &mut u64) -> u32
+    /// Writes the value, and gives the number.
+    pub(crate) fn tell(self, out: &mut u64) -> u32
         ensures number { result ≡ number_of self }
         ensures value { out.new ≡ written self out.old }
     {
-        match self {
-            Answer::Reply(Reply::Pop(Ok(front))) => {
-                *out = front;
-                DONE
-            }
-            Answer::Reply(Reply::Pop(popped)) => pop_number(popped),
-            other => {
-                other.write(out);
-                other.number()
-            }
-        }
+        self.write(out);
+        self.number()
     }
 
     /// Writes the value that comes with the answer, if any.
@@ -169,5 +148,68 @@ impl Answer {
                 *out = value;
             }
         }
+    }
+}
+
+/// A call, by what C is told of it. Each has fast steps of its own.
+pub(crate) trait Told {
+    /// Writes the value that comes with this answer, if any, and gives the number that C gets.
+    fn tell(answer: Answer, out: &mut u64) -> u32
+        ensures number { result ≡ number_of answer }
+        ensures value { out.new ≡ written answer out.old };
+}
+
+pub(crate) struct Pushes;
+
+pub(crate) struct ForcePushes;
+
+pub(crate) struct Pops;
+
+pub(crate) struct Looks;
+
+pub(crate) struct Closes;
+
+impl Told for Pushes {
+    #[inline(always)]
+    fn tell(answer: Answer, out: &mut u64) -> u32 {
+        match answer {
+            Answer::Reply(Reply::Push(pushed)) => push_number(pushed),
+            other => other.tell(out),
+        }
+    }
+}
+
+impl Told for Pops {
+    #[inline(always)]
+    fn tell(answer: Answer, out: &mut u64) -> u32 {
+        match answer {
+            Answer::Reply(Reply::Pop(Ok(front))) => {
+                *out = front;
+                DONE
+            }
+            Answer::Reply(Reply::Pop(popped)) => pop_number(popped),
+            other => other.tell(out),
+        }
+    }
+}
+
+impl Told for ForcePushes {
+    #[inline(always)]
+    fn tell(answer: Answer, out: &mut u64) -> u32 {
+        answer.tell(out)
+    }
+}
+
+impl Told for Looks {
+    #[inline(always)]
+    fn tell(answer: Answer, out: &mut u64) -> u32 {
+        answer.tell(out)
+    }
+}
+
+impl Told for Closes {
+    #[inline(always)]
+    fn tell(answer: Answer, out: &mut u64) -> u32 {
+        answer.tell(out)
     }
 }

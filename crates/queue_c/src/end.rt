@@ -2,30 +2,21 @@
 ghost use Rattle.std.specs.Prelude.{◌≡◌, ◌<◌, None, Some, IfOk};
 ghost use Rattle.std.specs.Arc.{arc_value};
 ghost use Rattle.concurrent_queue.specs.Shared.{IsPartyOf};
+ghost use Rattle.concurrent_queue.specs.Turns.{IsThere};
 ghost use Rattle.queue_c.specs.Begins.{Begins};
 ghost use Rattle.queue_c.specs.Fits.{IsTurnOf};
 
-use crate::answers::Answer;
-use call_driver::gate::Open;
-use concurrent_queue::{ConcurrentQueue, Outcome, Party, Pending};
+use crate::answers::{Answer, Told};
+use concurrent_queue::{ConcurrentQueue, Outcome, Party, Turn};
 use queue_steps::model::{Call, Reply};
 use std::alloc::{AllocError, Global};
 use std::sync::Arc;
-
-/// What a party is doing: it is between its calls, or a call of it is pending. Each has a place of its own, so that a call writes only one that it needs.
-#[derive(Drop)]
-pub(crate) struct Turn {
-    /// The party, between its calls.
-    party: Option<Party<u64>>,
-    /// Its pending call.
-    pending: Option<Pending<u64>>,
-}
 
 /// A party of a queue of words, and a share in keeping that queue.
 #[derive(Drop)]
 pub struct End {
     queue: Arc<ConcurrentQueue<u64, Global>, Global>,
-    turn: Turn,
+    turn: Turn<u64>,
     ghost fits: { IsTurnOf turn (arc_value queue) },
 }
 
@@ -53,53 +44,26 @@ pub(crate) enum Finished {
     Busy(End),
 }
 
-/// Begins a call of this party, which is kept if it is pending. `W` tells the calls apart.
+/// Begins a call of the party that is there, which is kept there if it is pending. `W` tells the calls apart.
 #[inline(always)]
 fn begin<W>(
     shared: &ConcurrentQueue<u64>,
-    party: Party<u64>,
+    turn: &mut Turn<u64>,
     call: Call<u64>,
-    kept: &mut Option<Pending<u64>>,
-) -> Option<(Party<u64>, Reply<u64>)>
-    requires is_party { IsPartyOf party shared.now }
-    requires none { kept.old ≡ None }
-    ensures { Begins party call result kept.new }
+) -> Option<Reply<u64>>
+    requires is_there { IsThere turn.old.party shared.now }
+    requires none { turn.old.pending ≡ None }
+    ensures { Begins turn.old.party call result turn.new.party turn.new.pending }
 {
     if call.is_wait_free() {
-        let mut party = party;
-        let reply = shared.answer_wait_free(&Open, &mut party, call);
-        return Some((party, reply));
-    }
-    match shared.begin_into::<W>(party, call, kept) {
-        Some((party, reply)) => Some((party, reply)),
-        None => None,
-    }
-}
-
-impl Turn {
-    /// The party is between its calls.
-    fn resting(party: Party<u64>) -> Turn
-        ensures { (result.party ≡ Some party) × (result.pending ≡ None) }
-    {
-        Turn {
-            party: Some(party),
-            pending: None,
-        }
-    }
-
-    /// This call of it is pending.
-    fn calling(pending: Pending<u64>) -> Turn
-        ensures { (result.party ≡ None) × (result.pending ≡ Some pending) }
-    {
-        Turn {
-            party: None,
-            pending: Some(pending),
-        }
+        Some(shared.answer_wait_free_at(turn, call))
+    } else {
+        shared.call_at::<W>(turn, call)
     }
 }
 
 impl End {
-    ghost use Rattle.queue_c.specs.Ends.{IsRoom, IsNew, Takes, Resumes, SplitsEnd, FinishesEnd};
+    ghost use Rattle.queue_c.specs.Ends.{IsRoom, IsNew, Tells, Resumes, SplitsEnd, FinishesEnd};
 
     fn of(alloc: Global, queue: ConcurrentQueue<u64>, party: Party<u64>) -> Result<End, AllocError>
         requires { IsPartyOf party queue }
@@ -108,7 +72,7 @@ impl End {
         match Arc::new(alloc, queue) {
             Ok(queue) => Ok(End {
                 queue,
-                turn: Turn::resting(party),
+                turn: Turn::of(Some(party), None),
             }),
             Err(_) => Err(AllocError),
         }
@@ -131,23 +95,20 @@ impl End {
         }
     }
 
-    /// Makes a call where the party is, if none is pending. It never waits, and moves no more than a call that stays pending. `W` tells the calls apart, so that
-    /// each has fast steps of its own.
+    /// Makes a call where the party is, if none is pending, and tells C of it. It never waits, and moves no more than a call that stays pending. C is told here,
+    /// where the call ends, so that the compiler knows how it ended.
     #[inline(always)]
-    pub(crate) fn call<W>(&mut self, call: Call<u64>) -> Answer
+    pub(crate) fn call<W: Told>(&mut self, call: Call<u64>, out: &mut u64) -> u32
         ensures queue { arc_value self.new.queue ≡ arc_value self.old.queue }
-        ensures turn { Takes call self.old.turn result self.new.turn }
+        ensures turn { Tells call self.old.turn result out.old out.new self.new.turn }
     {
-        let Some(party) = self.turn.party.take() else {
-            return Answer::Busy;
-        };
+        if self.turn.is_away() {
+            return W::tell(Answer::Busy, out);
+        }
         let shared: &ConcurrentQueue<u64> = &self.queue;
-        match begin::<W>(shared, party, call, &mut self.turn.pending) {
-            Some((party, reply)) => {
-                self.turn.party = Some(party);
-                Answer::Reply(reply)
-            }
-            None => Answer::Pending,
+        match begin::<W>(shared, &mut self.turn, call) {
+            Some(reply) => W::tell(Answer::Reply(reply), out),
+            None => W::tell(Answer::Pending, out),
         }
     }
 
@@ -157,22 +118,19 @@ impl End {
         ensures turn { Resumes self.turn result.1 result.0.turn }
     {
         let End { queue, turn } = self;
-        let Turn { party, pending } = turn;
+        let (party, pending) = turn.into_parts();
         let Some(pending) = pending else {
-            let turn = Turn {
-                party,
-                pending: None,
-            };
+            let turn = Turn::of(party, None);
             return (End { queue, turn }, Answer::Idle);
         };
         let shared: &ConcurrentQueue<u64> = &queue;
         match shared.resume(pending) {
             Outcome::Done(party, reply) => {
-                let turn = Turn::resting(party);
+                let turn = Turn::of(Some(party), None);
                 (End { queue, turn }, Answer::Reply(reply))
             }
             Outcome::Pending(pending) => {
-                let turn = Turn::calling(pending);
+                let turn = Turn::of(None, Some(pending));
                 (End { queue, turn }, Answer::Pending)
             }
         }
@@ -183,29 +141,26 @@ impl End {
         ensures { SplitsEnd self result.1 result.0 }
     {
         let End { queue, turn } = self;
-        let Turn { party, pending } = turn;
+        let (party, pending) = turn.into_parts();
         let Some(party) = party else {
-            let turn = Turn {
-                party: None,
-                pending,
-            };
+            let turn = Turn::of(None, pending);
             return (End { queue, turn }, Err(Refusal::Pending));
         };
         let Ok(other) = Arc::try_clone(&queue) else {
-            let turn = Turn::resting(party);
+            let turn = Turn::of(Some(party), None);
             return (End { queue, turn }, Err(Refusal::NoMemory));
         };
         let shared: &ConcurrentQueue<u64> = &queue;
         match shared.split(party) {
             Ok((first, second)) => {
-                let turn = Turn::resting(first);
+                let turn = Turn::of(Some(first), None);
                 let end = End { queue, turn };
                 let queue = other;
-                let turn = Turn::resting(second);
+                let turn = Turn::of(Some(second), None);
                 (end, Ok(End { queue, turn }))
             }
             Err(party) => {
-                let turn = Turn::resting(party);
+                let turn = Turn::of(Some(party), None);
                 (End { queue, turn }, Err(Refusal::TooMany))
             }
         }
@@ -223,12 +178,9 @@ impl End {
         ensures { FinishesEnd self result }
     {
         let End { queue, turn } = self;
-        let Turn { party, pending } = turn;
+        let (party, pending) = turn.into_parts();
         let Some(party) = party else {
-            let turn = Turn {
-                party: None,
-                pending,
-            };
+            let turn = Turn::of(None, pending);
             return Finished::Busy(End { queue, turn });
         };
         match Arc::try_unwrap(queue) {
@@ -237,7 +189,7 @@ impl End {
                 Err(_) => Finished::Lost,
             },
             Err(queue) => {
-                let turn = Turn::resting(party);
+                let turn = Turn::of(Some(party), None);
                 Finished::Shared(End { queue, turn })
             }
         }

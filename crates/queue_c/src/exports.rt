@@ -3,10 +3,11 @@ ghost use Rattle.std.specs.Prelude.{◌≡◌, ◌<◌, Some, None, Ok, Err, Mat
 ghost use Rattle.queue_steps.specs.declared.model.Call.TheVariants as call;
 ghost use Rattle.queue_c.specs.Numbers.{NO_ROOM};
 ghost use Rattle.queue_c.specs.Ends.{IsRoom, SplitsEnd};
-ghost use Rattle.queue_c.specs.Handles.{Opens, Makes, TakesUp, Asks, Gets, GetsLate, refusal_number, Splits, Drops, Shows, FinishesQueue};
+ghost use Rattle.queue_c.specs.Handles.{Opens, TakesUp, Asks, Gets, GetsLate, refusal_number, Splits, Drops, Shows, FinishesQueue};
 
 use crate::answers::{
-    Answer, BUSY, DONE, LOST, NO_MEMORY, NO_PARTY, NO_ROOM, SHARED, TAKEN, TOO_MANY, YES,
+    Answer, BUSY, Closes, DONE, ForcePushes, LOST, Looks, NO_MEMORY, NO_PARTY, NO_ROOM, Pops,
+    Pushes, SHARED, TAKEN, TOO_MANY, Told, YES,
 };
 use crate::end::{End, Finished, Refusal};
 use crate::handle::{Handle, Room};
@@ -107,42 +108,20 @@ pub extern "C" fn queue_c_drop(alloc: Global, party: &mut Handle) -> u32
     }
 }
 
-/// The calls, told apart.
-struct Pushes;
-
-struct ForcePushes;
-
-struct Pops;
-
-struct Looks;
-
-struct Closes;
-
 /// A call whose reply has no value.
 #[inline(always)]
-fn ask<W>(alloc: Global, party: &mut Handle, call: Call<u64>) -> u32
+fn ask<W: Told>(alloc: Global, party: &mut Handle, call: Call<u64>) -> u32
     ensures { Asks call party.old.end result party.new.end }
 {
-    party.call::<W>(alloc, call).number()
-}
-
-/// A call whose reply may have a value, which is written to `value`.
-#[inline(always)]
-fn get<W>(alloc: Global, party: &mut Handle, call: Call<u64>, value: &mut u64) -> u32
-    ensures { Gets call party.old.end result value.old value.new party.new.end }
-{
-    let answer = party.call::<W>(alloc, call);
-    answer.write(value);
-    answer.number()
+    let mut none = 0;
+    party.call::<W>(alloc, call, &mut none)
 }
 
 #[unsafe(no_mangle)]
 pub extern "C" fn queue_c_push(alloc: Global, party: &mut Handle, value: u64) -> u32
     ensures { Asks (call.Push value) party.old.end result party.new.end }
 {
-    party
-        .call::<Pushes>(alloc, Call::Push(value))
-        .number_of_push()
+    ask::<Pushes>(alloc, party, Call::Push(value))
 }
 
 /// A push that displaces the front of a full queue, which it writes to `old`: then the answer is `YES`.
@@ -155,21 +134,21 @@ pub extern "C" fn queue_c_force_push(
 ) -> u32
     ensures { Gets (call.ForcePush value) party.old.end result old.old old.new party.new.end }
 {
-    get::<ForcePushes>(alloc, party, Call::ForcePush(value), old)
+    party.call::<ForcePushes>(alloc, Call::ForcePush(value), old)
 }
 
 #[unsafe(no_mangle)]
 pub extern "C" fn queue_c_pop(alloc: Global, party: &mut Handle, value: &mut u64) -> u32
     ensures { Gets call.Pop party.old.end result value.old value.new party.new.end }
 {
-    party.call::<Pops>(alloc, Call::Pop).number_of_pop(value)
+    party.call::<Pops>(alloc, Call::Pop, value)
 }
 
 #[unsafe(no_mangle)]
 pub extern "C" fn queue_c_len(alloc: Global, party: &mut Handle, len: &mut u64) -> u32
     ensures { Gets call.Len party.old.end result len.old len.new party.new.end }
 {
-    get::<Looks>(alloc, party, Call::Len, len)
+    party.call::<Looks>(alloc, Call::Len, len)
 }
 
 /// Takes a pending call up again. Its reply and its value are those of the call.
@@ -177,9 +156,7 @@ pub extern "C" fn queue_c_len(alloc: Global, party: &mut Handle, len: &mut u64) 
 pub extern "C" fn queue_c_resume(alloc: Global, party: &mut Handle, value: &mut u64) -> u32
     ensures { GetsLate party.old.end result value.old value.new party.new.end }
 {
-    let answer = take_up(alloc, party);
-    answer.write(value);
-    answer.number()
+    take_up(alloc, party).tell(value)
 }
 
 fn take_up(alloc: Global, party: &mut Handle) -> Answer

@@ -1,10 +1,10 @@
 //! What C keeps of a party.
 ghost use Rattle.std.specs.Prelude.{◌≡◌, Option, Some, None};
 ghost use Rattle.std.specs.Option.{MatchOption, is_none};
-ghost use Rattle.queue_c.specs.Handles.{Makes};
+ghost use Rattle.queue_c.specs.Handles.{Gets};
 ghost use Rattle.queue_c.specs.declared.end.End.{End as SpecEnd};
 
-use crate::answers::Answer;
+use crate::answers::{Answer, Told};
 use crate::end::End;
 use crate::loose::Loose;
 use queue_steps::model::Call;
@@ -87,21 +87,21 @@ impl Handle {
         *self = Handle::of(Loose::of(room));
     }
 
-    /// Makes a call where the party is. `W` tells the calls apart.
+    /// Makes a call where the party is, and tells C of it.
     #[inline(always)]
-    pub(crate) fn call<W>(&mut self, alloc: Global, call: Call<u64>) -> Answer
-        ensures { Makes call self.old.end result self.new.end }
+    pub(crate) fn call<W: Told>(&mut self, alloc: Global, call: Call<u64>, out: &mut u64) -> u32
+        ensures { Gets call self.old.end result out.old out.new self.new.end }
     {
         let Some(loose) = std::mem::replace(self, Handle::none(alloc)).into_loose() else {
-            return Answer::NoParty;
+            return W::tell(Answer::NoParty, out);
         };
         let mut room = loose.into_box();
-        let answer = match &mut *room {
-            Some(end) => end.call::<W>(call),
-            None => Answer::NoParty,
+        let number = match &mut *room {
+            Some(end) => end.call::<W>(call, out),
+            None => W::tell(Answer::NoParty, out),
         };
         *self = Handle::of(Loose::of(room));
-        answer
+        number
     }
 
     /// Whether it has no party.

@@ -1,19 +1,16 @@
 //! Calls that never wait: one that meets another call half done is handed back as it stands, and taken up again later.
 ghost use Rattle.std.specs.Prelude.{◌≡◌, None, Some};
-ghost use Rattle.concurrent_queue.specs.declared.party.SeatPlace.TheVariants as place;
 ghost use Rattle.concurrent_queue.specs.Begun.{Begun as SpecBegun};
-ghost use Rattle.concurrent_queue.specs.declared.shared.Form.TheVariants as form;
-ghost use Rattle.concurrent_queue.specs.Calling.{IsHeldAt, IsHeldIn};
 ghost use Rattle.concurrent_queue.specs.Comes.{Comes, ComesInto};
 ghost use Rattle.concurrent_queue.specs.Leaves.{LeavesHere, LeavesInside};
 ghost use Rattle.concurrent_queue.specs.Pending.{StopsHere, StopsInside};
 ghost use Rattle.concurrent_queue.specs.OneHeap.{IsOneHeap};
-ghost use Rattle.concurrent_queue.specs.Shared.{IsPartyOf, party_view_of};
+ghost use Rattle.concurrent_queue.specs.Shared.{IsPartyOf};
 
 use super::Begins;
 use super::block_end::carry_on_over_blocks;
-use super::calling::on_ring;
-use super::standing::{Seated, Standing, Stopping};
+use super::standing::{Standing, Stopping};
+use super::turn::Turn;
 use crate::party::{Party, SeatPlace};
 use crate::shared::ConcurrentQueue;
 use atomic_table::Seat;
@@ -21,10 +18,8 @@ use call_driver::gate::Open;
 use call_driver::site::Site;
 use mem_blocks::item::Place;
 use mem_blocks::null_testable::NullTestable;
-use mem_blocks::web::Rested;
 use queue_steps::model::{Call, Reply};
 use shared_calls::allocated_chain::AllocatedChain;
-use shared_calls::beginning::{FastSteps, OnChain, OnSlot};
 use shared_calls::chain::Asking;
 use shared_calls::left::Left;
 use shared_calls::pausing::{carry_on, take_up};
@@ -147,7 +142,7 @@ fn go_on_here<T, K: Stopping<T>, A: Allocator>(
 
 /// The same. What is lent there is this function's own, so that the fast steps clear none of it.
 #[inline(always)]
-fn go_on_here_apart<T, K: Stopping<T>, A: Allocator>(
+pub(crate) fn go_on_here_apart<T, K: Stopping<T>, A: Allocator>(
     table: &SharedTable<T, K, A>,
     seat: Seat<Option<T>, CallState<T>>,
     left: Left<T, usize>,
@@ -160,26 +155,6 @@ fn go_on_here_apart<T, K: Stopping<T>, A: Allocator>(
     match go_on_here(table, seat, left.apart(), kept) {
         Some((party, reply)) => Some((party, reply)),
         None => None,
-    }
-}
-
-/// Begins a call at a table of any kind.
-#[inline(always)]
-fn begin_here<T, K: Stopping<T>, A: Allocator, F: FastSteps<SharedTable<T, K, A>> + Drop, W>(
-    steps: F,
-    table: &SharedTable<T, K, A>,
-    seat: Seat<Option<T>, CallState<T>>,
-    call: Call<T>,
-    kept: &mut Option<Pending<T, A>>,
-) -> Option<(Party<T>, Reply<T>)>
-    requires held { IsHeldAt K.layout table.now.table.shared.table_id seat }
-    requires none { kept.old ≡ None }
-    ensures { ComesInto (party_view_of (place.Table seat)) call result kept.new }
-{
-    let mut seat = seat;
-    match steps.run::<Open, W>(table, &Open, &mut seat, call) {
-        ControlFlow::Break(reply) => Some((Party::at(SeatPlace::Table(seat)), reply)),
-        ControlFlow::Continue(left) => go_on_here_apart(table, seat, left, kept),
     }
 }
 
@@ -208,7 +183,7 @@ fn go_on_inside<T, A: NullTestable>(
 
 /// The same. What is lent there is this function's own.
 #[inline(always)]
-fn go_on_inside_apart<T, A: NullTestable>(
+pub(crate) fn go_on_inside_apart<T, A: NullTestable>(
     queue: &AllocatedChain<T, A>,
     asking: Asking<T, A, Granting>,
     left: Left<T, Place<T>>,
@@ -221,33 +196,6 @@ fn go_on_inside_apart<T, A: NullTestable>(
     match go_on_inside(queue, asking, left.apart(), kept) {
         Some((party, reply)) => Some((party, reply)),
         None => None,
-    }
-}
-
-/// Begins a call in a chain.
-#[inline(always)]
-fn begin_inside<T, A: NullTestable, W>(
-    queue: &AllocatedChain<T, A>,
-    rested: Rested<CallState<T>>,
-    call: Call<T>,
-    kept: &mut Option<Pending<T, A>>,
-) -> Option<(Party<T>, Reply<T>)>
-    requires held { IsHeldIn (form.Chain queue.now) (place.Web rested) }
-    requires none { kept.old ≡ None }
-    ensures { ComesInto (party_view_of (place.Web rested)) call result kept.new }
-{
-    let mut rested = rested;
-    let mut asking: Asking<T, A, Granting> = Asking::wake(&queue.chain, &mut rested);
-    let begun = <OnChain as FastSteps<Asking<T, A, Granting>>>::run::<Open, W>(
-        OnChain,
-        queue,
-        &Open,
-        &mut asking,
-        call,
-    );
-    match begun {
-        ControlFlow::Break(reply) => { Some((Party::at(SeatPlace::Web(asking.rests())), reply)) }
-        ControlFlow::Continue(left) => go_on_inside_apart(queue, asking, left, kept),
     }
 }
 
@@ -293,35 +241,11 @@ impl<T, A: NullTestable> ConcurrentQueue<T, A> {
         requires is_party { IsPartyOf party self.now }
         ensures { Comes party call result }
     {
-        let mut kept = None;
-        match (self.begin_into::<Begins>(party, call, &mut kept), kept) {
-            (Some((party, reply)), None) => Outcome::Done(party, reply),
-            (None, Some(pending)) => Outcome::Pending(pending),
+        let mut turn = Turn::of(Some(party), None);
+        match (self.call_at::<Begins>(&mut turn, call), turn.into_parts()) {
+            (Some(reply), (Some(party), None)) => Outcome::Done(party, reply),
+            (None, (None, Some(pending))) => Outcome::Pending(pending),
             _ => unreachable!(),
-        }
-    }
-
-    /// The same, in place where it is called: its party after the call, and its reply; or none, and the call is kept. `W` tells the calls apart, so that each has
-    /// fast steps of its own.
-    #[inline(always)]
-    pub fn begin_into<W>(
-        &self,
-        party: Party<T>,
-        call: Call<T>,
-        kept: &mut Option<Pending<T, A>>,
-    ) -> Option<(Party<T>, Reply<T>)>
-        requires is_party { IsPartyOf party self.now }
-        requires none { kept.old ≡ None }
-        ensures { ComesInto party call result kept.new }
-    {
-        match self.form.seated(party.place) {
-            Seated::Slot(table, seat) => {
-                begin_here::<_, _, _, _, W>(OnSlot, table, seat, call, kept)
-            }
-            Seated::Ring(table, seat) => {
-                begin_here::<_, _, _, _, W>(on_ring(table), table, seat, call, kept)
-            }
-            Seated::Chain(queue, rested) => begin_inside::<_, _, W>(queue, rested, call, kept),
         }
     }
 

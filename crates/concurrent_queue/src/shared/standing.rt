@@ -1,4 +1,4 @@
-//! A party's seat, or a call on its way, beside what its queue is made of: what pairs a queue's form with a place that the caller takes along.
+//! A call on its way beside what its queue is made of: what pairs a queue's form with a place that the caller takes along.
 ghost use Rattle.std.specs.Prelude.{◌≡◌, ◌≤◌, None, MatchResult};
 ghost use Rattle.atomic_table.specs.Seated.{TableId};
 ghost use Rattle.queue_steps.specs.Kinds.{call_value};
@@ -8,8 +8,8 @@ ghost use Rattle.concurrent_queue.specs.Begun.{Begun as SpecBegun};
 ghost use Rattle.concurrent_queue.specs.OneHeap.{IsOneHeap};
 ghost use Rattle.concurrent_queue.specs.Pending.{StopsHere, StopsInside};
 ghost use Rattle.concurrent_queue.specs.SawMore.{SawMore};
-ghost use Rattle.concurrent_queue.specs.Shared.{IsPartyOf, form_id, name_at};
-ghost use Rattle.concurrent_queue.specs.Standing.{IsSeatOf, StandsAs};
+ghost use Rattle.concurrent_queue.specs.Shared.{IsPartyOf};
+ghost use Rattle.concurrent_queue.specs.Standing.{StandsAs};
 
 use super::Form;
 use super::pending::{CallPlace, Pending};
@@ -17,7 +17,6 @@ use crate::party::{Party, SeatPlace};
 use crate::shared::ConcurrentQueue;
 use atomic_table::Seat;
 use mem_blocks::item::Place;
-use mem_blocks::web::Rested;
 use shared_calls::allocated_chain::AllocatedChain;
 use shared_calls::chain::Asking;
 use shared_calls::left::Left;
@@ -34,29 +33,6 @@ pub(crate) enum Standing<'a, T, A: Allocator> {
     Slot(&'a SharedTable<T, Slots, A>, Seat<Option<T>, CallState<T>>, Left<T, usize>),
     Ring(&'a SharedTable<T, Rings, A>, Seat<Option<T>, CallState<T>>, Left<T, usize>),
     Chain(&'a AllocatedChain<T, A>, Asking<T, A, Granting>, Left<T, Place<T>>),
-}
-
-/// A party's seat between its calls, by its queue's form.
-pub(crate) enum Seated<'a, T, A: Allocator> {
-    Slot(&'a SharedTable<T, Slots, A>, Seat<Option<T>, CallState<T>>),
-    Ring(&'a SharedTable<T, Rings, A>, Seat<Option<T>, CallState<T>>),
-    Chain(&'a AllocatedChain<T, A>, Rested<CallState<T>>),
-}
-
-impl<T, A: Allocator> Form<T, A> {
-    /// The seat at this place, with the part of the queue where it is.
-    #[inline(always)]
-    pub(crate) fn seated(&self, place: SeatPlace<T>) -> Seated<'_, T, A>
-        requires here { name_at place ≡ (form_id self.now).name }
-        ensures { IsSeatOf self.now place result }
-    {
-        match (self, place) {
-            (Form::Slot(slot), SeatPlace::Table(seat)) => Seated::Slot(slot, seat),
-            (Form::Ring(ring), SeatPlace::Table(seat)) => Seated::Ring(ring, seat),
-            (Form::Chain(queue), SeatPlace::Web(rested)) => Seated::Chain(queue, rested),
-            _ => unreachable!(),
-        }
-    }
 }
 
 impl<T, A: Allocator> ConcurrentQueue<T, A> {
