@@ -4,7 +4,6 @@
 pub mod channel;
 pub mod ends;
 pub mod handle;
-pub mod in_futures;
 pub mod moments;
 pub mod owner;
 pub mod parties;

@@ -1,11 +1,13 @@
 -- A call of a party at a table that stands before one of its steps: how it comes to stand there, and how it is taken up.
-use Rattle.std.proofs.Common.{◌≡◌, ℕ, [], Option, refl, sym, ap, subst, ◌∙◌}
+use Rattle.std.proofs.Common.{◌≡◌, ◌-◌, ℕ, [], Option, refl, sym, ap, subst, ◌∙◌}
 use Rattle.atomic_table.specs.{Seated.TableId, declared.shared.Seat.Seat}
-use Rattle.queue_steps.specs.{declared.model.Call.Call, declared.model.Reply.Reply, declared.steps.types.Kind.Kind, Kinds.call_kind, Next.next_of, Parties.IsView}
+use Rattle.queue_steps.specs.{declared.model.Call.Call, declared.model.Reply.Reply, declared.sizes.TheConstants.SOLO_STEPS, declared.steps.types.Kind.Kind, Kinds.call_kind, Next.next_of, Parties.IsView}
 use Rattle.shared_parties.specs.{declared.known.CallState.CallState, declared.known.InCall.InCall, declared.known.Work.Work as work, Calling.cap_of, CallsAt.begun_at, Quitting.its_call, CallStates.idle, Known.party}
-use Rattle.shared_tables.specs.{AtTable.TableSeat, AtTable.Ended, Seats.view_at, TableRule.TableOf, TableTurns.After, TableTurns.TableStands}
+use Rattle.shared_tables.specs.{AtTable.TableSeat, AtTable.Ended, Seats.view_at, TableRule.TableOf, Laws.TableLeads.site_goes_on}
+use Rattle.shared_tables.specs.TableTurns.{After, NoBlock, NoGift, TableCan, TableDoes, TableEnded, TableStands}
+use Rattle.call_driver.specs.Leads.{GoesOn}
 use Rattle.shared_calls.{specs.declared.left.Left.Left, specs.Pausing.IsStep, proofs.Steps.at_step, proofs.Steps.at_its}
-use Rattle.concurrent_queue.specs.{declared.party.SeatPlace.SeatPlace, declared.party.SeatPlace.SeatPlace as place, Begun.Begun, Pending.begun_by, Pending.IsStoppedAt, Pending.StopsHere}
+use Rattle.concurrent_queue.specs.{declared.party.SeatPlace.SeatPlace, declared.party.SeatPlace.SeatPlace as place, Begun.Begun, Calling.IsHeldAt, Pending.begun_by, Pending.IsStoppedAt, Pending.StopsHere}
 use Rattle.concurrent_queue.specs.Shared.{QueueId, QueueName, at_table, PartyView, party_view, IsHeld, Calls, party_view_of}
 use Rattle.concurrent_queue.proofs.TableCalls.{table_ends}
 
@@ -31,10 +33,6 @@ module _ {T : Type 0} (K : ℕ → TableOf T) (t : TableId) where
 
   pub go_there : (s : Seat (Option T) (CallState T)) (l : Left T ℕ) (v : Begun T) → StopsHere K t s l v → StopsThere s l v
   go_there s l v h = subst (λ (z : TableId). IsStoppedAt (K z.slots) s l × (begun_by (at_table z) (cap_of (K z.slots).calls) s.me.0 ≡ v)) (sym h.0) (h.1, h.2)
-
-  -- its next step is one
-  pub own_step : (s : Seat (Option T) (CallState T)) (l : Left T ℕ) (v : Begun T) → StopsHere K t s l v → IsStep (next_of l.kind l.progress.local l.progress.answer)
-  own_step s l v h = subst (λ (k : Kind). IsStep (next_of k l.progress.local l.progress.answer)) (sym h.1.kind) h.1.step
 
   -- where a call stands, it may be taken up
   pub taken_up : (n : ℕ) (s : Seat (Option T) (CallState T)) (l : Left T ℕ) (v : Begun T) → StopsHere K t s l v
@@ -76,13 +74,6 @@ module _ {T : Type 0} (K : ℕ → TableOf T) (t : TableId) where
       let h = stops n (at s) c q l (subst (λ (z : Option ℕ). IsView z (view_at s.me)) cap_is (subst IsHeld sits is).0.1) kind call stands step in
       (h.0, h.1, begun_is (at_table t) cap q.me.0 v c queue (h.2 ∙ ap (λ (z : PartyView T). z.view) is_v') h.3)
 
-  -- and one that was taken up
-  pub went_on : (n : ℕ) (s q : Seat (Option T) (CallState T)) (l m : Left T ℕ) (v : Begun T) → StopsHere K t s l v → m.kind ≡ (K t.slots).calls.kind → m.call ≡ call_kind (its_call s.me.0).call
-      → TableStands K n t (at (first_seat s)) (its_call s.me.0).call m.progress.local m.progress.answer (at q) m.carried → IsStep (next_of m.kind m.progress.local m.progress.answer) → StopsHere K t q m v
-  went_on n s q l m v old kind call stands step =
-      let h = stops n (at (first_seat s)) (its_call s.me.0).call q m old.1.view kind call stands step in
-      (h.0, h.1, (λ i. record { party = record { queue = record { name = at_table t; cap = cap }; view = h.2 i }; call = h.3 i }) ∙ old.2)
-
   -- a call of its party that has ended
   pub comes_back : (s q : Seat (Option T) (CallState T)) (l : Left T ℕ) (v : Begun T) (k : Call T) (y : Reply T) → StopsHere K t s l v → Ended cap t (at (first_seat s)) k y (at q)
       → IsHeld (place.Table q) × Calls v.party k y (party_view_of (place.Table q))
@@ -90,9 +81,29 @@ module _ {T : Type 0} (K : ℕ → TableOf T) (t : TableId) where
       let is_v : party_view_of (place.Table (first_seat s)) ≡ v.party = ap (λ (z : TableId). party_view (at_table z) (first_seat s).me.0) old.0 ∙ ap (λ (z : Begun T). z.party) old.2 in
       table_ends (place.Table (first_seat s)) (first_seat s) cap t refl ((refl, old.1.view), refl) q (place.Table q) v.party k y y refl refl is_v (ap (λ (z : Begun T). z.party.queue.cap) (sym old.2)) (sym old.0) e
 
-  -- a call that was taken up and has ended
-  pub ended : (s q : Seat (Option T) (CallState T)) (l : Left T ℕ) (v : Begun T) (y : Reply T) → StopsHere K t s l v → Ended cap t (at (first_seat s)) (its_call s.me.0).call y (at q)
-      → IsHeld (place.Table q) × Calls v.party v.call y (party_view_of (place.Table q))
-  ended s q l v y old e =
-      let h = comes_back s q l v (its_call s.me.0).call y old e in
-      (h.0, subst (λ (z : Call T). Calls v.party z y (party_view_of (place.Table q))) (ap (λ (z : Begun T). z.call) old.2) h.1)
+  -- the party that began it, and the call
+  abbrev pub began : Seat (Option T) (CallState T) → Begun T
+  began s = begun_by (at_table t) cap s.me.0
+
+-- what does the calls shows a table
+module _ {T M : Type 0} (K : ℕ → TableOf T) (m : M) (table : M → TableId) where
+  abbrev LeadsOn : Kind → Seat (Option T) (CallState T) → Call T → Left T ℕ → Seat (Option T) (CallState T) → Type 0
+  LeadsOn k first c l s =
+      GoesOn {M = M} {S = Seat (Option T) (CallState T)} (λ m s. TableCan K (table m) (s.table_id, s.me)) (λ m s k l u o x a q. TableDoes K (table m) (s.table_id, s.me) k l u o x a (q.table_id, q.me))
+      (λ m s. NoBlock (table m) (s.table_id, s.me)) (λ m s b q. NoGift (table m) (s.table_id, s.me) b (q.table_id, q.me))
+      (λ n m s c l a q. TableStands K n (table m) (s.table_id, s.me) c l a (q.table_id, q.me)) (λ m s c r q. TableEnded K (table m) (s.table_id, s.me) c r (q.table_id, q.me))
+      (SOLO_STEPS - 1) k m first c l.progress.local l.progress.answer s l.carried
+
+  -- a call that stands there goes on as one that has left its fast steps
+  pub resumes : (s : Seat (Option T) (CallState T)) (l : Left T ℕ) (v : Begun T) → StopsHere K (table m) s l v
+      → (first : Seat (Option T) (CallState T)) × IsHeldAt K (table m) first × (party_view_of (place.Table first) ≡ (began K (table m) s).party)
+      × ((l.kind ≡ (K (table m).slots).calls.kind) × (l.call ≡ call_kind (began K (table m) s).call)) × LeadsOn l.kind first (began K (table m) s).call l s
+  resumes s l v h =
+      let t = table m in let first = first_seat K t s in let c = (its_call s.me.0).call in (
+        first,
+        (((refl, h.1.view), refl), λ i. record { name = at_table (h.0 i); cap = cap_of (K t.slots).calls }),
+        ap (λ (z : TableId). party_view (at_table z) first.me.0) h.0,
+        (h.1.kind, h.1.call),
+        subst (λ (k : Kind). LeadsOn k first c l s) (sym h.1.kind)
+            (site_goes_on K table (λ (p : Seat (Option T) (CallState T)). (p.table_id, p.me)) (SOLO_STEPS - 1) m first c l.progress.local l.progress.answer s l.carried (taken_up K t SOLO_STEPS s l v h)),
+      )

@@ -1,23 +1,23 @@
 -- A call of a party of a shared chain that stands before one of its steps: how it comes to stand there, and how it is taken up.
-use Rattle.std.proofs.Common.{◌≡◌, ℕ, true, None, Option, refl, sym, ap, subst, ◌∙◌}
+use Rattle.std.proofs.Common.{◌≡◌, ◌-◌, ℕ, true, None, Option, refl, sym, ap, subst, ◌∙◌}
 use Rattle.mem_blocks.specs.{Web.Sitter, Web.sitter, declared.block.BlockPtr.BlockPtr as Link, declared.web.Rested.Rested}
-use Rattle.queue_steps.specs.{declared.model.Call.Call, declared.model.Reply.Reply, declared.steps.types.Kind.Kind, declared.steps.types.Kind.Kind as queue, Kinds.call_kind, Next.next_of, Parties.IsView, Parties.SharedCall}
+use Rattle.queue_steps.specs.{declared.model.Call.Call, declared.model.Reply.Reply, declared.sizes.TheConstants.SOLO_STEPS, declared.steps.types.Kind.Kind, declared.steps.types.Kind.Kind as queue, Kinds.call_kind, Next.next_of, Parties.IsView, Parties.SharedCall}
 use Rattle.shared_parties.specs.{declared.known.CallState.CallState, declared.known.InCall.InCall, declared.known.Work.Work as work, Called.call_of_work, Called.nothing_called, CallsAt.begun_at, Quitting.its_call, CallStates.idle, CallStates.IsResting, CallStates.HasAll, Known.party, Known.view_of}
-use Rattle.shared_chain.specs.{Names.link_of, Names.next_map, Turning.SitsAt, Turning.ChainStands, Turning.ChainEnded, declared.web.ChainWeb.ChainWeb}
+use Rattle.shared_chain.specs.{Names.link_of, Names.next_map, Turning.SitsAt, Turning.ChainCan, Turning.ChainDoes, Turning.ChainStands, Turning.ChainEnded, declared.web.ChainWeb.ChainWeb}
 use Rattle.shared_chain.specs.Steps as chain
 use Rattle.shared_chain.proofs.Frames.Renamed.{next_of_map}
-use Rattle.shared_calls.{specs.declared.chain.Asking.Asking, specs.declared.left.Left.Left, specs.InWeb.EndedAt, specs.Pausing.IsStep, proofs.Steps.in_step, proofs.Steps.step_named}
-use Rattle.concurrent_queue.specs.{declared.party.SeatPlace.SeatPlace, declared.party.SeatPlace.SeatPlace as place, Shared.QueueId, Shared.in_web, Shared.PartyView, Shared.party_view, Shared.IsHeld, Shared.Calls, Shared.party_view_of, Begun.Begun, Pending.IsStoppedIn, Pending.StopsInside}
+use Rattle.call_driver.specs.Leads.{GoesOn}
+use Rattle.shared_calls.specs.{declared.allocated_chain.AllocatedChain.AllocatedChain, declared.chain.Asking.Asking, declared.left.Left.Left, InWeb.EndedAt, Pausing.IsStep}
+use Rattle.shared_calls.specs.{ChainSite.ChainSpares, ChainSite.ChainGives, ChainSite.ChainOnWay, Laws.ChainSite.site_goes_on}
+use Rattle.shared_calls.proofs.Steps.{in_step, step_named}
+use Rattle.concurrent_queue.specs.{declared.party.SeatPlace.SeatPlace, declared.party.SeatPlace.SeatPlace as place, declared.shared.Form.Form as form, Begun.Begun, Calling.IsHeldIn, Pending.IsStoppedIn, Pending.StopsInside}
+use Rattle.concurrent_queue.specs.Shared.{QueueId, in_web, PartyView, party_view, IsHeld, Calls, party_view_of}
 use Rattle.concurrent_queue.proofs.{Stops.begun_is, WebParties.web_ends}
 
 module _ {T A Q : Type 0} (w : ChainWeb T A) where
   -- the seat with which the call of this seat began
   abbrev pub first_asking : Asking T A Q → Asking T A Q
   first_asking s = let c = its_call s.seat.sitter.view in record s { seat = record s.seat { sitter = sitter (idle (party None c.since c.before c.share)) None None } }
-
-  -- its next step is one
-  pub own_step_in : (s : Asking T A Q) (l : Left T (Link T)) (v : Begun T) → StopsInside w s l v → IsStep (next_of l.kind l.progress.local l.progress.answer)
-  own_step_in s l v h = subst (λ (k : Kind). IsStep (next_of k l.progress.local l.progress.answer)) (sym h.1.kind) h.1.step
 
   -- where a call stands, it may be taken up
   pub taken_up_in : (s : Asking T A Q) (l : Left T (Link T)) (v : Begun T) → StopsInside w s l v
@@ -65,14 +65,6 @@ module _ {T A Q : Type 0} (w : ChainWeb T A) where
       let h = stops_in p q c l (subst (IsView None) (sym view_is) (subst (λ (z : Option ℕ). IsView z (view_of r.view.known)) cap_is (subst IsHeld sits is).0.1)) kind call stands step in
       (h.0, h.1, begun_is (in_web q.seat.web) None q.seat.sitter.view v c (queue ∙ (λ i. record { name = in_web (sym h.0.0 i); cap = None })) (h.2 ∙ (view_is ∙ ap (λ (z : PartyView T). z.view) is_v')) h.3)
 
-  -- and one that was taken up
-  pub went_on_in : (s q : Asking T A Q) (l m : Left T (Link T)) (v : Begun T) → StopsInside w s l v → m.kind ≡ queue.Unbounded → m.call ≡ call_kind (its_call s.seat.sitter.view).call
-      → ChainStands w (first_asking s).seat (its_call s.seat.sitter.view).call m.progress.local m.progress.answer q.seat m.carried → IsStep (next_of m.kind m.progress.local m.progress.answer) → StopsInside w q m v
-  went_on_in s q l m v old kind call stands step =
-      let h = stops_in (first_asking s) q (its_call s.seat.sitter.view).call m old.1.view kind call stands step in
-      let web : q.seat.web ≡ s.seat.web = h.0.0 ∙ sym old.0.0 in
-      (h.0, h.1, (λ i. record { party = record { queue = record { name = in_web (web i); cap = None }; view = h.2 i }; call = h.3 i }) ∙ old.2)
-
   -- a call of its party that has ended
   pub comes_back_in : (s q : Asking T A Q) (l : Left T (Link T)) (v : Begun T) (k : Call T) (y : Reply T) (r : Rested (CallState T)) → StopsInside w s l v → ChainEnded w (first_asking s).seat k y q.seat
       → r.asleep ≡ true → r.web ≡ q.seat.web → r.view ≡ q.seat.sitter.view → IsHeld (place.Web r) × Calls v.party k y (party_view_of (place.Web r))
@@ -91,9 +83,29 @@ module _ {T A Q : Type 0} (w : ChainWeb T A) where
       ) in
       web_ends (place.Web first) (place.Web r) first r v.party k y y refl ((refl, old.1.view), asleep) refl refl is_v (ap (λ (z : Begun T). z.party.queue.cap) (sym old.2)) ends
 
-  -- a call that was taken up and has ended
-  pub ended_in : (s q : Asking T A Q) (l : Left T (Link T)) (v : Begun T) (y : Reply T) (r : Rested (CallState T)) → StopsInside w s l v → ChainEnded w (first_asking s).seat (its_call s.seat.sitter.view).call y q.seat
-      → r.asleep ≡ true → r.web ≡ q.seat.web → r.view ≡ q.seat.sitter.view → IsHeld (place.Web r) × Calls v.party v.call y (party_view_of (place.Web r))
-  ended_in s q l v y r old e asleep web view =
-      let h = comes_back_in s q l v (its_call s.seat.sitter.view).call y r old e asleep web view in
-      (h.0, subst (λ (z : Call T). Calls v.party z y (party_view_of (place.Web r))) (ap (λ (z : Begun T). z.call) old.2) h.1)
+module _ {T A Q : Type 0} (here : AllocatedChain T A) where
+  -- the party that began it, and the call
+  abbrev pub began_in : Asking T A Q → Begun T
+  began_in s = begun_by (in_web s.seat.web) None s.seat.sitter.view
+
+  abbrev LeadsOn : Kind → Asking T A Q → Call T → Left T (Link T) → Asking T A Q → Type 0
+  LeadsOn k first c l s =
+      GoesOn {M = AllocatedChain T A} {S = Asking T A Q} (λ m s. ChainCan m.chain s.seat) (λ m s k l u o x a q. ChainDoes s.seat k l u o x a q.seat) (λ m s. ChainSpares m.chain s.seat) (λ m s b q. ChainGives m.chain s.seat b q.seat)
+      (λ n m s c l a q. ChainOnWay n m.chain s.seat c l a q.seat) (λ m s c r q. ChainEnded m.chain s.seat c r q.seat)
+      (SOLO_STEPS - 1) k here first c l.progress.local l.progress.answer s l.carried
+
+  -- a call that stands there goes on as one that has left its fast steps
+  pub resumes_in : (s : Asking T A Q) (l : Left T (Link T)) (v : Begun T) → StopsInside here.chain s l v
+      → (r : Rested (CallState T)) × (first : Asking T A Q) × IsHeldIn (form.Chain here) (place.Web r) × (first.seat.sitter ≡ sitter r.view None None) × (party_view_of (place.Web r) ≡ (began_in s).party)
+      × ((l.kind ≡ queue.Unbounded) × (l.call ≡ call_kind (began_in s).call)) × LeadsOn l.kind first (began_in s).call l s
+  resumes_in s l v h =
+      let c = its_call s.seat.sitter.view in let first = first_asking here.chain s in (
+        record { marker = record {}; web = s.seat.web; id = s.seat.id; asleep = true; view = idle (party None c.since c.before c.share) },
+        first,
+        (((refl, h.1.view), refl), λ i. record { name = in_web (h.0.0 i); cap = None }),
+        refl,
+        refl,
+        (h.1.kind, h.1.call),
+        subst (λ (k : Kind). LeadsOn k first c.call l s) (sym h.1.kind)
+            (site_goes_on (λ (m : AllocatedChain T A). m.chain) (λ (p : Asking T A Q). p.seat) (SOLO_STEPS - 1) here first c.call l.progress.local l.progress.answer s l.carried (taken_up_in here.chain s l v h)),
+      )

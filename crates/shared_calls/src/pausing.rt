@@ -166,17 +166,3 @@ pub fn settle<M: Site, G: Gate>(
     }
     ControlFlow::Continue(left)
 }
-
-/// Takes a call up where it stands, until its reply, or until it has met another call half done.
-pub fn take_up<M: Site, G: Gate>(
-    site: &M::Shared,
-    gate: &G,
-    seat: &mut M::Seat,
-    left: Left<M::Item, M::Block>,
-) -> ControlFlow<Reply<M::Item>, Left<M::Item, M::Block>>
-    requires kind { M.Steps.has_kind left.kind }
-    requires paused { (c : SpecCall M.Item) × (first : M.Seat) × IsPaused M.Site site.now first c left seat.old }
-    ensures { (c : SpecCall M.Item) (first : M.Seat) → IsPaused M.Site site.now first c left seat.old → MatchControlFlow result (λ paused. IsPaused M.Site site.now first c paused seat.new) (λ reply. M.ended site.now first c reply seat.new) }
-{
-    carry_on::<M, G>(site, gate, seat, left)
-}

@@ -22,7 +22,7 @@ use queue_steps::model::{Call, Reply};
 use shared_calls::allocated_chain::AllocatedChain;
 use shared_calls::chain::Asking;
 use shared_calls::left::Left;
-use shared_calls::pausing::{carry_on, take_up};
+use shared_calls::pausing::carry_on;
 use shared_chain::source::Granting;
 use shared_parties::known::CallState;
 use shared_tables::table::SharedTable;
@@ -199,6 +199,22 @@ pub(crate) fn go_on_inside_apart<T, A: NullTestable>(
     }
 }
 
+/// What a call has come to, which has ended or is kept.
+#[inline(always)]
+fn outcome_of<T, A: Allocator>(
+    ended: Option<(Party<T>, Reply<T>)>,
+    kept: Option<Pending<T, A>>,
+) -> Outcome<T, A>
+    requires comes { (v : SpecBegun T) × ComesInto v.party v.call ended kept }
+    ensures { (v : SpecBegun T) → ComesInto v.party v.call ended kept → Comes v.party v.call result }
+{
+    match (ended, kept) {
+        (Some((party, reply)), None) => Outcome::Done(party, reply),
+        (None, Some(pending)) => Outcome::Pending(pending),
+        _ => unreachable!(),
+    }
+}
+
 /// Takes up a call at a table of any kind.
 fn resume_here<T, K: Stopping<T>, A: Allocator>(
     table: &SharedTable<T, K, A>,
@@ -208,11 +224,9 @@ fn resume_here<T, K: Stopping<T>, A: Allocator>(
     requires stands { (v : SpecBegun T) × StopsHere K.layout table.now.table.shared.table_id seat left v }
     ensures { (v : SpecBegun T) → StopsHere K.layout table.now.table.shared.table_id seat left v → Comes v.party v.call result }
 {
-    let mut seat = seat;
-    match take_up::<SharedTable<T, K, A>, Open>(table, &Open, &mut seat, left) {
-        ControlFlow::Break(reply) => Outcome::Done(Party::at(SeatPlace::Table(seat)), reply),
-        ControlFlow::Continue(left) => Outcome::Pending(K::stopped(seat, left)),
-    }
+    let mut kept = None;
+    let ended = go_on_here(table, seat, left, &mut kept);
+    outcome_of(ended, kept)
 }
 
 /// The same in a chain.
@@ -224,15 +238,9 @@ fn resume_inside<T, A: NullTestable>(
     requires stands { (v : SpecBegun T) × StopsInside queue.now.chain asking left v }
     ensures { (v : SpecBegun T) → StopsInside queue.now.chain asking left v → Comes v.party v.call result }
 {
-    let mut asking = asking;
-    match take_up::<Asking<T, A, Granting>, Open>(queue, &Open, &mut asking, left) {
-        ControlFlow::Break(reply) => {
-            Outcome::Done(Party::at(SeatPlace::Web(asking.rests())), reply)
-        }
-        ControlFlow::Continue(left) => {
-            Outcome::Pending(Pending::at(CallPlace::Chain(asking, left)))
-        }
-    }
+    let mut kept = None;
+    let ended = go_on_inside(queue, asking, left, &mut kept);
+    outcome_of(ended, kept)
 }
 
 impl<T, A: NullTestable> ConcurrentQueue<T, A> {
