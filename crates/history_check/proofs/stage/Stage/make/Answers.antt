@@ -12,3 +12,6 @@ returns-in-Act-clause-exact g c = let P : Move → Type 0 = λ m. IfOk c.act.res
 
 pub returns-in-Part-clause-exact : goal.returns-in-Part-clause-exact
 returns-in-Part-clause-exact g c = let P : Move → Type 0 = λ m. IfOk c.part.result (λ yes. (t : SpecStage) → Makes c.args.self.now m t → (yes ≡ true) × (t ≡ c.part.new.self)) in subst P (sym c.in-Part.is) c.part.ensures.exact
+
+pub returns-in-Arrive-clause-exact : goal.returns-in-Arrive-clause-exact
+returns-in-Arrive-clause-exact g c = let P : Move → Type 0 = λ m. IfOk c.arrive.result (λ yes. (t : SpecStage) → Makes c.args.self.now m t → (yes ≡ true) × (t ≡ c.arrive.new.self)) in subst P (sym c.in-Arrive.is) c.arrive.ensures.exact
