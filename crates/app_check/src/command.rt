@@ -1,5 +1,5 @@
 //! The whole checker as a function of its arguments, its input and its two outputs.
-ghost use Rattle.std.specs.Prelude.{◌≡◌, ◌∷◌, [], IfOk, MatchResult, map, string_bytes};
+ghost use Rattle.std.specs.Prelude.{◌≡◌, IfOk, MatchResult, map, string_bytes};
 ghost use Rattle.app_text.specs.KindNames.{capacity_of, IsKindName};
 ghost use Rattle.app_text.specs.Reading.{IsReading};
 ghost use Rattle.app_check.specs.Answers.{stop_status};
@@ -65,17 +65,9 @@ fn kind_of(args: &[String]) -> Option<KindName>
     ensures { IsReading IsKindName kind_words (map string_bytes args.now) result }
 {
     match args {
-        [word] => kind_named(word.as_str()),
+        [word] => parse_kind(word.as_str()),
         _ => None,
     }
-}
-
-// The kind that this word alone names.
-fn kind_named(word: &str) -> Option<KindName>
-    ensures { IsReading IsKindName kind_words (word.now ∷ []) result }
-{
-    let kind = parse_kind(word)?;
-    Some(kind)
 }
 
 // The line that tells the answer.
@@ -90,8 +82,7 @@ fn told<A: Allocator>(alloc: &A, kind: KindName, text: &[u8]) -> Result<Answer, 
     ensures { MatchResult result (IsAnswerTo (capacity_of kind) text.now) (IsUntold text.now) }
 {
     let history = read_history(alloc, text)?;
-    let answer = answer_of(alloc, capacity_of(kind), history.parties, &history.events)?;
-    Ok(answer)
+    answer_of(alloc, capacity_of(kind), history.parties, &history.events)
 }
 
 // The capacity of a queue of this kind, if it has one.
