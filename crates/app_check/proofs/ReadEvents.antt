@@ -1,5 +1,5 @@
 -- Events are read back from their lines, and histories event by event.
-use Rattle.std.proofs.Common.{◌≡◌, ◌≢◌, ◌∙◌, ℕ, ◌^◌, ◌<◌, ◌≤◌, List, [], ◌∷◌, ◌++◌, length, map, Option, Some, None, slice_get, replicate, arith, ap, refl, sym, subst}
+use Rattle.std.proofs.Common.{◌≡◌, ◌≢◌, ◌∙◌, ℕ, ◌<◌, ◌≤◌, List, [], ◌∷◌, ◌++◌, length, map, Option, Some, None, slice_get, replicate, arith, ap, refl, sym, subst}
 use Rattle.std.specs.{Fmt.decimal, List.AllByRecursion}
 use Rattle.std.proofs.lemmas.{Fmt.decimal_injective, Fmt.digits_decimal, List.length-replicate, List.length-set, Option.slice_get_within}
 use Rattle.queue_steps.specs.declared.model.Call.{Call}

@@ -1,5 +1,5 @@
 -- What is told of a history, and of a stop, and the status that each ends with.
-use Rattle.std.specs.Prelude.{ℕ, Option, List, [], ◌∷◌, ◌++◌, codes}
+use Rattle.std.specs.Prelude.{ℕ, Option, List, ◌∷◌, ◌++◌, codes}
 use Rattle.std.specs.Fmt.{decimal}
 use Rattle.app_text.specs.{Faults.fault_text, Faults.fault_status, declared.faults.Fault.Fault as fault}
 use Rattle.history_check.specs.{Legal.IsLegal, Legal.IsShortest, declared.recorded.Event.Event}

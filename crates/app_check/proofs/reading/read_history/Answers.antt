@@ -1,6 +1,5 @@
-use Rattle.std.proofs.Common.{◌≡◌, ◌∙◌, ◌++◌, ◌∷◌, ◌<◌, ◌≤◌, [], List, Option, Some, None, ℕ, length, map, slice_get, arith, ap, sym, subst, refl, append-nil}
+use Rattle.std.proofs.Common.{◌≡◌, ◌∙◌, ◌++◌, ◌∷◌, ◌<◌, [], List, Some, ℕ, length, map, slice_get, arith, ap, sym, refl}
 use Rattle.std.proofs.lemmas.Option.{slice_get_within}
-use Rattle.queue_steps.specs.declared.model.Call.{Call}
 use Rattle.history_check.specs.declared.recorded.Event.{Event}
 use Rattle.app_text.specs.Lines.{lines_of}
 use Rattle.app_check.specs.{Histories.event_text, Histories.party_of, Histories.idle, Histories.Lead, declared.reading.TheConstants.MOST_PARTIES}
