@@ -1,0 +1,6 @@
+pub mod Places
+pub mod Plays
+pub mod Seeing
+pub mod Effects
+pub mod Events
+pub mod Runs
