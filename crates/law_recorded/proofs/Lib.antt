@@ -4,3 +4,4 @@ pub mod Seeing
 pub mod Effects
 pub mod Events
 pub mod Runs
+pub mod Replayed

@@ -94,9 +94,9 @@ at_end parties b flags sound =
     let ways = list_of (SoFar flags b.open_call) parties (λ p. far_of (flags p) (b.open_call p) (λ o is. let s = sound p o is in s.has_begun)) in
     record { ways = ways.list; many = ways.many; may = ways.each; moves = []; goes = refl }
 
-before_step : (parties : ℕ) (b c : Book ℕ) (flags : ℕ → Bool) (p : ℕ) (granted : Bool) (k : Option EffectKind) (r : Option (Reply ℕ)) (es : List (Event ℕ)) (ts : List (Told ℕ)) → p < parties → Steps b p k r c → AllSound b flags
+before_step : (parties : ℕ) (b c : Book ℕ) (flags : ℕ → Bool) (p : ℕ) (k : Option EffectKind) (r : Option (Reply ℕ)) (es : List (Event ℕ)) (ts : List (Told ℕ)) → p < parties → Steps b p k r c → AllSound b flags
     → PlayFrom parties c flags es ts → Play parties b.queue (SoFar flags b.open_call) (ends p r (recorded es ts))
-before_step parties b c flags p granted k r es ts lt s sound play =
+before_step parties b c flags p k r es ts lt s sound play =
     let mine : Open ℕ = after_own b.busy s.o c.queue s.effects in
     let was = sound p s.o s.in_call in
     let all = subst (λ f. Play parties c.queue (SoFar flags f) (recorded es ts)) s.calls play in
@@ -121,10 +121,10 @@ plays cap parties (Begin p k ∷ es) (Ran None (Some r) ∷ ts) b last flags sou
 plays cap parties (Begin p k ∷ es) (Ran (Some x) r ∷ ts) b last flags sound (mid, never, run) = absurd never
 plays cap parties (Step p granted ∷ es) (Ran k None ∷ ts) b last flags sound (mid, (fit, step), run) =
     let tests = and_true (nat_lt p parties) (is_some (b.open_call p)) fit in
-    before_step parties b mid flags p granted k None es ts (ltb-true p parties tests.0) step sound (plays cap parties es ts mid last flags (sound_step b mid flags p k None step sound) run)
+    before_step parties b mid flags p k None es ts (ltb-true p parties tests.0) step sound (plays cap parties es ts mid last flags (sound_step b mid flags p k None step sound) run)
 plays cap parties (Step p granted ∷ es) (Ran k (Some r) ∷ ts) b last flags sound (mid, (fit, step), run) =
     let tests = and_true (nat_lt p parties) (is_some (b.open_call p)) fit in
-    before_step parties b mid flags p granted k (Some r) es ts (ltb-true p parties tests.0) step sound (plays cap parties es ts mid last flags (sound_step b mid flags p k (Some r) step sound) run)
+    before_step parties b mid flags p k (Some r) es ts (ltb-true p parties tests.0) step sound (plays cap parties es ts mid last flags (sound_step b mid flags p k (Some r) step sound) run)
 
 pub runs_are_legal : RunsAreLegal
 runs_are_legal cap parties events told last run =
