@@ -5,7 +5,7 @@ use Rattle.std.specs.Prelude.{slice_get, slice_set}
 use Rattle.queue_steps.specs.State.{State}
 use Rattle.queue_steps.specs.Replies.{IsRightAt}
 use Rattle.machine_replay.specs.Vocabulary.{Call, Reply, Effect, EffectKind}
-use Rattle.machine_replay.specs.Book.{Book, Open, Moves, GoesOn, begun, joined, watched, seen_by, after_own, put, at_open}
+use Rattle.machine_replay.specs.Book.{Open, Moves, GoesOn, begun, joined, watched, seen_by, after_own, put, at_open}
 use Rattle.history_check.specs.declared.recorded.Event.{Event}
 use Rattle.history_check.specs.declared.recorded.Event.TheVariants.{Begin, End}
 use Rattle.history_check.specs.declared.recorded.Move.TheVariants as move

@@ -1,5 +1,5 @@
 -- What the lists of a replay show of its calls is what was told of them.
-use Rattle.std.proofs.Common.{◌≡◌, ◌≢◌, ◌∙◌, ℕ, suc, ◌+◌, ◌<◌, ◌==◌, Bool, true, false, if◌then◌else◌, Option, Some, None, List, [], ◌∷◌, ◌++◌, length, refl, sym, ap, subst, arith, eq-eqb}
+use Rattle.std.proofs.Common.{◌≡◌, ◌∙◌, ℕ, ◌+◌, ◌<◌, ◌==◌, Bool, true, false, if◌then◌else◌, Option, Some, None, List, [], ◌∷◌, ◌++◌, refl, sym, ap, subst, arith, eq-eqb}
 use Rattle.std.proofs.lemmas.Bool.{ne_eqb}
 use Rattle.machine_replay.specs.Vocabulary.{Reply, EffectKind, Event, Told, Begin, Step, Skipped, Ran}
 use Rattle.machine_replay.specs.Book.{Book, Run, opening}
@@ -91,7 +91,7 @@ shows cap parties n (e ∷ es) (t ∷ ts) b last (mid, happens, run) =
     let R : List (ℕ × ℕ × Reply ℕ) = entries_from reply_entry n (e ∷ es) (t ∷ ts) in
     let S : List ℕ = entries_from skipped_entry n (e ∷ es) (t ∷ ts) in
     let behind : history_from (n + 1) es (later_replies n R) (later_skipped n S) ≡ recorded es ts =
-        ap (λ l. history_from (n + 1) es l (later_skipped n S)) one.rest_replies ∙ (ap (λ l. history_from (n + 1) es (entries_from reply_entry (n + 1) es ts) l) one.rest_skipped ∙ others) in
+    ap (λ l. history_from (n + 1) es l (later_skipped n S)) one.rest_replies ∙ (ap (λ l. history_from (n + 1) es (entries_from reply_entry (n + 1) es ts) l) one.rest_skipped ∙ others) in
     ap (λ l. l ++ history_from (n + 1) es (later_replies n R) (later_skipped n S)) one.same ∙ ap (λ l. entry e t ++ l) behind
 
 pub replays_are_legal : {A : Type 0} → ReplaysAreLegal A

@@ -1,19 +1,18 @@
 -- Each event of a run is played before what is played after it. So a whole run is, from the empty open queue on.
-use Rattle.std.proofs.Common.{◌≡◌, ◌≢◌, ◌∙◌, ◌⊎◌, inl, inr, ℕ, ◌+◌, ◌<◌, ◌||◌, nat_lt, not, Bool, true, false, Option, Some, None, is_some, is_none, List, [], ◌∷◌, length, refl, sym, ap, subst, if◌then◌else◌}
+use Rattle.std.proofs.Common.{◌≡◌, ◌∙◌, inl, inr, ℕ, ◌+◌, ◌<◌, ◌||◌, nat_lt, not, Bool, true, false, Option, Some, None, is_some, is_none, List, [], ◌∷◌, refl, sym, ap, subst, if◌then◌else◌}
 use Rattle.std.proofs.lemmas.Bool.{ltb-true}
 use Rattle.std.specs.Prelude.{replicate}
 use Rattle.queue_steps.specs.State.{State, start}
 use Rattle.queue_steps.proofs.Keeping.{stays_closed}
 use Rattle.queue_laws.proofs.Common.Tests.{and_true, is_none_true}
 use Rattle.machine_replay.specs.Vocabulary.{Call, Reply, Effect, EffectKind, Event, Told, Begin, Step, Skipped, Ran}
-use Rattle.machine_replay.specs.Book.{Book, Open, IsBegun, Moves, GoesOn, Steps, Happens, Run, opening, begun, joined, watched, after_own, put, at_open}
+use Rattle.machine_replay.specs.Book.{Book, Open, IsBegun, Moves, GoesOn, Steps, Run, opening, begun, joined, watched, after_own, put}
 use Rattle.machine_replay.proofs.Engine.Moments.{begun_none}
 use Rattle.machine_replay.proofs.Traces.TraceSteps.{put-cases, at_open-cases}
-use Rattle.history_check.specs.declared.recorded.Way.{Way}
 use Rattle.history_check.specs.Legal.{Goes}
 use Rattle.law_recorded.specs.Recorded.{recorded, RunsAreLegal}
 use Rattle.law_recorded.proofs.Places.{all_same, list_of}
-use Rattle.law_recorded.proofs.Plays.{stage, IsSoFar, SoFar, Play}
+use Rattle.law_recorded.proofs.Plays.{stage, SoFar, Play}
 use Rattle.law_recorded.proofs.Effects.{far_of}
 use Rattle.law_recorded.proofs.Events.{joined_calls, watched_calls, with_flag, flag_here, flag_other, none_far, ends, before_begin, before_both, before_end, before_moves}
 

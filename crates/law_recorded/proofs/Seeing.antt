@@ -1,19 +1,17 @@
 -- What an order of the calls had before those moves that see the queue as a step left it.
-use Rattle.std.proofs.Common.{◌≡◌, ◌≢◌, ◌∙◌, ◌⊎◌, inl, inr, ℕ, suc, zero, ◌+◌, ◌<◌, ◌≤◌, Bool, true, false, Option, Some, None, List, [], ◌∷◌, ◌++◌, length, refl, sym, ap, subst, arith}
-use Rattle.std.proofs.lemmas.Bool.{cases_eq, cases_lt}
-use Rattle.std.proofs.lemmas.Option.{slice_get_cases, slice_get_within}
+use Rattle.std.proofs.Common.{◌≡◌, ◌∙◌, ◌⊎◌, inl, inr, ℕ, suc, zero, ◌<◌, ◌≤◌, Bool, Option, Some, None, List, [], ◌∷◌, refl, sym, ap, subst, arith}
+use Rattle.std.proofs.lemmas.Bool.{cases_eq}
+use Rattle.std.proofs.lemmas.Option.{slice_get_within}
 use Rattle.std.specs.Prelude.{slice_get, slice_set, Any}
 use Rattle.queue_steps.specs.State.{State}
-use Rattle.queue_steps.specs.Effect.{Fits, made}
 use Rattle.queue_steps.specs.Replies.{Allows, Tells}
-use Rattle.machine_replay.specs.Vocabulary.{Call, Reply, Effect, EffectKind}
-use Rattle.machine_replay.specs.Book.{Open, MayEnd, MayMake, IsBegun, kind_of}
+use Rattle.machine_replay.specs.Vocabulary.{Call, Reply, Effect}
+use Rattle.machine_replay.specs.Book.{Open}
 use Rattle.history_check.specs.declared.recorded.Event.{Event}
-use Rattle.history_check.specs.declared.recorded.Move.{Move}
 use Rattle.history_check.specs.declared.recorded.Move.TheVariants as move
 use Rattle.history_check.specs.declared.recorded.Way.{Way}
 use Rattle.history_check.specs.declared.recorded.Way.TheVariants.{Waiting, Halfway, Answered}
-use Rattle.history_check.specs.Legal.{Stage, Goes, Makes, moved}
+use Rattle.history_check.specs.Legal.{Makes}
 use Rattle.law_recorded.proofs.Places.{set_here, set_back, any_cases}
 use Rattle.law_recorded.proofs.Plays.{stage, IsWay, IsSoFar, SoFar, Play, earlier, known, at_party}
 

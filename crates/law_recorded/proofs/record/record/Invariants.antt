@@ -1,4 +1,4 @@
-use Rattle.std.proofs.Common.{◌≡◌, ◌++◌, ◌+◌, ℕ, length}
+use Rattle.std.proofs.Common.{◌≡◌, ◌++◌, ◌+◌, length}
 use Rattle.law_recorded.specs.Recorded.{history_from, history_of}
 use Rattle.law_recorded.proofs.record.record.Given as goal
 
