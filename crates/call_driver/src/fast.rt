@@ -43,25 +43,14 @@ pub struct Rest<W> {
 impl<M: Site, G: Gate, W> Row<M, G> for Rest<W> {
     #[inline(always)]
     fn run(
-        site: &M::Shared,
-        gate: &G,
-        kind: Kind,
-        call: CallKind,
-        seat: &mut M::Seat,
-        progress: &mut Progress<M::Block>,
-        carried: &mut Option<M::Item>,
-    ) -> ControlFlow<ReplyKind>
-        requires kind { M.Steps.has_kind kind }
-        requires on_way { (n : ℕ) × IsUnderWay M.Site n kind call site.now progress.old carried.old seat.old }
-        ensures { StaysOnWay M.Site kind call site.now progress.old carried.old seat.old progress.new carried.new seat.new result }
-    {
-        let _ = site;
-        let _ = gate;
-        let _ = kind;
-        let _ = call;
-        let _ = &*seat;
-        let _ = &*progress;
-        let _ = &*carried;
+        _site: &M::Shared,
+        _gate: &G,
+        _kind: Kind,
+        _call: CallKind,
+        _seat: &mut M::Seat,
+        _progress: &mut Progress<M::Block>,
+        _carried: &mut Option<M::Item>,
+    ) -> ControlFlow<ReplyKind> {
         ControlFlow::Continue(())
     }
 }

@@ -1,5 +1,5 @@
 -- What a step of a seat does to the web, while the invariant is open for that step; and the web's first and last moments. Assumes `Logic`.
-use Rattle.mem_blocks.proofs.Walks.{puts_back, id⊢, ◌≡◌, ℕ, ◌+◌, ◌*◌, ◌<◌, List, [], ◌∷◌, ◌++◌, set, sym, refl, subst, arith, w64, None, asks, always, cell, alike, Bool, cond, get_elem?, Ura, Ty, ty_int, vint, vnull, ptr_same, has_ty, WT, full_share, Coded, SProp, ent, sep, wand, HoldsWord}
+use Rattle.mem_blocks.proofs.Walks.{puts_back, id⊢, ◌≡◌, ℕ, ◌+◌, ◌*◌, ◌<◌, List, [], ◌∷◌, ◌++◌, set, sym, refl, subst, arith, w64, None, asks, always, cell, alike, Bool, cond, get_elem?, Ura, Ty, ty_int, vint, vnull, ptr_same, has_ty, WT, full_share, Coded, SProp, ent, sep, wand}
 use Rattle.mem_blocks.proofs.Walks.{ex, all, guard, upd, emp, via, apply∗, all_e, upd_i, Lft, Share, Fml, ftrue, fsep, fex, fbor, finv, flft, Logic, sem, ‵, raw, ◌⊛◌, some, given, later, ◌$◌, ◌∵◌, !, qed, by, move, keep, drop, use0, use1, use2, use3, split, split3, fsplit, fsplit3, END_WORDS}
 use Rattle.mem_blocks.proofs.Walks.{fjoin, fjoin3, fpick, fpack, pick, learn, check, show, frame, each, assume, suffices, await, rewrite, settle, done, RattleType, Ptr, block_ptr, null_ptr, ptr_val, block_of, count_of, Testable, nothing, word, Block, Sitter, Act, sitter, block}
 use Rattle.mem_blocks.proofs.Walks.{Lives, word_of, with_word, with_next, blocks_after, sitter_after, if_unset, StaysIn, Allows, AllowsLink, CanFork, CanMerge, LastBlocks, LastBlocksBy, WebId, age, hand_owns, chain_owns, spare_owns, seat_owns, inside_owns, web_owns, SLOTS}

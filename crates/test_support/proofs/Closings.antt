@@ -5,7 +5,7 @@ use mathlib.Core.Option.{some, some-injective, some-ne-none}
 use lib.{ListN.get_elem?, Seq.set-get_or}
 use denote.RawPtr.{Ptr}
 use Rattle.atomic_table.proofs.Lists.{at_set, at_snoc}
-use Rattle.mem_blocks.specs.{Web.Block, Web.State, Web.Sitter, Web.block, Web.Lives, Web.word_of, Web.with_word, Web.KeepsRule, Web.Allows, Web.CanFork, Web.CanMerge, declared.sizes.TheConstants.SLOTS}
+use Rattle.mem_blocks.specs.{Web.Block, Web.State, Web.Sitter, Web.block, Web.Lives, Web.word_of, Web.with_word, Web.KeepsRule, Web.Allows, Web.CanFork, Web.CanMerge}
 use Rattle.test_support.specs.ClosingRule as told
 use Rattle.test_support.specs.{ClosingRule.mark, ClosingRule.Begins, ClosingRule.view, ClosingRule.IsViewOf, ClosingRule.ClosingHolds, declared.closing_rule.View.View, declared.closing_rule.QueueEnds.QueueEnds}
 use Rattle.mem_blocks.specs.declared.sizes.TheConstants.{END_WORDS}
