@@ -222,8 +222,7 @@ impl<T, K: TableSteps<T>, A: Allocator> Site for SharedTable<T, K, A> {
         _queue: &SharedTable<T, K, A>,
         _seat: &mut Seat<Option<T>, CallState<T>>,
         _block: usize,
-    ) {
-    }
+    ) {}
 }
 
 impl<T, K: TableSteps<T>, A: Allocator> SharedSite for SharedTable<T, K, A> {
