@@ -218,11 +218,13 @@ impl<T, K: TableSteps<T>, A: Allocator> Site for SharedTable<T, K, A> {
     }
 
     /// No reply has a block, so nothing is done.
-    fn give_up(
-        _queue: &SharedTable<T, K, A>,
-        _seat: &mut Seat<Option<T>, CallState<T>>,
-        _block: usize,
-    ) {}
+    fn give_up(queue: &SharedTable<T, K, A>, seat: &mut Seat<Option<T>, CallState<T>>, block: usize)
+        ensures { NoGift queue.now.table.shared.table_id (seat.old.table_id, seat.old.me) block (seat.new.table_id, seat.new.me) }
+    {
+        let _ = queue;
+        let _ = seat;
+        let _ = block;
+    }
 }
 
 impl<T, K: TableSteps<T>, A: Allocator> SharedSite for SharedTable<T, K, A> {
