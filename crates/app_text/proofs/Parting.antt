@@ -72,7 +72,7 @@ parts_joined (b ∷ bs) before after h = by_byte (b == 32) refl h (parts_joined 
     by_byte false e h joined = let there : with_first b (parted bs) ≡ Some (before, after) = rw e at h in by_rest (parted bs) refl there joined
 
 -- digits and a space are parted there
-digits_parted : (ds after : List ℕ) → AllDigits 10 ds → parted (ds ++ 32 ∷ after) ≡ Some (ds, after)
+pub digits_parted : (ds after : List ℕ) → AllDigits 10 ds → parted (ds ++ 32 ∷ after) ≡ Some (ds, after)
 digits_parted [] after h = refl
 digits_parted (d ∷ ds) after h =
     let digit = digit_at (d ∷ ds) 0 h (omega arith) in

@@ -62,8 +62,8 @@ fn parse_action(text: &[u8]) -> Option<Action>
     }
 }
 
-// What stands before and behind the first space.
-fn part_at_space(line: &[u8]) -> Option<(&[u8], &[u8])>
+/// What stands before and behind the first space.
+pub fn part_at_space(line: &[u8]) -> Option<(&[u8], &[u8])>
     ensures { MatchOption result (parted line.now ≡ None) (λ p. parted line.now ≡ Some (p.0.now, p.1.now)) }
 {
     let end = space(line)?;

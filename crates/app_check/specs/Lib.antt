@@ -1,0 +1,4 @@
+pub mod Replies
+pub mod Histories
+pub mod Answers
+pub mod Commands
