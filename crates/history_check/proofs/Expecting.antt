@@ -1,5 +1,5 @@
 -- What is noted of the replies of the parties' next ends, event by event.
-use Rattle.std.proofs.Common.{◌≡◌, ◌∙◌, ◌<◌, ◌≤◌, inl, inr, zero, suc, [], ◌∷◌, ℕ, Option, Some, None, List, ◌++◌, length, arith, sym, subst, ap}
+use Rattle.std.proofs.Common.{◌≡◌, ◌∙◌, ◌<◌, ◌≤◌, inl, inr, zero, suc, [], ◌∷◌, ℕ, Option, Some, List, ◌++◌, length, arith, sym, subst, ap}
 use Rattle.std.proofs.lemmas.Bool.{cases_eq, cases_lt}
 use Rattle.std.specs.Prelude.{slice_get, slice_set}
 use Rattle.std.proofs.lemmas.List.{length_push}

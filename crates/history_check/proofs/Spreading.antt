@@ -1,5 +1,5 @@
 -- What a level has of the moves of each party's call, and who survives an event.
-use Rattle.std.proofs.Common.{◌≡◌, ◌∙◌, ◌<◌, ◌≤◌, ◌⊎◌, inl, inr, refl, [], ◌∷◌, ℕ, Bool, true, false, Option, Some, None, Ok, Err, List, ◌++◌, length, get_or, arith, sym, subst, ap, append_assoc, append-nil}
+use Rattle.std.proofs.Common.{◌≡◌, ◌∙◌, ◌<◌, ◌≤◌, ◌⊎◌, inl, inr, refl, [], ◌∷◌, ℕ, Bool, true, Option, Some, None, List, ◌++◌, length, get_or, arith, sym, subst, ap, append_assoc, append-nil}
 use Rattle.std.specs.Prelude.{Contains, slice_get}
 use Rattle.std.proofs.lemmas.Option.{slice_get_cases, slice_get_read, slice_get_within}
 use Rattle.std.proofs.lemmas.List.Elements.{Contains-append_left}
@@ -46,21 +46,21 @@ module _ (level : List Stage) (s : Stage) (p : ℕ) (c : Call ℕ) (b : Bool) (a
 
   -- it can get one reply, and what that leads to is there
   pub waits :
-    (o got : Option (Reply ℕ))
-    → ((r : Reply ℕ) → o ≡ Some r → got ≡ Some r)
-    → ((r : Reply ℕ) → IsExpected o r → Acts c r s.queue → got ≡ Some r)
-    → ((r : Reply ℕ) → got ≡ Some r → Has level s (move.See p r) × Has level s (move.Act p r) × Has level s (move.Part p r))
-    → HasAll level s p o
+      (o got : Option (Reply ℕ))
+      → ((r : Reply ℕ) → o ≡ Some r → got ≡ Some r)
+      → ((r : Reply ℕ) → IsExpected o r → Acts c r s.queue → got ≡ Some r)
+      → ((r : Reply ℕ) → got ≡ Some r → Has level s (move.See p r) × Has level s (move.Act p r) × Has level s (move.Part p r))
+      → HasAll level s p o
   waits o got sees acts has = record {
     see = λ r is. (has r (sees r is)).0;
     act = λ r is t m.
-      let there = m.3 in
-      let same : m.0 ≡ c = cc in
-      (has r (acts r is (inl (m.2, subst (λ (d : Call ℕ). Tells d r (m.2 ∷ [])) same m.4, m.5)))).1 t m;
+        let there = m.3 in
+        let same : m.0 ≡ c = cc in
+        (has r (acts r is (inl (m.2, subst (λ (d : Call ℕ). Tells d r (m.2 ∷ [])) same m.4, m.5)))).1 t m;
     part = λ r is t m.
-      let there = m.3 in
-      let same : m.0 ≡ c = cc in
-      (has r (acts r is (inr (m.1, m.2, subst (λ (d : Call ℕ). Tells d r (effect.Front m.1 m.2 ∷ effect.Arrive ∷ [])) same m.4, m.5)))).2 t m;
+        let there = m.3 in
+        let same : m.0 ≡ c = cc in
+        (has r (acts r is (inr (m.1, m.2, subst (λ (d : Call ℕ). Tells d r (effect.Front m.1 m.2 ∷ effect.Arrive ∷ [])) same m.4, m.5)))).2 t m;
     arrive = not_half;
   }
 

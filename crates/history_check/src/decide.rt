@@ -71,7 +71,7 @@ struct Bounds {
 }
 
 // The shortest beginning that is not legal, which is looked for from a guess on.
-#[tactic(auto, using(crate::proofs::Deciding::first_bounds, crate::proofs::Deciding::last_bounds))]
+#[tactic(auto, using(crate::proofs::Deciding::first_bounds))]
 fn shortest<A: Allocator + Copy>(
     alloc: A,
     cap: Option<usize>,

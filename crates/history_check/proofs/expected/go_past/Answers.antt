@@ -1,6 +1,6 @@
-use Rattle.std.proofs.Common.{◌≡◌, ◌≤◌, ◌∷◌, ℕ, List, Option, length, slice_set, sym, subst}
+use Rattle.std.proofs.Common.{◌≤◌, ◌∷◌, ℕ, List, Option, length, slice_set, sym, subst}
 use Rattle.queue_steps.specs.declared.model.Reply.{Reply}
-use Rattle.history_check.specs.Levels.{next_reply, Expects}
+use Rattle.history_check.specs.Levels.{Expects}
 use Rattle.history_check.specs.declared.recorded.Event.{Event}
 use Rattle.history_check.specs.declared.recorded.Event.TheVariants.{End}
 use Rattle.history_check.proofs.Expecting.{past_end, past_beyond}

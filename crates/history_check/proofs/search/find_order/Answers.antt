@@ -1,9 +1,8 @@
-use Rattle.std.proofs.Common.{◌≡◌, ◌∷◌, List, Option, ℕ, subst}
+use Rattle.std.proofs.Common.{List, subst}
 use Rattle.std.specs.Prelude.{Contains}
-use Rattle.queue_steps.specs.declared.model.Reply.{Reply}
 use Rattle.history_check.specs.declared.recorded.Event.{Event}
-use Rattle.history_check.specs.Legal.{Stage, opening, IsLegal}
-use Rattle.history_check.specs.Levels.{Expects, Survives, Passes}
+use Rattle.history_check.specs.Legal.{opening}
+use Rattle.history_check.specs.Levels.{Expects, Passes}
 use Rattle.history_check.proofs.Deciding.{opens, gets_past, nobody}
 use Rattle.history_check.proofs.search.find_order.Goals as goal
 
@@ -15,8 +14,8 @@ loop-event-init g c =
       survives = opens c.args.cap c.args.parties c.args.events.now c.add.new.self has;
     }
 
-pub go_past-requires-clause-noted : goal.go_past-requires-clause-noted
-go_past-requires-clause-noted g c = subst (λ (l : List Event). Expects c.loop-event.replies l) c.in-Some.ensures.0 c.loop-event.invariant.expects
+pub go_past-requires : goal.go_past-requires
+go_past-requires g c = record { noted = subst (λ (l : List Event). Expects c.loop-event.replies l) c.in-Some.ensures.0 c.loop-event.invariant.expects }
 
 pub loop-event-preserved : goal.loop-event-preserved
 loop-event-preserved g c =

@@ -1,5 +1,4 @@
-use Rattle.std.proofs.Common.{◌≡◌, ◌∙◌, List}
-use Rattle.history_check.specs.Legal.{Stage as SpecStage, recorded}
+use Rattle.std.proofs.Common.{◌∙◌}
 use Rattle.history_check.proofs.Spreading.{records, spreads}
 use Rattle.history_check.proofs.level.Level.handle.Goals as goal
 

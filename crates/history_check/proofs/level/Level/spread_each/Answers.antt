@@ -1,5 +1,5 @@
-use Rattle.std.proofs.Common.{◌≡◌, ◌≤◌, ◌<◌, ℕ, Option, Some, List, length, slice_get, arith, below_more, refl, subst}
-use Rattle.std.proofs.lemmas.Option.{slice_get_read, slice_get_within}
+use Rattle.std.proofs.Common.{◌≡◌, ◌≤◌, ◌<◌, ℕ, Option, Some, List, length, slice_get, arith, below_more, subst}
+use Rattle.std.proofs.lemmas.Option.{get_or_from_slice_get, slice_get_within}
 use Rattle.std.proofs.lemmas.Bool.Decides.{nat_tests}
 use Rattle.queue_steps.specs.declared.model.Reply.{Reply}
 use Rattle.history_check.specs.Legal.{Stage as SpecStage}
@@ -14,13 +14,9 @@ loop-party-preserved g c =
     let one : List SpecStage = c.loop-party.self in
     let two : List SpecStage = c.spread.new.self in
     let more : Extends one two = c.spread.ensures.keeps in
-    let x : Option (Reply ℕ) = c.index-replies-party.result in
-    let here : HasAll two s c.loop-party.party x = c.in_ok-spread.ensures.has in
-    let inside : c.loop-party.party < length replies = let far = c.loop-party-test.true in omega arith in
-    let is : slice_get replies c.loop-party.party ≡ Some x = slice_get_read replies (length replies) c.loop-party.party x refl inside c.index-replies-party.is in
     let P : ℕ → Type 0 = λ p. (o : Option (Reply ℕ)) → slice_get replies p ≡ Some o → HasAll two s p o in
     let before : (p : ℕ) → p < c.loop-party.party → P p = λ p h o at. all_more one two s p o more (c.loop-party.invariant.1 p h o at) in
-    let last : P c.loop-party.party = λ o at. let same : x ≡ o = cc in subst (λ (y : Option (Reply ℕ)). HasAll two s c.loop-party.party y) same here in
+    let last : P c.loop-party.party = λ o at. subst (λ (y : Option (Reply ℕ)). HasAll two s c.loop-party.party y) (get_or_from_slice_get replies c.loop-party.party o _ at) c.in_ok-spread.ensures.has in
     (extends_twice c.args.self.now one two c.loop-party.invariant.0 more, below_more P c.loop-party.party before last)
 
 pub returns-clause-has : goal.returns-clause-has

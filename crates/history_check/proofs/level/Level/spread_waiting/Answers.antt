@@ -1,4 +1,4 @@
-use Rattle.std.proofs.Common.{◌≡◌, ℕ, List, Option, Some, subst}
+use Rattle.std.proofs.Common.{◌≡◌, ℕ, List, subst}
 use Rattle.queue_steps.specs.declared.model.Reply.{Reply}
 use Rattle.history_check.specs.declared.recorded.Move.TheVariants as move
 use Rattle.history_check.specs.Legal.{Stage as SpecStage}
