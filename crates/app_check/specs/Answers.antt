@@ -1,19 +1,18 @@
 -- What is told of a history, and of a stop, and the status that each ends with.
-use Rattle.std.specs.Prelude.{ℕ, Option, List, ◌∷◌, ◌++◌, codes}
+use Rattle.std.specs.Prelude.{◌≡◌, ℕ, Option, List, [], ◌∷◌, ◌++◌, codes}
 use Rattle.std.specs.Fmt.{decimal}
 use Rattle.app_text.specs.{Faults.fault_text, Faults.fault_status, declared.faults.Fault.Fault as fault}
-use Rattle.history_check.specs.{Legal.IsLegal, Legal.IsShortest, declared.recorded.Event.Event}
-use Rattle.app_check.specs.{declared.answers.Answer.Answer, declared.answers.Answer.Answer as answer, declared.faults.Stop.Stop, declared.faults.Stop.Stop as stop}
+use Rattle.history_check.specs.{Legal.IsOrder, Legal.IsShortest, declared.recorded.Event.Event, declared.recorded.Move.Move}
+use Rattle.app_check.specs.{Orders.order_text, declared.answers.Answer.Answer, declared.answers.Answer.Answer as answer, declared.faults.Stop.Stop, declared.faults.Stop.Stop as stop}
 
--- the history is legal; or so many of its events are the shortest beginning that is not
-abbrev pub IsAnswer : Option ℕ → ℕ → List Event → Answer → Type 0
-IsAnswer cap parties events answer.Legal = IsLegal cap parties events
-IsAnswer cap parties events (answer.NotLegal n) = IsShortest cap parties events n
+-- of a history of which n events are the shortest beginning that is not legal; the line of an event has its number
+abbrev pub not_legal_text : ℕ → List ℕ
+not_legal_text n = codes "not legal" ++ 10 ∷ codes "line " ++ decimal n ++ codes ": nothing explains it" ++ 10 ∷ []
 
--- the line of an event has its number
-abbrev pub answer_text : Answer → List ℕ
-answer_text answer.Legal = codes "legal"
-answer_text (answer.NotLegal n) = codes "not legal" ++ 10 ∷ codes "line " ++ decimal n ++ codes ": nothing explains it"
+-- the history is legal, and the text has an order that shows it; or so many of its events are the shortest beginning that is not
+abbrev pub IsAnswer : Option ℕ → ℕ → List Event → Answer → List ℕ → Type 0
+IsAnswer cap parties events answer.Legal text = (moves : List Move) × IsOrder cap parties events moves × (text ≡ order_text moves)
+IsAnswer cap parties events (answer.NotLegal n) text = IsShortest cap parties events n × (text ≡ not_legal_text n)
 
 abbrev pub answer_status : Answer → ℕ
 answer_status answer.Legal = 0

@@ -1,16 +1,16 @@
 //! The whole checker as a function of its arguments, its input and its two outputs.
-ghost use Rattle.std.specs.Prelude.{◌≡◌, IfOk, MatchResult, map, string_bytes};
+ghost use Rattle.std.specs.Prelude.{◌≡◌, MatchResult, map, string_bytes};
 ghost use Rattle.app_text.specs.KindNames.{capacity_of, IsKindName};
 ghost use Rattle.app_text.specs.Reading.{IsReading};
 ghost use Rattle.app_check.specs.Answers.{stop_status};
-ghost use Rattle.app_check.specs.Commands.{answer_line, IsAnswerTo, IsChecked, IsCheckerEnd, IsStopOf, IsUntold, kind_words};
+ghost use Rattle.app_check.specs.Commands.{IsAnswerTo, IsChecked, IsCheckerEnd, IsStopOf, IsUntold, kind_words};
 
 use crate::answers::{Answer, answer_of};
 use crate::faults::Stop;
 use crate::reading::read_history;
 use app_text::args::{KindName, parse_kind};
 use app_text::streams::{read_input, write_output};
-use std::alloc::{AllocError, Allocator};
+use std::alloc::Allocator;
 use std::io::{Read, Write};
 
 /// Does what the arguments after the program's name say, and answers the status to end with.
@@ -54,8 +54,7 @@ fn check<A: Allocator, I: Read, O: Write>(
         return Err(Stop::Usage);
     };
     let bytes = read_input(alloc, input)?;
-    let answer = told(alloc, kind, &bytes)?;
-    let text = line_of(alloc, answer)?;
+    let (answer, text) = told(alloc, kind, &bytes)?;
     write_output(output, text.as_bytes())?;
     Ok(answer)
 }
@@ -70,16 +69,13 @@ fn kind_of(args: &[String]) -> Option<KindName>
     }
 }
 
-// The line that tells the answer.
-fn line_of<'a, A: Allocator>(alloc: &'a A, answer: Answer) -> Result<String<&'a A>, AllocError>
-    ensures { IfOk result (λ text. string_bytes text ≡ answer_line answer) }
-{
-    format!(in alloc; "{answer}\n")
-}
-
 // What is told of the history that the text is, on a queue of this kind.
-fn told<A: Allocator>(alloc: &A, kind: KindName, text: &[u8]) -> Result<Answer, Stop>
-    ensures { MatchResult result (IsAnswerTo (capacity_of kind) text.now) (IsUntold text.now) }
+fn told<'a, A: Allocator>(
+    alloc: &'a A,
+    kind: KindName,
+    text: &[u8],
+) -> Result<(Answer, String<&'a A>), Stop>
+    ensures { MatchResult result (λ p. IsAnswerTo (capacity_of kind) text.now p.0 (string_bytes p.1)) (IsUntold text.now) }
 {
     let history = read_history(alloc, text)?;
     answer_of(alloc, capacity_of(kind), history.parties, &history.events)
