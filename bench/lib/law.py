@@ -79,12 +79,65 @@ def longest(cap, lines):
     return best
 
 
+class NoOrder(Exception):
+    """The order that was printed is none."""
+
+
+class Order:
+    """Takes the lines of a history, and the moves of calls between them."""
+
+    def __init__(self, cap):
+        # of each party's call: its text, whether it saw the queue open, whether it is half way, and its reply
+        self.cap, self.queue, self.calls = cap, EMPTY, {}
+
+    def line(self, line):
+        party, _, text = line.partition(" ")
+        if not text.startswith("= "):
+            if party in self.calls:
+                raise NoOrder(f"{line} within a call")
+            self.calls[party] = (text, not self.queue[2], False, None)
+        elif self.calls.pop(party, (None, None, True, None))[2:] != (False, text[2:]):
+            raise NoOrder(f"{line} is not what its call is told")
+
+    def move(self, party, what):
+        if party not in self.calls:
+            raise NoOrder(f"{party} {what}, in no call")
+        call, saw_open, half, reply = self.calls[party]
+        if half and what == "arrives":
+            items, coming, closed, accepted = self.queue
+            self.queue = (items + (coming,), None, closed, accepted + 1)
+            self.calls[party] = (call, saw_open, False, reply)
+            return
+        for then, goes_on, told_it in moves(self.cap, self.queue, call, saw_open) if reply is None else ():
+            if what == ("takes" if goes_on else "sees" if then == self.queue else "acts"):
+                self.queue, self.calls[party] = then, (call, saw_open, goes_on, told_it)
+                return
+        raise NoOrder(f"{party} {what}, which its call cannot")
+
+
+def check_order(cap, lines, printed):
+    """Each printed line has how many lines of the history come before, a party, and what its call does there."""
+    order, taken = Order(cap), 0
+    for row in printed:
+        before, party, what = row.split(" ")
+        for line in lines[taken : int(before)]:
+            order.line(line)
+        taken = int(before)
+        order.move(party, what)
+    for line in lines[taken:]:
+        order.line(line)
+
+
 def told(checker, kind, lines):
-    """How many of the lines are explained, by the program."""
+    """How many of the lines are explained, by the program. The order that it prints of a legal history has to be one."""
     run = subprocess.run([checker, kind], input="".join(f"{line}\n" for line in lines), capture_output=True, text=True)
-    if run.returncode == 0 and run.stdout == "legal\n":
+    first, *rest = run.stdout.splitlines() or [""]
+    if run.returncode == 0 and first == "legal":
+        try:
+            check_order(capacity_of(kind), lines, rest)
+        except NoOrder as why:
+            sys.exit(f"{kind}: {why}\n{run.stdout}\nof\n" + "\n".join(lines))
         return len(lines)
-    first, _, second = run.stdout.partition("\n")
-    if run.returncode == 1 and first == "not legal" and second.startswith("line ") and second.endswith(": nothing explains it\n"):
-        return int(second.split(" ")[1].rstrip(":")) - 1
+    if run.returncode == 1 and first == "not legal" and len(rest) == 1 and rest[0].startswith("line ") and rest[0].endswith(": nothing explains it"):
+        return int(rest[0].split(" ")[1].rstrip(":")) - 1
     sys.exit(f"{checker} {kind}: status {run.returncode}, {run.stdout!r}, {run.stderr!r}, of\n" + "\n".join(lines))
