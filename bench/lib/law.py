@@ -128,9 +128,12 @@ def check_order(cap, lines, printed):
         order.line(line)
 
 
-def told(checker, kind, lines):
-    """How many of the lines are explained, by the program. The order that it prints of a legal history has to be one."""
-    run = subprocess.run([checker, kind], input="".join(f"{line}\n" for line in lines), capture_output=True, text=True)
+def told(checker, kind, lines, seconds=None):
+    """How many of the lines are explained, by the program. The order that it prints of a legal history has to be one. None where it has no answer in so many seconds."""
+    try:
+        run = subprocess.run([checker, kind], input="".join(f"{line}\n" for line in lines), capture_output=True, text=True, timeout=seconds)
+    except subprocess.TimeoutExpired:
+        return None
     first, *rest = run.stdout.splitlines() or [""]
     if run.returncode == 0 and first == "legal":
         try:
