@@ -1,5 +1,5 @@
 -- What a level has of the moves of each party's call, and who survives an event.
-use Rattle.std.proofs.Common.{◌≡◌, ◌∙◌, ◌<◌, ◌≤◌, ◌⊎◌, inl, inr, refl, [], ◌∷◌, ℕ, Bool, true, Option, Some, None, List, ◌++◌, length, get_or, arith, sym, subst, ap, append_assoc, append-nil}
+use Rattle.std.proofs.Common.{◌≡◌, ◌∙◌, ◌<◌, ◌≤◌, ◌⊎◌, inl, inr, refl, [], ◌∷◌, ℕ, Bool, true, Option, Some, None, List, ◌++◌, length, get_or, arith, sym, subst, ap, append_assoc}
 use Rattle.std.specs.Prelude.{Contains, slice_get}
 use Rattle.std.proofs.lemmas.Option.{slice_get_cases, slice_get_read, slice_get_within}
 use Rattle.std.proofs.lemmas.List.Elements.{Contains-append_left}
@@ -171,9 +171,6 @@ records level next e replies s t may is has = inl (may, subst (λ (u : Stage). C
 -- the event may not be recorded there, and the calls were led on
 pub spreads : (level next : List Stage) (e : Event) (replies : List (Option (Reply ℕ))) (s t : Stage) → (MayRecord s e → ⊥) → t ≡ s → HasEach level t replies → Handles level next e replies s
 spreads level next e replies s t never is each = inr (never, subst (λ (u : Stage). HasEach level u replies) is each)
-
-pub extends_none : (xs : List Stage) → Extends xs xs
-extends_none xs = ([], sym (append-nil xs))
 
 -- a level whose every stage is handled passes the event
 pub passes : (old level next : List Stage) (e : Event) (replies : List (Option (Reply ℕ))) (n : ℕ) → Extends old level → length level ≤ n → ((k : ℕ) → k < n → (s : Stage) → slice_get level k ≡ Some s → Handles level next e replies s) → Passes old e replies next

@@ -53,6 +53,27 @@ fn copy_at<A: Allocator + Copy>(
     }
 }
 
+// Sets the last of the moves that led to each stage to its new place.
+fn renumber<A: Allocator>(stages: &mut [Stage<A>], places: &[usize])
+    ensures { stages.new ≡ stages.old }
+{
+    for index in 0..stages.len() {
+        renumber_one(&mut stages[index], places);
+    }
+}
+
+// The same of one stage.
+fn renumber_one<A: Allocator>(stage: &mut Stage<A>, places: &[usize])
+    ensures { stage.new ≡ stage.old }
+{
+    let Some(last) = stage.last() else {
+        return;
+    };
+    if let Some(place) = places.get(last).copied() {
+        stage.set_last(place);
+    }
+}
+
 impl<A: Allocator + Copy> Level<A> {
     /// None so far.
     pub fn new(alloc: A) -> Level<A>
@@ -85,6 +106,26 @@ impl<A: Allocator + Copy> Level<A> {
             Some(stage) => stage.last(),
             None => None,
         }
+    }
+
+    /// Forgets the moves that led to no stage here, if it is time.
+    ///
+    /// # Errors
+    ///
+    /// Where there is no memory.
+    pub fn shorten(&mut self, alloc: A, trail: &mut Trail<A>) -> Result<(), AllocError>
+        ensures { self.new ≡ self.old }
+    {
+        if !trail.is_long() {
+            return Ok(());
+        }
+        let mut marks = vec![in alloc; false; trail.len()]?;
+        for stage in self.stages.iter() {
+            trail.mark(&mut marks, stage.last());
+        }
+        let places = trail.keep(alloc, &marks)?;
+        renumber(&mut self.stages, &places);
+        Ok(())
     }
 
     // Whether the stage is there.

@@ -50,6 +50,7 @@ pub fn find_order<A: Allocator + Copy>(
         }
         go_past(event, others, replies);
         level = next;
+        level.shorten(alloc, &mut trail)?;
         rest = others;
     }
     Ok(Found::Order(trail.moves_to(alloc, level.first_last())?))

@@ -14,7 +14,8 @@ use Rattle.history_check.specs.declared.recorded.Move.TheVariants as move
 use Rattle.history_check.specs.declared.recorded.Way.{Way}
 use Rattle.history_check.specs.declared.recorded.Way.TheVariants.{Waiting, Halfway, Answered}
 use Rattle.history_check.specs.Legal.{Goes}
-use Rattle.law_recorded.proofs.Places.{set_here, set_back}
+use Rattle.history_check.proofs.Moves.{set_here}
+use Rattle.law_recorded.proofs.Places.{set_back}
 use Rattle.law_recorded.proofs.Plays.{stage, IsWay, IsSoFar, SoFar, Play, earlier, at_party}
 
 -- what a reply stands for is nothing, one effect, or a front and its arrive

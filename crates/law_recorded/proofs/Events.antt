@@ -11,7 +11,8 @@ use Rattle.history_check.specs.declared.recorded.Event.TheVariants.{Begin, End}
 use Rattle.history_check.specs.declared.recorded.Move.TheVariants as move
 use Rattle.history_check.specs.declared.recorded.Way.{Way}
 use Rattle.history_check.specs.declared.recorded.Way.TheVariants.{Waiting, Halfway, Answered}
-use Rattle.law_recorded.proofs.Places.{set_here, set_back, set_twice, any_none}
+use Rattle.history_check.proofs.Moves.{set_here}
+use Rattle.law_recorded.proofs.Places.{set_back, set_twice, any_none}
 use Rattle.law_recorded.proofs.Plays.{stage, IsSoFar, SoFar, Play, earlier, known, at_party}
 use Rattle.law_recorded.proofs.Seeing.{Sees, SeesIf, unseen}
 use Rattle.law_recorded.proofs.Effects.{put_here, put_other, put_same, before_effect}

@@ -1,18 +1,6 @@
 -- One place of a list, written and written back.
-use Rattle.std.proofs.Common.{◌≡◌, ◌≢◌, ◌⊎◌, inl, inr, ℕ, suc, zero, Some, List, [], ◌∷◌, length, refl, sym, ap, subst, arith}
+use Rattle.std.proofs.Common.{◌≡◌, ◌⊎◌, inl, inr, ℕ, suc, zero, Some, List, [], ◌∷◌, length, refl, sym, ap, subst, arith}
 use Rattle.std.specs.Prelude.{slice_get, slice_set, replicate, Any}
-
-pub set_here : {X : Type 0} (xs : List X) (k : ℕ) (x y : X) → slice_get xs k ≡ Some x → slice_get (slice_set xs k y) k ≡ Some y
-set_here [] k x y at = absurd (cc)
-set_here (z ∷ xs) zero x y at = refl
-set_here (z ∷ xs) (suc k) x y at = set_here xs k x y at
-
-pub set_other : {X : Type 0} (xs : List X) (k i : ℕ) (y : X) → i ≢ k → slice_get (slice_set xs k y) i ≡ slice_get xs i
-set_other [] k i y ne = refl
-set_other (x ∷ xs) zero zero y ne = absurd (ne refl)
-set_other (x ∷ xs) zero (suc i) y ne = refl
-set_other (x ∷ xs) (suc k) zero y ne = refl
-set_other (x ∷ xs) (suc k) (suc i) y ne = set_other xs k i y (λ e. ne (ap suc e))
 
 -- what stood there, written back
 pub set_back : {X : Type 0} (xs : List X) (k : ℕ) (x y : X) → slice_get xs k ≡ Some x → slice_set (slice_set xs k y) k x ≡ xs

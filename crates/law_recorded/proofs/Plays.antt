@@ -13,7 +13,7 @@ use Rattle.history_check.specs.declared.recorded.Move.{Move}
 use Rattle.history_check.specs.declared.recorded.Way.{Way}
 use Rattle.history_check.specs.declared.recorded.Way.TheVariants.{Waiting, Halfway, Answered}
 use Rattle.history_check.specs.Legal.{Stage, Goes}
-use Rattle.law_recorded.proofs.Places.{set_here, set_other}
+use Rattle.history_check.proofs.Moves.{set_here, set_other}
 
 abbrev pub stage : State ℕ → List (Option Way) → Stage
 stage Q ways = record { queue = Q; calls = ways }

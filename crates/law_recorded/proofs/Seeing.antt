@@ -12,7 +12,8 @@ use Rattle.history_check.specs.declared.recorded.Move.TheVariants as move
 use Rattle.history_check.specs.declared.recorded.Way.{Way}
 use Rattle.history_check.specs.declared.recorded.Way.TheVariants.{Waiting, Halfway, Answered}
 use Rattle.history_check.specs.Legal.{Makes}
-use Rattle.law_recorded.proofs.Places.{set_here, set_back, any_cases}
+use Rattle.history_check.proofs.Moves.{set_here}
+use Rattle.law_recorded.proofs.Places.{set_back, any_cases}
 use Rattle.law_recorded.proofs.Plays.{stage, IsWay, IsSoFar, SoFar, Play, earlier, known, at_party}
 
 -- the call o has gone on to o', with the same effects, and has at most Q as a moment more

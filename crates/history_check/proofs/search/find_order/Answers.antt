@@ -1,8 +1,8 @@
-use Rattle.std.proofs.Common.{List, subst}
+use Rattle.std.proofs.Common.{List, subst, sym}
 use Rattle.std.specs.Prelude.{Contains}
 use Rattle.history_check.specs.declared.recorded.Event.{Event}
-use Rattle.history_check.specs.Legal.{opening}
-use Rattle.history_check.specs.Levels.{Expects, Passes}
+use Rattle.history_check.specs.Legal.{Stage, opening}
+use Rattle.history_check.specs.Levels.{Expects, Survives, Passes}
 use Rattle.history_check.proofs.Deciding.{opens, gets_past, nobody}
 use Rattle.history_check.proofs.search.find_order.Goals as goal
 
@@ -22,7 +22,7 @@ loop-event-preserved g c =
     let passes : Passes c.loop-event.level c.in-Some.event c.loop-event.replies c.in-Some-2.next = rw c.in-Some-2.is at c.in_ok-next.ensures in
     record {
       expects = c.go_past.ensures;
-      survives = λ legal. gets_past c.loop-event.level c.in-Some-2.next c.loop-event.replies c.loop-event.rest.now c.in-Some.event c.in-Some.others.now c.in-Some.ensures.0 c.loop-event.invariant.expects passes (c.loop-event.invariant.survives legal);
+      survives = λ legal. subst (λ (level : List Stage). Survives level c.in-Some.others.now) (sym c.shorten.ensures) (gets_past c.loop-event.level c.in-Some-2.next c.loop-event.replies c.loop-event.rest.now c.in-Some.event c.in-Some.others.now c.in-Some.ensures.0 c.loop-event.invariant.expects passes (c.loop-event.invariant.survives legal));
     }
 
 pub returns-then-is_empty : goal.returns-then-is_empty
