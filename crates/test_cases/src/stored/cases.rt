@@ -15,14 +15,14 @@ pub struct Case<'a> {
     pub command: &'a str,
     /// The name of the input's file. Without one a read fails.
     input: Option<&'a str>,
-    /// The name of the file with all that it is to write: to its output where it ends well, else of a fault.
+    /// The name of the file with all that it is to write: to its output where it answers, else of a fault.
     pub written: &'a str,
     /// The status that it is to end with.
     pub status: u8,
 }
 
 impl<'a> Case<'a> {
-    /// The case of a line, `COMMAND [< INPUT] > OUTPUT` or `COMMAND [< INPUT] 2> FAULT STATUS`.
+    /// The case of a line, `COMMAND [< INPUT] > OUTPUT [STATUS]` or `COMMAND [< INPUT] 2> FAULT STATUS`.
     pub fn parse(line: &'a str) -> Option<Case<'a>> {
         let (words, written, status) = match line.split_once(" 2> ") {
             Some((words, rest)) => {
@@ -30,8 +30,11 @@ impl<'a> Case<'a> {
                 (words, written, status.parse().ok()?)
             }
             None => {
-                let (words, written) = line.split_once(" > ")?;
-                (words, written, 0)
+                let (words, rest) = line.split_once(" > ")?;
+                match rest.split_once(" ") {
+                    Some((written, status)) => (words, written, status.parse().ok()?),
+                    None => (words, rest, 0),
+                }
             }
         };
         let (command, input) = match words.split_once(" < ") {
@@ -87,7 +90,7 @@ impl<'a> Case<'a> {
             return Ok(true);
         }
         let written = match self.status {
-            0 => end.output,
+            0 | 1 => end.output,
             _ => end.faults,
         };
         let (line, status) = (first_other_line(&text, written), end.status);
@@ -110,10 +113,13 @@ pub fn case_runs<R: Threads + Wait + Sync + Files + Print + AllocGlobal>(
     }
 }
 
-/// How a run ends that writes this alone: to its output where it ends well, else of a fault.
+/// How a run ends that writes this alone: to its output where it answers, with 0 or 1, else of a fault.
 pub fn end_of(status: u8, text: &[u8]) -> End<'_> {
     match status {
-        0 => End::right(text_of(text)),
+        0 | 1 => End {
+            status,
+            ..End::right(text_of(text))
+        },
         status => End::fault(status, text_of(text)),
     }
 }

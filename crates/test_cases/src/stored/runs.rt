@@ -1,6 +1,7 @@
-//! Runs of the two programs.
+//! Runs of the three programs.
+use app_check::command::command as check_command;
 use app_command::program::program;
-use app_explore::command::command;
+use app_explore::command::command as explore_command;
 use machine_replay::blocks::BlockPlace;
 use queue_steps::sizes::BLOCK_SLOTS;
 use std::alloc::{AllocError, Allocator, Global, Layout};
@@ -29,15 +30,15 @@ pub fn run<R: Threads + Wait + Sync + AllocGlobal, A: Allocator>(
     let mut input = Reader::new(input, streams.input);
     let mut output = Writer::new(rt.alloc(), streams.output);
     let mut faults = Writer::new(rt.alloc(), streams.faults);
-    let status = match line.strip_prefix("queue_explore") {
-        Some(args) => {
-            let args = words(rt.alloc(), args)?;
-            command(alloc, &args, &mut input, &mut output, &mut faults)
-        }
-        None => {
-            let given = Ok(words(rt.alloc(), line)?.into_iter());
-            program(rt, alloc, given, &mut input, &mut output, &mut faults).status
-        }
+    let status = if let Some(args) = line.strip_prefix("queue_explore") {
+        let args = words(rt.alloc(), args)?;
+        explore_command(alloc, &args, &mut input, &mut output, &mut faults)
+    } else if let Some(args) = line.strip_prefix("queue_check") {
+        let args = words(rt.alloc(), args)?;
+        check_command(alloc, &args, &mut input, &mut output, &mut faults)
+    } else {
+        let given = Ok(words(rt.alloc(), line)?.into_iter());
+        program(rt, alloc, given, &mut input, &mut output, &mut faults).status
     };
     Ok(Outcome {
         status,

@@ -1,0 +1,2 @@
+pub mod ReadReplies
+pub mod ReadEvents

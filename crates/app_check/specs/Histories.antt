@@ -1,0 +1,74 @@
+-- The text of a recorded history: a line an event.
+use Rattle.std.specs.Prelude.{◌≡◌, ◌≢◌, ℕ, ◌+◌, ◌<◌, List, [], ◌∷◌, ◌++◌, codes, length, map, Option, Some, None, slice_get, slice_set, replicate}
+use Rattle.std.specs.{Fmt.decimal, List.AllByRecursion}
+use Rattle.queue_steps.specs.declared.model.Call.{Call}
+use Rattle.app_text.specs.{Calls.call_text, Calls.IsCallOfWord, Replies.reply_text, Lines.lines_of, declared.faults.Fault.Fault as fault}
+use Rattle.history_check.specs.declared.recorded.Event.{Event, Event as event}
+use Rattle.app_check.specs.{Replies.IsReplyOf, declared.faults.Stop.Stop, declared.faults.Stop.Stop as stop, declared.reading.TheConstants.MOST_LINES, declared.reading.TheConstants.MOST_PARTIES}
+
+-- the party whose event it is
+abbrev pub party_of : Event → ℕ
+party_of (event.Begin p c) = p
+party_of (event.End p r) = p
+
+-- what its line says behind the party
+abbrev pub said : Event → List ℕ
+said (event.Begin p c) = call_text c
+said (event.End p r) = codes "= " ++ reply_text r
+
+-- `PARTY CALL` where a call begins, `PARTY = REPLY` where it ends
+abbrev pub event_text : Event → List ℕ
+event_text e = decimal (party_of e) ++ 32 ∷ said e
+
+-- the event may be the next one of a party that is in this call, or in none: a call, or a reply that the call may have
+abbrev pub IsNext : Option (Call ℕ) → Event → Type 0
+IsNext None (event.Begin p c) = IsCallOfWord c
+IsNext (Some c) (event.End p r) = IsReplyOf c r
+IsNext _ _ = ⊥
+
+-- the event may come where the parties are in these calls
+abbrev pub MayCome : List (Option (Call ℕ)) → Event → Type 0
+MayCome calls e = (now : Option (Call ℕ)) × (slice_get calls (party_of e) ≡ Some now) × IsNext now e
+
+-- the call that its party is in behind it
+abbrev pub call_behind : Event → Option (Call ℕ)
+call_behind (event.Begin p c) = Some c
+call_behind (event.End p r) = None
+
+-- the calls that the parties are in behind it
+abbrev pub calls_behind : List (Option (Call ℕ)) → Event → List (Option (Call ℕ))
+calls_behind calls e = slice_set calls (party_of e) (call_behind e)
+
+-- the events may come one behind the other, and lead from these calls to those
+abbrev pub Lead : List (Option (Call ℕ)) → List Event → List (Option (Call ℕ)) → Type 0
+Lead calls [] after = after ≡ calls
+Lead calls (e ∷ es) after = MayCome calls e × Lead (calls_behind calls e) es after
+
+-- as many parties as there may be, none of them in a call
+unfoldable pub idle : List (Option (Call ℕ))
+idle = replicate MOST_PARTIES None
+
+-- the text is that of these events, a line each, and so many parties are enough for them
+pub record IsRecording (text : List ℕ) (parties : ℕ) (events : List Event) : Type 0 where
+  pub lines : map event_text events ≡ lines_of text
+  pub after : List (Option (Call ℕ))
+  pub leads : Lead idle events after
+  pub enough : AllByRecursion (λ e. party_of e < parties) events
+
+-- line n of the text, counted from 1, is the first that is no event which may come there
+pub record IsFirstWrong (text : List ℕ) (n : ℕ) : Type 0 where
+  pub before : List Event
+  pub after : List (Option (Call ℕ))
+  pub line : List ℕ
+  pub rest : List (List ℕ)
+  pub lines : lines_of text ≡ map event_text before ++ line ∷ rest
+  pub number : n ≡ length before + 1
+  pub leads : Lead idle before after
+  pub wrong : (e : Event) → MayCome after e → event_text e ≢ line
+
+-- why the text was not read
+abbrev pub IsUnread : List ℕ → Stop → Type 0
+IsUnread text (stop.Fault (fault.Unreadable n)) = IsFirstWrong text n
+IsUnread text (stop.Fault fault.NoMemory) = Unit {0}
+IsUnread text stop.TooManyLines = MOST_LINES < length (lines_of text)
+IsUnread text _ = ⊥

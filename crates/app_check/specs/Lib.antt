@@ -1,0 +1,5 @@
+pub mod Replies
+pub mod Histories
+pub mod Orders
+pub mod Answers
+pub mod Commands

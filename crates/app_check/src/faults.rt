@@ -1,0 +1,74 @@
+//! Why the checker ended without an answer.
+ghost use Rattle.std.specs.Prelude.{◌≡◌, Some};
+ghost use Rattle.app_text.specs.declared.faults.Fault.TheVariants as fault;
+ghost use Rattle.app_check.specs.declared.faults.Stop.TheVariants as stop;
+ghost use Rattle.app_check.specs.Answers.{stop_text, stop_status};
+
+use app_text::faults::Fault;
+use std::alloc::{AllocError, AllocFailed};
+use std::fmt;
+
+/// Why the checker ended without an answer.
+#[derive(Clone, Copy)]
+pub enum Stop {
+    /// The arguments name no kind of queue.
+    Usage,
+    /// As any program of queues may end.
+    Fault(Fault),
+    /// More lines than a history may have.
+    TooManyLines,
+    /// More stages beside each other than are looked at.
+    TooManyStages,
+}
+
+impl Stop {
+    /// The status that the checker ends with.
+    pub fn status(self) -> u8
+        ensures { result ≡ stop_status self }
+    {
+        match self {
+            Stop::Usage => 2,
+            Stop::Fault(fault) => fault.status(),
+            Stop::TooManyLines | Stop::TooManyStages => 3,
+        }
+    }
+}
+
+impl From<Fault> for Stop {
+    ghost from_gives = { λ fault s. s ≡ stop.Fault fault };
+
+    fn from(fault: Fault) -> Stop {
+        Stop::Fault(fault)
+    }
+}
+
+impl From<AllocError> for Stop {
+    ghost from_gives = { λ _ s. s ≡ stop.Fault fault.NoMemory };
+
+    fn from(_error: AllocError) -> Stop {
+        Stop::Fault(Fault::NoMemory)
+    }
+}
+
+impl<X: Drop> From<AllocFailed<X>> for Stop {
+    ghost from_gives = { λ _ s. s ≡ stop.Fault fault.NoMemory };
+
+    fn from(_failed: AllocFailed<X>) -> Stop {
+        Stop::Fault(Fault::NoMemory)
+    }
+}
+
+impl fmt::Display for Stop {
+    ghost output = { λ stop. Some (stop_text stop) };
+
+    fn fmt<W: fmt::Write>(&self, f: &mut fmt::Formatter<W>) -> fmt::Result {
+        match self {
+            Stop::Usage => f.write_str(
+                "usage: queue_check KIND\nreads: PARTY CALL where a call begins, PARTY = REPLY where it ends, a line each, in the order of time",
+            ),
+            Stop::Fault(fault) => write!(f, "{fault}"),
+            Stop::TooManyLines => f.write_str("too many lines"),
+            Stop::TooManyStages => f.write_str("too many stages"),
+        }
+    }
+}

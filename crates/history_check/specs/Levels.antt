@@ -1,0 +1,85 @@
+-- How a history is shown not to be legal: from event to event, all stages that an order can be at, until there are none.
+use Rattle.std.specs.Prelude.{◌≡◌, ℕ, Option, Some, None, List, [], ◌∷◌, ◌++◌, Contains, slice_get, length, ◌≤◌, ◌⊎◌, nat_eq, if◌then◌else◌}
+use Rattle.queue_steps.specs.State.{State}
+use Rattle.queue_steps.specs.Effect.{Fits}
+use Rattle.queue_steps.specs.Replies.{Tells}
+use Rattle.queue_steps.specs.declared.model.Call.{Call}
+use Rattle.queue_steps.specs.declared.model.Reply.{Reply}
+use Rattle.queue_steps.specs.declared.model.Effect.{Effect}
+use Rattle.queue_steps.specs.declared.model.Effect.TheVariants as effect
+use Rattle.history_check.specs.declared.recorded.Event.{Event}
+use Rattle.history_check.specs.declared.recorded.Event.TheVariants.{Begin, End}
+use Rattle.history_check.specs.declared.recorded.Move.{Move}
+use Rattle.history_check.specs.declared.recorded.Move.TheVariants as move
+use Rattle.history_check.specs.Legal.{Stage, opening, MayRecord, recorded, Makes, Goes, IsLegal}
+
+-- the reply by which the party's next end is recorded
+abbrev pub next_reply : ℕ → List Event → Option (Reply ℕ)
+next_reply p [] = None
+next_reply p (Begin q c ∷ es) = next_reply p es
+next_reply p (End q r ∷ es) = if nat_eq p q then Some r else next_reply p es
+
+-- what is noted of each party is the reply of its next end
+abbrev pub Expects : List (Option (Reply ℕ)) → List Event → Type 0
+Expects replies es = (p : ℕ) (o : Option (Reply ℕ)) → slice_get replies p ≡ Some o → o ≡ next_reply p es
+
+-- the reply is the expected one, where one is expected
+abbrev pub IsExpected : Option (Reply ℕ) → Reply ℕ → Type 0
+IsExpected None r = Unit {0}
+IsExpected (Some x) r = x ≡ r
+
+-- the call may have an effect at this state, its only one or the first of two, and get this reply
+abbrev pub Acts : Call ℕ → Reply ℕ → State ℕ → Type 0
+Acts c r Q =
+    ((e : Effect ℕ) × Tells c r (e ∷ []) × Fits e Q)
+    ⊎ ((old v : ℕ) × Tells c r (effect.Front old v ∷ effect.Arrive ∷ []) × Fits (effect.Front old v) Q)
+
+-- the level has each stage to which this move leads from s
+abbrev pub Has : List Stage → Stage → Move → Type 0
+Has level s m = (t : Stage) → Makes s m t → Contains level t
+
+-- the level has each stage to which the party's call leads from s, if this is the reply of its next end. A call that does not end need not see its reply
+pub record HasAll (level : List Stage) (s : Stage) (p : ℕ) (o : Option (Reply ℕ)) : Type 0 where
+  pub see : (r : Reply ℕ) → o ≡ Some r → Has level s (move.See p r)
+  pub act : (r : Reply ℕ) → IsExpected o r → Has level s (move.Act p r)
+  pub part : (r : Reply ℕ) → IsExpected o r → Has level s (move.Part p r)
+  pub arrive : Has level s (move.Arrive p)
+
+-- the level has each stage to which a call leads from s, if these are the replies of the parties' next ends
+abbrev pub HasEach : List Stage → Stage → List (Option (Reply ℕ)) → Type 0
+HasEach level s replies = (length s.calls ≤ length replies) × ((p : ℕ) (o : Option (Reply ℕ)) → slice_get replies p ≡ Some o → HasAll level s p o)
+
+-- the event is recorded at s, into the next level; or it cannot be, and the level has each stage to which a call leads from s
+abbrev pub Handles : List Stage → List Stage → Event → List (Option (Reply ℕ)) → Stage → Type 0
+Handles level next e replies s = (MayRecord s e × Contains next (recorded s e)) ⊎ (¬ (MayRecord s e) × HasEach level s replies)
+
+-- the second list begins with the first
+abbrev pub Extends : List Stage → List Stage → Type 0
+Extends old new = (more : List Stage) × (new ≡ old ++ more)
+
+-- by some moves all these events are taken from a stage of the level on
+abbrev pub Survives : List Stage → List Event → Type 0
+Survives level es = (s : Stage) × (moves : List Move) × Contains level s × Goes s es moves
+
+-- who survives from the one level, with this event to come, survives from the next one after it
+abbrev pub Passes : List Stage → Event → List (Option (Reply ℕ)) → List Stage → Type 0
+Passes level e replies next = (es : List Event) → Expects replies (e ∷ es) → Survives level (e ∷ es) → Survives next es
+
+-- a level of which each stage is handled passes the event
+abbrev pub LevelsPass : Type 0
+LevelsPass = (level next : List Stage) (e : Event) (replies : List (Option (Reply ℕ))) → ((s : Stage) → Contains level s → Handles level next e replies s) → Passes level e replies next
+
+-- where an event may be recorded at once, the moves before it may wait: the rest is taken from the stage after the event
+abbrev pub MovesMayWait : Type 0
+MovesMayWait = (s : Stage) (e : Event) (es : List Event) (ms : List Move) → MayRecord s e → Goes s (e ∷ es) ms → (ns : List Move) × Goes (recorded s e) es ns
+
+-- from this level on, each made longer where calls lead on, levels pass the events until one is empty
+abbrev pub Dies : List Stage → List Event → Type 0
+Dies level [] = level ≡ []
+Dies level (e ∷ es) =
+    (level ≡ [])
+    ⊎ ((replies : List (Option (Reply ℕ))) × (longer next : List Stage) × Extends level longer × Expects replies (e ∷ es) × ((s : Stage) → Contains longer s → Handles longer next e replies s) × Dies next es)
+
+-- a history whose levels die is not legal
+abbrev pub LevelsRefute : Type 0
+LevelsRefute = (cap : Option ℕ) (parties : ℕ) (es : List Event) (level : List Stage) → Contains level (opening cap parties) → Dies level es → ¬ (IsLegal cap parties es)

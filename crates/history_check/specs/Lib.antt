@@ -1,0 +1,3 @@
+pub mod Legal
+pub mod Levels
+pub mod Verdicts

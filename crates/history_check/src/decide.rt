@@ -1,0 +1,140 @@
+//! Whether a recorded history is legal.
+ghost use Rattle.std.specs.Prelude.{◌+◌, ◌-◌, ◌<◌, IfOk, IfSome};
+ghost use Rattle.history_check.specs.Legal.{IsLegal};
+ghost use Rattle.history_check.specs.Verdicts.{AreBounds, IsFound, IsVerdict};
+
+use crate::recorded::{Event, Move};
+use crate::search::{Found, find_order};
+use crate::show::shows;
+use std::alloc::{AllocError, Allocator};
+
+/// Whether a history is legal.
+#[derive(Drop)]
+pub enum Verdict<A: Allocator> {
+    /// It is, by this order of the effects of the calls.
+    Legal(Vec<Move, A>),
+    /// It is not: so many of its first events are the shortest beginning that is not legal.
+    NotLegal(usize),
+    /// More stages beside each other than are looked at.
+    TooMany,
+}
+
+/// Whether the history is legal, with so many stages beside each other at most.
+///
+/// # Errors
+///
+/// Where there is no memory.
+pub fn decide<A: Allocator + Copy>(
+    alloc: A,
+    cap: Option<usize>,
+    parties: usize,
+    events: &[Event],
+    most: usize,
+) -> Result<Verdict<A>, AllocError>
+    ensures { IfOk result (IsVerdict cap parties events.now) }
+{
+    match examine(alloc, cap, parties, events, most)? {
+        Found::Order(moves) => Ok(Verdict::Legal(moves)),
+        Found::Nothing(first) => shortest(alloc, cap, parties, events, most, first),
+        Found::TooMany => Ok(Verdict::TooMany),
+    }
+}
+
+// An order that is shown to be one, or that there is none.
+fn examine<A: Allocator + Copy>(
+    alloc: A,
+    cap: Option<usize>,
+    parties: usize,
+    events: &[Event],
+    most: usize,
+) -> Result<Found<A>, AllocError>
+    ensures { IfOk result (IsFound cap parties events.now) }
+{
+    match find_order(alloc, cap, parties, events, most)? {
+        Found::Order(moves) => {
+            if shows(alloc, cap, parties, events, &moves)? {
+                Ok(Found::Order(moves))
+            } else {
+                Ok(Found::TooMany)
+            }
+        }
+        Found::Nothing(first) => Ok(Found::Nothing(first)),
+        Found::TooMany => Ok(Found::TooMany),
+    }
+}
+
+// Two beginnings: one that is legal, and a longer one that is not.
+#[derive(Clone, Copy)]
+struct Bounds {
+    legal: usize,
+    not_legal: usize,
+}
+
+// The shortest beginning that is not legal, which is looked for from a guess on.
+#[tactic(auto, using(crate::proofs::Deciding::first_bounds))]
+fn shortest<A: Allocator + Copy>(
+    alloc: A,
+    cap: Option<usize>,
+    parties: usize,
+    events: &[Event],
+    most: usize,
+    guess: usize,
+) -> Result<Verdict<A>, AllocError>
+    requires refuted { IsLegal cap parties events.now → ⊥ }
+    ensures { IfOk result (IsVerdict cap parties events.now) }
+{
+    let mut bounds = Bounds {
+        legal: 0,
+        not_legal: events.len(),
+    };
+    let mut distance = guess;
+    let mut step = 1usize;
+    'closing: while bounds.not_legal - bounds.legal > 1 {
+        let middle = between(bounds, distance);
+        let Some(closer) = narrowed(alloc, cap, parties, events, most, bounds, middle)? else {
+            return Ok(Verdict::TooMany);
+        };
+        bounds = closer;
+        distance = step.min((bounds.not_legal - bounds.legal) / 2);
+        step = step.saturating_mul(2);
+    }
+    Ok(Verdict::NotLegal(bounds.not_legal))
+}
+
+// A number between the bounds, so far from the lower one, if there is room.
+fn between(bounds: Bounds, distance: usize) -> usize
+    requires room { bounds.legal + 1 < bounds.not_legal }
+    ensures above { bounds.legal < result }
+    ensures below { result < bounds.not_legal }
+{
+    let most = bounds.not_legal - bounds.legal - 1;
+    bounds.legal + distance.max(1).min(most)
+}
+
+// The bounds once the beginning of this length between them is examined.
+fn narrowed<A: Allocator + Copy>(
+    alloc: A,
+    cap: Option<usize>,
+    parties: usize,
+    events: &[Event],
+    most: usize,
+    bounds: Bounds,
+    middle: usize,
+) -> Result<Option<Bounds>, AllocError>
+    requires bounds { AreBounds cap parties events.now bounds.legal bounds.not_legal }
+    requires above { bounds.legal < middle }
+    requires below { middle < bounds.not_legal }
+    ensures { IfOk result (λ o. IfSome o (λ closer. AreBounds cap parties events.now closer.legal closer.not_legal × (closer.not_legal - closer.legal < bounds.not_legal - bounds.legal))) }
+{
+    match examine(alloc, cap, parties, &events[..middle], most)? {
+        Found::Order(_) => Ok(Some(Bounds {
+            legal: middle,
+            not_legal: bounds.not_legal,
+        })),
+        Found::Nothing(_) => Ok(Some(Bounds {
+            legal: bounds.legal,
+            not_legal: middle,
+        })),
+        Found::TooMany => Ok(None),
+    }
+}

@@ -1,0 +1,14 @@
+//! Whether a recorded history of calls on a queue is legal.
+#![tactic(auto)]
+
+pub mod decide;
+mod expected;
+pub mod laws;
+mod level;
+mod queue;
+pub mod recorded;
+pub mod search;
+mod show;
+mod stage;
+mod trail;
+mod unended;

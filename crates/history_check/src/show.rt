@@ -1,0 +1,32 @@
+//! Whether an order is one. Whoever found it is not trusted.
+ghost use Rattle.std.specs.Prelude.{◌≡◌, true, IfOk};
+ghost use Rattle.history_check.specs.Legal.{IsOrder};
+
+use crate::recorded::{Event, Move};
+use crate::stage::Stage;
+use std::alloc::{AllocError, Allocator};
+
+/// Whether these moves are an order of the effects of the calls, which shows the history to be legal.
+///
+/// # Errors
+///
+/// Where there is no memory.
+pub fn shows<A: Allocator + Copy>(
+    alloc: A,
+    cap: Option<usize>,
+    parties: usize,
+    events: &[Event],
+    moves: &[Move],
+) -> Result<bool, AllocError>
+    ensures { IfOk result (λ yes. yes ≡ true → IsOrder cap parties events.now moves.now) }
+{
+    let mut stage = Stage::new(alloc, cap, parties)?;
+    let mut at = 0;
+    for next in moves {
+        match stage.take(events, at, *next)? {
+            Some(then) => at = then,
+            None => return Ok(false),
+        }
+    }
+    Ok(at >= events.len())
+}
