@@ -1,2 +1,3 @@
 pub mod ReadReplies
 pub mod ReadEvents
+pub mod ReadAsked

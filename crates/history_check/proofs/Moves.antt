@@ -118,14 +118,14 @@ step_of s t (move.Arrive p) (r, at, fits, steps, is) = record {
   half = λ z same. (cc);
   closed = stays_closed s.queue (effect.Arrive ∷ []) (fits, tt);
 }
-step_of s t (move.Displace p r) (c, b, x, y, at, tells, fits, open, once, is) = record {
+step_of s t (move.Displace p r) (c, b, x, y, at, tells, fits, shut, once, is) = record {
   party = p;
   old = Waiting c b;
   new = Answered r;
   queue = made effect.Arrive (made (effect.Front x y) s.queue);
   at = at;
   is = is;
-  again = λ calls v here more. let w = waits c b v more in (c, w.0, x, y, at_way calls p v (Waiting c w.0) here w.1, tells, fits, open, once, refl);
+  again = λ calls v here more. let w = waits c b v more in (c, w.0, x, y, at_way calls p v (Waiting c w.0) here w.1, tells, fits, shut, once, refl);
   unanswered = λ z no. absurd (cc);
   half = λ z no. absurd (cc);
   closed = stays_closed s.queue (effect.Front x y ∷ effect.Arrive ∷ []) (fits, (y, refl), tt);
