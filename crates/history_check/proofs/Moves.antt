@@ -128,5 +128,5 @@ step_of s t (move.Displace p r) (c, b, x, y, at, tells, fits, shut, once, is) = 
   again = λ calls v here more. let w = waits c b v more in (c, w.0, x, y, at_way calls p v (Waiting c w.0) here w.1, tells, fits, shut, once, refl);
   unanswered = λ z no. absurd (cc);
   half = λ z no. absurd (cc);
-  closed = stays_closed s.queue (effect.Front x y ∷ effect.Arrive ∷ []) (fits, (y, refl), tt);
+  closed = stays_closed s.queue (effect.Front x y ∷ effect.Arrive ∷ []) (fits, ((y, refl), tt));
 }
