@@ -1,3 +1,2 @@
 pub mod ReadReplies
 pub mod ReadEvents
-pub mod ReadAsked
