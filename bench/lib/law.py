@@ -12,12 +12,19 @@ def capacity_of(kind):
     return {"single": 1, "unbounded": None}[kind] if ":" not in kind else int(kind.split(":")[1])
 
 
+def rules_of(kind):
+    """The capacity, and whether a displacement is one step."""
+    name = kind.removeprefix("atomic:")
+    return capacity_of(name), name != kind
+
+
 # A queue is its list, the item on its way in, whether it is closed, and how many items it accepted.
 EMPTY = ((), None, False, 0)
 
 
-def moves(cap, queue, call, saw_open):
+def moves(rules, queue, call, saw_open):
     """What the call may do next: the queue then, whether it is half way, and its reply."""
+    cap, at_once = rules
     items, coming, closed, accepted = queue
     name, _, value = call.partition(" ")
     full = len(items) == cap
@@ -32,7 +39,9 @@ def moves(cap, queue, call, saw_open):
         yield queue, False, f"full {value}"
     if name == "force" and full and cap == 1 and not closed:
         yield ((value,), None, False, accepted + 1), False, f"displaced {items[0]}"
-    if name == "force" and full and cap != 1 and coming is None and saw_open:
+    if name == "force" and full and cap != 1 and at_once and not closed:
+        yield (items[1:] + (value,), None, False, accepted + 1), False, f"displaced {items[0]}"
+    if name == "force" and full and cap != 1 and not at_once and coming is None and saw_open:
         yield (items[1:], value, closed, accepted), True, f"displaced {items[0]}"
     if name == "pop" and items:
         yield (items[1:], coming, closed, accepted), False, f"item {items[0]}"
@@ -45,7 +54,7 @@ def moves(cap, queue, call, saw_open):
         yield queue, False, str(looks[name]).lower()
 
 
-def longest(cap, lines):
+def longest(rules, lines):
     """How many of the lines are explained at most, from the first on."""
     events = [(line.split(" ", 1)[0], line.split(" ", 1)[1]) for line in lines]
     seen, stack, best = set(), [(0, EMPTY, frozenset())], 0
@@ -67,7 +76,7 @@ def longest(cap, lines):
                 then = (items + (coming,), None, closed, accepted + 1)
                 stack.append((at, then, others | {(party, call, saw_open, False, reply)}))
             elif reply is None:
-                for then, goes_on, told in moves(cap, queue, call, saw_open):
+                for then, goes_on, told in moves(rules, queue, call, saw_open):
                     stack.append((at, then, others | {(party, call, saw_open, goes_on, told)}))
         party, text = events[at]
         if text.startswith("= "):
@@ -86,9 +95,9 @@ class NoOrder(Exception):
 class Order:
     """Takes the lines of a history, and the moves of calls between them."""
 
-    def __init__(self, cap):
+    def __init__(self, rules):
         # of each party's call: its text, whether it saw the queue open, whether it is half way, and its reply
-        self.cap, self.queue, self.calls = cap, EMPTY, {}
+        self.rules, self.queue, self.calls = rules, EMPTY, {}
 
     def line(self, line):
         party, _, text = line.partition(" ")
@@ -108,16 +117,18 @@ class Order:
             self.queue = (items + (coming,), None, closed, accepted + 1)
             self.calls[party] = (call, saw_open, False, reply)
             return
-        for then, goes_on, told_it in moves(self.cap, self.queue, call, saw_open) if reply is None else ():
-            if what == ("takes" if goes_on else "sees" if then == self.queue else "acts"):
+        for then, goes_on, told_it in moves(self.rules, self.queue, call, saw_open) if reply is None else ():
+            cap, at_once = self.rules
+            displaces = at_once and cap != 1 and told_it.startswith("displaced ")
+            if what == ("takes" if goes_on else "displaces" if displaces else "sees" if then == self.queue else "acts"):
                 self.queue, self.calls[party] = then, (call, saw_open, goes_on, told_it)
                 return
         raise NoOrder(f"{party} {what}, which its call cannot")
 
 
-def check_order(cap, lines, printed):
+def check_order(rules, lines, printed):
     """Each printed line has how many lines of the history come before, a party, and what its call does there."""
-    order, taken = Order(cap), 0
+    order, taken = Order(rules), 0
     for row in printed:
         before, party, what = row.split(" ")
         for line in lines[taken : int(before)]:
@@ -137,7 +148,7 @@ def told(checker, kind, lines, seconds=None):
     first, *rest = run.stdout.splitlines() or [""]
     if run.returncode == 0 and first == "legal":
         try:
-            check_order(capacity_of(kind), lines, rest)
+            check_order(rules_of(kind), lines, rest)
         except NoOrder as why:
             sys.exit(f"{kind}: {why}\n{run.stdout}\nof\n" + "\n".join(lines))
         return len(lines)

@@ -1,8 +1,8 @@
 -- What is told of a history, and of a stop, and the status that each ends with.
-use Rattle.std.specs.Prelude.{◌≡◌, ℕ, Option, List, [], ◌∷◌, ◌++◌, codes}
+use Rattle.std.specs.Prelude.{◌≡◌, ℕ, List, [], ◌∷◌, ◌++◌, codes}
 use Rattle.std.specs.Fmt.{decimal}
 use Rattle.app_text.specs.{Faults.fault_text, Faults.fault_status, declared.faults.Fault.Fault as fault}
-use Rattle.history_check.specs.{Legal.IsOrder, Legal.IsShortest, declared.recorded.Event.Event, declared.recorded.Move.Move}
+use Rattle.history_check.specs.{Legal.IsOrder, Legal.IsShortest, declared.recorded.Event.Event, declared.recorded.Move.Move, declared.recorded.Rules.Rules}
 use Rattle.app_check.specs.{Orders.order_text, declared.answers.Answer.Answer, declared.answers.Answer.Answer as answer, declared.faults.Stop.Stop, declared.faults.Stop.Stop as stop}
 
 -- of a history of which n events are the shortest beginning that is not legal; the line of an event has its number
@@ -10,16 +10,16 @@ abbrev pub not_legal_text : ℕ → List ℕ
 not_legal_text n = codes "not legal" ++ 10 ∷ codes "line " ++ decimal n ++ codes ": nothing explains it" ++ 10 ∷ []
 
 -- the history is legal, and the text has an order that shows it; or so many of its events are the shortest beginning that is not
-abbrev pub IsAnswer : Option ℕ → ℕ → List Event → Answer → List ℕ → Type 0
-IsAnswer cap parties events answer.Legal text = (moves : List Move) × IsOrder cap parties events moves × (text ≡ order_text moves)
-IsAnswer cap parties events (answer.NotLegal n) text = IsShortest cap parties events n × (text ≡ not_legal_text n)
+abbrev pub IsAnswer : Rules → ℕ → List Event → Answer → List ℕ → Type 0
+IsAnswer rules parties events answer.Legal text = (moves : List Move) × IsOrder rules parties events moves × (text ≡ order_text moves)
+IsAnswer rules parties events (answer.NotLegal n) text = IsShortest rules parties events n × (text ≡ not_legal_text n)
 
 abbrev pub answer_status : Answer → ℕ
 answer_status answer.Legal = 0
 answer_status (answer.NotLegal n) = 1
 
 abbrev pub stop_text : Stop → List ℕ
-stop_text stop.Usage = codes "usage: queue_check KIND" ++ 10 ∷ codes "reads: PARTY CALL where a call begins, PARTY = REPLY where it ends, a line each, in the order of time"
+stop_text stop.Usage = codes "usage: queue_check [atomic:]KIND" ++ 10 ∷ codes "reads: PARTY CALL where a call begins, PARTY = REPLY where it ends, a line each, in the order of time"
 stop_text (stop.Fault f) = fault_text f
 stop_text stop.TooManyLines = codes "too many lines"
 stop_text stop.TooManyStages = codes "too many stages"

@@ -1,25 +1,25 @@
 -- How the checker may end.
 use Rattle.std.specs.Prelude.{◌≡◌, ◌⊎◌, ℕ, List, [], ◌∷◌, Option, Result, String}
 use Rattle.std.specs.{Io.KnownBytes.Appends, Io.KnownBytes.Keeps, declared.io.Error.Error, declared.vec.IntoIter.IntoIter}
-use Rattle.app_text.specs.{Given.IsAskedBy, Given.MayLackMemory, KindNames.IsKindName, KindNames.kind_text, KindNames.capacity_of, Streams.IsBegun, Streams.IsInput}
-use Rattle.app_text.specs.declared.{args.KindName.KindName, faults.Fault.Fault as fault}
-use Rattle.history_check.specs.declared.recorded.Event.{Event}
-use Rattle.app_check.specs.{Histories.IsRecording, Histories.IsUnread, Answers.IsAnswer, Answers.answer_status, Answers.stop_status}
-use Rattle.app_check.specs.declared.{answers.Answer.Answer, faults.Stop.Stop, faults.Stop.Stop as stop}
+use Rattle.app_text.specs.{Given.IsAskedBy, Given.MayLackMemory, Streams.IsBegun, Streams.IsInput}
+use Rattle.app_text.specs.declared.faults.{Fault.Fault as fault}
+use Rattle.history_check.specs.declared.recorded.{Event.Event, Rules.Rules}
+use Rattle.app_check.specs.{Histories.IsRecording, Histories.IsUnread, Answers.IsAnswer, Answers.answer_status, Answers.stop_status, Asked.IsAsked, Asked.asked_text, Asked.rules_of}
+use Rattle.app_check.specs.declared.{answers.Answer.Answer, asked.Asked.Asked, faults.Stop.Stop, faults.Stop.Stop as stop}
 
--- the arguments that name a kind of queue
-abbrev pub kind_words : KindName → List (List ℕ)
-kind_words k = kind_text k ∷ []
+-- the arguments that ask for a queue
+abbrev pub asked_words : Asked → List (List ℕ)
+asked_words a = asked_text a ∷ []
 
--- the arguments name this kind
-abbrev pub Name : List (List ℕ) → KindName → Type 0
-Name words k = IsKindName k × (kind_words k ≡ words)
+-- the arguments ask for this queue
+abbrev pub Name : List (List ℕ) → Asked → Type 0
+Name words a = IsAsked a × (asked_words a ≡ words)
 
 abbrev pub NameNone : List (List ℕ) → Type 0
-NameNone words = (k : KindName) → Name words k → ⊥
+NameNone words = (a : Asked) → Name words a → ⊥
 
 abbrev pub NameOne : List (List ℕ) → Type 0
-NameOne words = (k : KindName) × Name words k
+NameOne words = (a : Asked) × Name words a
 
 -- the text is a history
 pub record IsHistory (text : List ℕ) : Type 0 where
@@ -27,25 +27,25 @@ pub record IsHistory (text : List ℕ) : Type 0 where
   pub events : List Event
   pub recording : IsRecording text parties events
 
--- the answer, with this output, is right for the history that the text is, on a queue of this capacity
-pub record IsAnswerTo (cap : Option ℕ) (text : List ℕ) (answer : Answer) (output : List ℕ) : Type 0 where
+-- the answer, with this output, is right for the history that the text is, by these rules
+pub record IsAnswerTo (rules : Rules) (text : List ℕ) (answer : Answer) (output : List ℕ) : Type 0 where
   pub parties : ℕ
   pub events : List Event
   pub recording : IsRecording text parties events
-  pub right : IsAnswer cap parties events answer output
+  pub right : IsAnswer rules parties events answer output
 
 -- why nothing was told of the text: it is no history that is read, or its history was not decided
 abbrev pub IsUntold : List ℕ → Stop → Type 0
 IsUntold text stop.TooManyStages = IsHistory text
 IsUntold text why = IsUnread text why
 
--- the same for the history that the input is, on the queue that the arguments name
+-- the same for the history that the input is, on the queue that the arguments ask for
 pub record IsToldOf (words : List (List ℕ)) (known : Option (List ℕ)) (answer : Answer) (output : List ℕ) : Type 0 where
-  pub kind : KindName
-  pub named : Name words kind
+  pub asked : Asked
+  pub named : Name words asked
   pub bytes : List ℕ
   pub input : IsInput known bytes
-  pub right : IsAnswerTo (capacity_of kind) bytes answer output
+  pub right : IsAnswerTo (rules_of asked) bytes answer output
 
 -- the answer is right, and was written
 abbrev pub IsChecked : List (List ℕ) → Option (List ℕ) → Option (List ℕ) → Option (List ℕ) → Answer → Type 0

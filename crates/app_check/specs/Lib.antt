@@ -2,4 +2,5 @@ pub mod Replies
 pub mod Histories
 pub mod Orders
 pub mod Answers
+pub mod Asked
 pub mod Commands

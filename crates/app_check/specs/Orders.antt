@@ -20,6 +20,7 @@ move_text after (move.See p r) = line_text after p (codes " sees")
 move_text after (move.Act p r) = line_text after p (codes " acts")
 move_text after (move.Part p r) = line_text after p (codes " takes")
 move_text after (move.Arrive p) = line_text after p (codes " arrives")
+move_text after (move.Displace p r) = line_text after p (codes " displaces")
 
 -- the lines of moves, the first of which comes after so many lines of the history
 abbrev pub moves_text : ℕ → List Move → List ℕ

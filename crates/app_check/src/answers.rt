@@ -5,7 +5,7 @@ ghost use Rattle.app_check.specs.Orders.{lines_in, move_text, moves_text, order_
 
 use crate::faults::Stop;
 use history_check::decide::{Verdict, decide};
-use history_check::recorded::{Event, Move};
+use history_check::recorded::{Event, Move, Rules};
 use std::alloc::{AllocError, Allocator};
 use std::fmt::Write;
 
@@ -40,13 +40,13 @@ impl Answer {
 /// `NoMemory`, and `TooManyStages`.
 pub fn answer_of<A: Allocator + Copy>(
     alloc: A,
-    cap: Option<usize>,
+    rules: Rules,
     parties: usize,
     events: &[Event],
 ) -> Result<(Answer, String<A>), Stop>
-    ensures { MatchResult result (λ p. IsAnswer cap parties events.now p.0 (string_bytes p.1)) IsUndecided }
+    ensures { MatchResult result (λ p. IsAnswer rules parties events.now p.0 (string_bytes p.1)) IsUndecided }
 {
-    match decide(alloc, cap, parties, events, MOST_STAGES)? {
+    match decide(alloc, rules, parties, events, MOST_STAGES)? {
         Verdict::Legal(moves) => Ok((Answer::Legal, legal_text(alloc, &moves)?)),
         Verdict::NotLegal(count) => Ok((Answer::NotLegal(count), not_legal_text(alloc, count)?)),
         Verdict::TooMany => Err(Stop::TooManyStages),
@@ -93,7 +93,11 @@ fn lines_in(taken: Move) -> usize
 {
     match taken {
         Move::Event => 1,
-        Move::See(_, _) | Move::Act(_, _) | Move::Part(_, _) | Move::Arrive(_) => 0,
+        Move::See(_, _)
+        | Move::Act(_, _)
+        | Move::Part(_, _)
+        | Move::Arrive(_)
+        | Move::Displace(_, _) => 0,
     }
 }
 
@@ -111,5 +115,6 @@ fn write_move<A: Allocator>(
         Move::Act(party, _) => writeln!(text, "{after} {party} acts"),
         Move::Part(party, _) => writeln!(text, "{after} {party} takes"),
         Move::Arrive(party) => writeln!(text, "{after} {party} arrives"),
+        Move::Displace(party, _) => writeln!(text, "{after} {party} displaces"),
     }
 }

@@ -1,14 +1,14 @@
 //! The whole checker as a function of its arguments, its input and its two outputs.
 ghost use Rattle.std.specs.Prelude.{◌≡◌, MatchResult, map, string_bytes};
-ghost use Rattle.app_text.specs.KindNames.{capacity_of, IsKindName};
 ghost use Rattle.app_text.specs.Reading.{IsReading};
 ghost use Rattle.app_check.specs.Answers.{stop_status};
-ghost use Rattle.app_check.specs.Commands.{IsAnswerTo, IsChecked, IsCheckerEnd, IsStopOf, IsUntold, kind_words};
+ghost use Rattle.app_check.specs.Asked.{rules_of, IsAsked};
+ghost use Rattle.app_check.specs.Commands.{IsAnswerTo, IsChecked, IsCheckerEnd, IsStopOf, IsUntold, asked_words};
 
 use crate::answers::{Answer, answer_of};
+use crate::asked::{Asked, parse_asked};
 use crate::faults::Stop;
 use crate::reading::read_history;
-use app_text::args::{KindName, parse_kind};
 use app_text::streams::{read_input, write_output};
 use std::alloc::Allocator;
 use std::io::{Read, Write};
@@ -50,44 +50,33 @@ fn check<A: Allocator, I: Read, O: Write>(
         (IsChecked (map string_bytes args.now) (I.remaining input.old) (O.contents output.old) (O.contents output.new))
         (IsStopOf (map string_bytes args.now) (I.remaining input.old) (O.contents output.old) (O.contents output.new)) }
 {
-    let Some(kind) = kind_of(args) else {
+    let Some(asked) = asked_by(args) else {
         return Err(Stop::Usage);
     };
     let bytes = read_input(alloc, input)?;
-    let (answer, text) = told(alloc, kind, &bytes)?;
+    let (answer, text) = told(alloc, asked, &bytes)?;
     write_output(output, text.as_bytes())?;
     Ok(answer)
 }
 
-// The kind that the arguments name, if they name one.
-fn kind_of(args: &[String]) -> Option<KindName>
-    ensures { IsReading IsKindName kind_words (map string_bytes args.now) result }
+// The queue that the arguments ask for, if they ask for one.
+fn asked_by(args: &[String]) -> Option<Asked>
+    ensures { IsReading IsAsked asked_words (map string_bytes args.now) result }
 {
     match args {
-        [word] => parse_kind(word.as_str()),
+        [word] => parse_asked(word.as_str()),
         _ => None,
     }
 }
 
-// What is told of the history that the text is, on a queue of this kind.
+// What is told of the history that the text is, on this queue.
 fn told<'a, A: Allocator>(
     alloc: &'a A,
-    kind: KindName,
+    asked: Asked,
     text: &[u8],
 ) -> Result<(Answer, String<&'a A>), Stop>
-    ensures { MatchResult result (λ p. IsAnswerTo (capacity_of kind) text.now p.0 (string_bytes p.1)) (IsUntold text.now) }
+    ensures { MatchResult result (λ p. IsAnswerTo (rules_of asked) text.now p.0 (string_bytes p.1)) (IsUntold text.now) }
 {
     let history = read_history(alloc, text)?;
-    answer_of(alloc, capacity_of(kind), history.parties, &history.events)
-}
-
-// The capacity of a queue of this kind, if it has one.
-fn capacity_of(kind: KindName) -> Option<usize>
-    ensures { result ≡ capacity_of kind }
-{
-    match kind {
-        KindName::Single => Some(1),
-        KindName::Bounded(cap) => Some(cap),
-        KindName::Unbounded => None,
-    }
+    answer_of(alloc, asked.rules(), history.parties, &history.events)
 }

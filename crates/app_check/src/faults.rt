@@ -64,7 +64,7 @@ impl fmt::Display for Stop {
     fn fmt<W: fmt::Write>(&self, f: &mut fmt::Formatter<W>) -> fmt::Result {
         match self {
             Stop::Usage => f.write_str(
-                "usage: queue_check KIND\nreads: PARTY CALL where a call begins, PARTY = REPLY where it ends, a line each, in the order of time",
+                "usage: queue_check [atomic:]KIND\nreads: PARTY CALL where a call begins, PARTY = REPLY where it ends, a line each, in the order of time",
             ),
             Stop::Fault(fault) => write!(f, "{fault}"),
             Stop::TooManyLines => f.write_str("too many lines"),

@@ -2,6 +2,7 @@
 #![tactic(auto)]
 
 pub mod answers;
+pub mod asked;
 pub mod command;
 pub mod faults;
 pub mod program;

@@ -35,8 +35,8 @@ at_front (x ∷ xs) more (suc k) h = at_front xs more k (let more' : suc k < suc
 abbrev pub IsMoreOpen : Way → Way → Type 0
 IsMoreOpen v w = (v ≡ w) ⊎ ((c : Call ℕ) × (v ≡ Waiting c true) × (w ≡ Waiting c false))
 
-abbrev pub stage : State ℕ → List (Option Way) → Stage
-stage Q calls = record { queue = Q; calls = calls }
+abbrev pub stage : Bool → State ℕ → List (Option Way) → Stage
+stage at_once Q calls = record { queue = Q; calls = calls; at_once = at_once }
 
 -- a move between two events: one party's call goes from one way to another, and leaves this queue. It does so wherever the call is more open, wherever the others are
 pub record Step (s t : Stage) (m : Move) : Type 0 where
@@ -45,8 +45,8 @@ pub record Step (s t : Stage) (m : Move) : Type 0 where
   pub new : Way
   pub queue : State ℕ
   pub at : IsAt s party old
-  pub is : t ≡ stage queue (slice_set s.calls party (Some new))
-  pub again : (calls : List (Option Way)) (v : Way) → slice_get calls party ≡ Some (Some v) → IsMoreOpen v old → Makes (stage s.queue calls) m (stage queue (slice_set calls party (Some new)))
+  pub is : t ≡ stage s.at_once queue (slice_set s.calls party (Some new))
+  pub again : (calls : List (Option Way)) (v : Way) → slice_get calls party ≡ Some (Some v) → IsMoreOpen v old → Makes (stage s.at_once s.queue calls) m (stage s.at_once queue (slice_set calls party (Some new)))
   pub unanswered : (r : Reply ℕ) → old ≡ Answered r → ⊥
   pub half : (r : Reply ℕ) → old ≡ Halfway r → new ≡ Answered r
   pub closed : s.queue.closed ≡ true → queue.closed ≡ true
@@ -94,27 +94,39 @@ step_of s t (move.Act p r) (c, b, e, at, tells, fits, is) = record {
   half = λ x no. absurd (cc);
   closed = stays_closed s.queue (e ∷ []) (fits, tt);
 }
-step_of s t (move.Part p r) (c, x, y, at, tells, fits, is) = record {
+step_of s t (move.Part p r) (c, x, y, at, tells, fits, steps, is) = record {
   party = p;
   old = Waiting c true;
   new = Halfway r;
   queue = made (effect.Front x y) s.queue;
   at = at;
   is = is;
-  again = λ calls v here more. (c, x, y, at_way calls p v (Waiting c true) here (saw_open c v more), tells, fits, refl);
+  again = λ calls v here more. (c, x, y, at_way calls p v (Waiting c true) here (saw_open c v more), tells, fits, steps, refl);
   unanswered = λ z no. absurd (cc);
   half = λ z no. absurd (cc);
   closed = stays_closed s.queue (effect.Front x y ∷ []) (fits, tt);
 }
-step_of s t (move.Arrive p) (r, at, fits, is) = record {
+step_of s t (move.Arrive p) (r, at, fits, steps, is) = record {
   party = p;
   old = Halfway r;
   new = Answered r;
   queue = made effect.Arrive s.queue;
   at = at;
   is = is;
-  again = λ calls v here more. (r, at_way calls p v (Halfway r) here (is_half r v more), fits, refl);
+  again = λ calls v here more. (r, at_way calls p v (Halfway r) here (is_half r v more), fits, steps, refl);
   unanswered = λ z no. absurd (cc);
   half = λ z same. (cc);
   closed = stays_closed s.queue (effect.Arrive ∷ []) (fits, tt);
+}
+step_of s t (move.Displace p r) (c, b, x, y, at, tells, fits, shut, once, is) = record {
+  party = p;
+  old = Waiting c b;
+  new = Answered r;
+  queue = made effect.Arrive (made (effect.Front x y) s.queue);
+  at = at;
+  is = is;
+  again = λ calls v here more. let w = waits c b v more in (c, w.0, x, y, at_way calls p v (Waiting c w.0) here w.1, tells, fits, shut, once, refl);
+  unanswered = λ z no. absurd (cc);
+  half = λ z no. absurd (cc);
+  closed = stays_closed s.queue (effect.Front x y ∷ effect.Arrive ∷ []) (fits, ((y, refl), tt));
 }

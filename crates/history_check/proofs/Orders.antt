@@ -63,10 +63,10 @@ answered es q r x y at (inr (inl (c, a, b))) = absurd (cc)
 answered es q r x y at (inr (inr (r', b, none))) = absurd (let some = next_same q r es in cc)
 
 -- a call's move in the other stage, made in the one
-module _ (m : Move) (ms : List Move) (es : List Event) (Q : State ℕ) (xs ys : List (Option Way)) (worse : AllNoWorse es xs ys) where
-  carried : (t : Stage) (fs : List Event) → Makes (stage Q ys) m t → fs ≡ es → Goes t fs ms → (R : State ℕ) × (us vs : List (Option Way)) × Makes (stage Q xs) m (stage R us) × AllNoWorse es us vs × Goes (stage R vs) es ms
+module _ (a : Bool) (m : Move) (ms : List Move) (es : List Event) (Q : State ℕ) (xs ys : List (Option Way)) (worse : AllNoWorse es xs ys) where
+  carried : (t : Stage) (fs : List Event) → Makes (stage a Q ys) m t → fs ≡ es → Goes t fs ms → (R : State ℕ) × (us vs : List (Option Way)) × Makes (stage a Q xs) m (stage a R us) × AllNoWorse es us vs × Goes (stage a R vs) es ms
   carried t fs makes same g =
-      let step = step_of (stage Q ys) t m makes in
+      let step = step_of (stage a Q ys) t m makes in
       let q = step.party in
       let o : Option Way = Some step.new in
       let more = more_open es q step.old (slice_get xs q) (slice_get ys q) step.at step.unanswered (worse q) in (
@@ -75,29 +75,31 @@ module _ (m : Move) (ms : List Move) (es : List Event) (Q : State ℕ) (xs ys : 
         slice_set ys q o,
         step.again xs more.0 more.1 more.2,
         updated es es q o xs ys (Some more.0) (Some step.old) more.1 step.at (λ p ne none. none) worse,
-        subst (λ (l : List Event). Goes (stage step.queue (slice_set ys q o)) l ms) same (subst (λ (u : Stage). Goes u fs ms) step.is g),
+        subst (λ (l : List Event). Goes (stage a step.queue (slice_set ys q o)) l ms) same (subst (λ (u : Stage). Goes u fs ms) step.is g),
       )
 
-no_worse : (ms : List Move) (es : List Event) (Q : State ℕ) (xs ys : List (Option Way)) → AllNoWorse es xs ys → Goes (stage Q ys) es ms → Goes (stage Q xs) es ms
-no_worse [] es Q xs ys worse g = g
-no_worse (move.Event ∷ ms) [] Q xs ys worse (t, fs, never, g) = absurd never
-no_worse (move.Event ∷ ms) (Begin q c ∷ es) Q xs ys worse (t, fs, (at, is, same), g) =
+no_worse : (a : Bool) (ms : List Move) (es : List Event) (Q : State ℕ) (xs ys : List (Option Way)) → AllNoWorse es xs ys → Goes (stage a Q ys) es ms → Goes (stage a Q xs) es ms
+no_worse a [] es Q xs ys worse g = g
+no_worse a (move.Event ∷ ms) [] Q xs ys worse (t, fs, never, g) = absurd never
+no_worse a (move.Event ∷ ms) (Begin q c ∷ es) Q xs ys worse (t, fs, (at, is, same), g) =
     let o : Option Way = Some (Waiting c (not Q.closed)) in
     let here = between (Begin q c ∷ es) q (slice_get xs q) (slice_get ys q) at (worse q) in
-    let g' : Goes (stage Q (slice_set ys q o)) es ms = subst (λ (l : List Event). Goes (stage Q (slice_set ys q o)) l ms) same (subst (λ (u : Stage). Goes u fs ms) is g) in
-    (stage Q (slice_set xs q o), es, (here, refl, refl), no_worse ms es Q (slice_set xs q o) (slice_set ys q o) (updated (Begin q c ∷ es) es q o xs ys None None here at (λ p ne none. none) worse) g')
-no_worse (move.Event ∷ ms) (End q r ∷ es) Q xs ys worse (t, fs, (at, is, same), g) =
+    let g' : Goes (stage a Q (slice_set ys q o)) es ms = subst (λ (l : List Event). Goes (stage a Q (slice_set ys q o)) l ms) same (subst (λ (u : Stage). Goes u fs ms) is g) in
+    (stage a Q (slice_set xs q o), es, (here, refl, refl), no_worse a ms es Q (slice_set xs q o) (slice_set ys q o) (updated (Begin q c ∷ es) es q o xs ys None None here at (λ p ne none. none) worse) g')
+no_worse a (move.Event ∷ ms) (End q r ∷ es) Q xs ys worse (t, fs, (at, is, same), g) =
     let here = answered es q r (slice_get xs q) (slice_get ys q) at (worse q) in
-    let g' : Goes (stage Q (slice_set ys q None)) es ms = subst (λ (l : List Event). Goes (stage Q (slice_set ys q None)) l ms) same (subst (λ (u : Stage). Goes u fs ms) is g) in
-    (stage Q (slice_set xs q None), es, (here, refl, refl), no_worse ms es Q (slice_set xs q None) (slice_set ys q None) (updated (End q r ∷ es) es q None xs ys (Some (Answered r)) (Some (Answered r)) here at (λ p ne none. sym (next_other p q r es ne) ∙ none) worse) g')
-no_worse (move.See p r ∷ ms) es Q xs ys worse (t, fs, (makes, same), g) =
-    let c = carried (move.See p r) ms es Q xs ys worse t fs makes same g in (stage c.0 c.1, es, (c.3, refl), no_worse ms es c.0 c.1 c.2 c.4 c.5)
-no_worse (move.Act p r ∷ ms) es Q xs ys worse (t, fs, (makes, same), g) =
-    let c = carried (move.Act p r) ms es Q xs ys worse t fs makes same g in (stage c.0 c.1, es, (c.3, refl), no_worse ms es c.0 c.1 c.2 c.4 c.5)
-no_worse (move.Part p r ∷ ms) es Q xs ys worse (t, fs, (makes, same), g) =
-    let c = carried (move.Part p r) ms es Q xs ys worse t fs makes same g in (stage c.0 c.1, es, (c.3, refl), no_worse ms es c.0 c.1 c.2 c.4 c.5)
-no_worse (move.Arrive p ∷ ms) es Q xs ys worse (t, fs, (makes, same), g) =
-    let c = carried (move.Arrive p) ms es Q xs ys worse t fs makes same g in (stage c.0 c.1, es, (c.3, refl), no_worse ms es c.0 c.1 c.2 c.4 c.5)
+    let g' : Goes (stage a Q (slice_set ys q None)) es ms = subst (λ (l : List Event). Goes (stage a Q (slice_set ys q None)) l ms) same (subst (λ (u : Stage). Goes u fs ms) is g) in
+    (stage a Q (slice_set xs q None), es, (here, refl, refl), no_worse a ms es Q (slice_set xs q None) (slice_set ys q None) (updated (End q r ∷ es) es q None xs ys (Some (Answered r)) (Some (Answered r)) here at (λ p ne none. sym (next_other p q r es ne) ∙ none) worse) g')
+no_worse a (move.See p r ∷ ms) es Q xs ys worse (t, fs, (makes, same), g) =
+    let c = carried a (move.See p r) ms es Q xs ys worse t fs makes same g in (stage a c.0 c.1, es, (c.3, refl), no_worse a ms es c.0 c.1 c.2 c.4 c.5)
+no_worse a (move.Act p r ∷ ms) es Q xs ys worse (t, fs, (makes, same), g) =
+    let c = carried a (move.Act p r) ms es Q xs ys worse t fs makes same g in (stage a c.0 c.1, es, (c.3, refl), no_worse a ms es c.0 c.1 c.2 c.4 c.5)
+no_worse a (move.Part p r ∷ ms) es Q xs ys worse (t, fs, (makes, same), g) =
+    let c = carried a (move.Part p r) ms es Q xs ys worse t fs makes same g in (stage a c.0 c.1, es, (c.3, refl), no_worse a ms es c.0 c.1 c.2 c.4 c.5)
+no_worse a (move.Arrive p ∷ ms) es Q xs ys worse (t, fs, (makes, same), g) =
+    let c = carried a (move.Arrive p) ms es Q xs ys worse t fs makes same g in (stage a c.0 c.1, es, (c.3, refl), no_worse a ms es c.0 c.1 c.2 c.4 c.5)
+no_worse a (move.Displace p r ∷ ms) es Q xs ys worse (t, fs, (makes, same), g) =
+    let c = carried a (move.Displace p r) ms es Q xs ys worse t fs makes same g in (stage a c.0 c.1, es, (c.3, refl), no_worse a ms es c.0 c.1 c.2 c.4 c.5)
 
 -- a call that begins before a close saw no less than one that begins after it
 opens : (es : List Event) (p : ℕ) (c : Call ℕ) (b a : Bool) → (b ≡ true → a ≡ true) → NoWorse es p (Some (Some (Waiting c (not b)))) (Some (Some (Waiting c (not a))))
@@ -134,9 +136,9 @@ delayed s u m (Begin p c) at makes =
     subst D (sym step.is) (
       stays,
       (
-        stage step.queue (slice_set (slice_set s.calls p x) q o),
+        stage s.at_once step.queue (slice_set (slice_set s.calls p x) q o),
         step.again (slice_set s.calls p x) step.old there (inl refl),
-        λ es ns g. subst (λ (l : List (Option Way)). Goes (stage step.queue l) es ns) (sym swap) (no_worse ns es step.queue (slice_set ys p x) (slice_set ys p y) (worse es) g),
+        λ es ns g. subst (λ (l : List (Option Way)). Goes (stage s.at_once step.queue l) es ns) (sym swap) (no_worse s.at_once ns es step.queue (slice_set ys p x) (slice_set ys p y) (worse es) g),
       ),
     )
 delayed s u m (End p r) at makes =
@@ -153,9 +155,9 @@ delayed s u m (End p r) at makes =
     subst D (sym step.is) (
       stays,
       (
-        stage step.queue (slice_set (slice_set s.calls p None) q o),
+        stage s.at_once step.queue (slice_set (slice_set s.calls p None) q o),
         step.again (slice_set s.calls p None) step.old there (inl refl),
-        λ es ns g. subst (λ (l : List (Option Way)). Goes (stage step.queue l) es ns) (sym swap) g,
+        λ es ns g. subst (λ (l : List (Option Way)). Goes (stage s.at_once step.queue l) es ns) (sym swap) g,
       ),
     )
 
@@ -174,6 +176,8 @@ put_off (move.Part p r ∷ ms) e es s may (t, fs, (makes, same), g) =
     let d = delayed s t (move.Part p r) e may makes in let n = put_off ms e es t d.0 (subst (λ (l : List Event). Goes t l ms) same g) in (move.Part p r ∷ n.0, (d.1.0, es, (d.1.1, refl), d.1.2 es n.0 n.1))
 put_off (move.Arrive p ∷ ms) e es s may (t, fs, (makes, same), g) =
     let d = delayed s t (move.Arrive p) e may makes in let n = put_off ms e es t d.0 (subst (λ (l : List Event). Goes t l ms) same g) in (move.Arrive p ∷ n.0, (d.1.0, es, (d.1.1, refl), d.1.2 es n.0 n.1))
+put_off (move.Displace p r ∷ ms) e es s may (t, fs, (makes, same), g) =
+    let d = delayed s t (move.Displace p r) e may makes in let n = put_off ms e es t d.0 (subst (λ (l : List Event). Goes t l ms) same g) in (move.Displace p r ∷ n.0, (d.1.0, es, (d.1.1, refl), d.1.2 es n.0 n.1))
 
 -- a call that does not end need not see its reply
 pub need_not_see : (s t : Stage) (p : ℕ) (r : Reply ℕ) (es : List Event) (ms : List Move) → Makes s (move.See p r) t → next_reply p es ≡ None → Goes t es ms → Goes s es ms
@@ -184,7 +188,7 @@ need_not_see s t p r es ms (c, b, at, allows, is) none g =
       | inl same ↦ subst (λ (k : ℕ). NoWorse es k (slice_get s.calls k) (slice_get ys k)) (sym same) (inr (inr (r, here, none)))
       | inr ne ↦ inl (sym (set_other s.calls p k (Some (Answered r)) ne))
     ] in
-    no_worse ms es s.queue s.calls ys worse (subst (λ (u : Stage). Goes u es ms) is g)
+    no_worse s.at_once ms es s.queue s.calls ys worse (subst (λ (u : Stage). Goes u es ms) is g)
 
 -- the party's call has this reply, or will get it
 abbrev pub Gets : Stage → ℕ → Reply ℕ → Type 0
@@ -212,7 +216,7 @@ still_gets s t m p r makes gets =
     ])
 
 -- the event is none of the party's, whose call has not ended
-stays_by : (s : Stage) (q p : ℕ) (o : Option Way) (r : Reply ℕ) → p ≢ q → Gets s p r → Gets (stage s.queue (slice_set s.calls q o)) p r
+stays_by : (s : Stage) (q p : ℕ) (o : Option Way) (r : Reply ℕ) → p ≢ q → Gets s p r → Gets (stage s.at_once s.queue (slice_set s.calls q o)) p r
 stays_by s q p o r ne (inl at) = inl (set_other s.calls q p o ne ∙ at)
 stays_by s q p o r ne (inr at) = inr (set_other s.calls q p o ne ∙ at)
 
@@ -247,6 +251,7 @@ gets_next (move.See q y ∷ ms) es s p r x gets next (t, fs, (makes, same), g) =
 gets_next (move.Act q y ∷ ms) es s p r x gets next (t, fs, (makes, same), g) = gets_next ms es t p r x (still_gets s t (move.Act q y) p r makes gets) next (subst (λ (l : List Event). Goes t l ms) same g)
 gets_next (move.Part q y ∷ ms) es s p r x gets next (t, fs, (makes, same), g) = gets_next ms es t p r x (still_gets s t (move.Part q y) p r makes gets) next (subst (λ (l : List Event). Goes t l ms) same g)
 gets_next (move.Arrive q ∷ ms) es s p r x gets next (t, fs, (makes, same), g) = gets_next ms es t p r x (still_gets s t (move.Arrive q) p r makes gets) next (subst (λ (l : List Event). Goes t l ms) same g)
+gets_next (move.Displace q y ∷ ms) es s p r x gets next (t, fs, (makes, same), g) = gets_next ms es t p r x (still_gets s t (move.Displace q y) p r makes gets) next (subst (λ (l : List Event). Goes t l ms) same g)
 
 -- an order without what takes later events
 cut : (es fs : List Event) (s : Stage) (ms : List Move) → Goes s (es ++ fs) ms → (ns : List Move) × Goes s es ns
@@ -262,9 +267,11 @@ cut (e ∷ es) fs s (move.Part p y ∷ ms) (t, gs, (makes, same), g) =
     let r = cut (e ∷ es) fs t ms (subst (λ (x : List Event). Goes t x ms) same g) in (move.Part p y ∷ r.0, (t, e ∷ es, (makes, refl), r.1))
 cut (e ∷ es) fs s (move.Arrive p ∷ ms) (t, gs, (makes, same), g) =
     let r = cut (e ∷ es) fs t ms (subst (λ (x : List Event). Goes t x ms) same g) in (move.Arrive p ∷ r.0, (t, e ∷ es, (makes, refl), r.1))
+cut (e ∷ es) fs s (move.Displace p y ∷ ms) (t, gs, (makes, same), g) =
+    let r = cut (e ∷ es) fs t ms (subst (λ (x : List Event). Goes t x ms) same g) in (move.Displace p y ∷ r.0, (t, e ∷ es, (makes, refl), r.1))
 
 pub beginnings_are_legal : BeginningsAreLegal
-beginnings_are_legal cap parties es fs (ms, g) = cut es fs (opening cap parties) ms g
+beginnings_are_legal rules parties es fs (ms, g) = cut es fs (opening rules parties) ms g
 
 pub moves_may_wait : MovesMayWait
 moves_may_wait s e es ms may g = put_off ms e es s may g

@@ -1,5 +1,5 @@
 -- What a level has of the moves of each party's call, and who survives an event.
-use Rattle.std.proofs.Common.{◌≡◌, ◌∙◌, ◌<◌, ◌≤◌, ◌⊎◌, inl, inr, refl, [], ◌∷◌, ℕ, Bool, true, Option, Some, None, List, ◌++◌, length, get_or, arith, sym, subst, ap, append_assoc}
+use Rattle.std.proofs.Common.{◌≡◌, ◌∙◌, ◌<◌, ◌≤◌, ◌⊎◌, inl, inr, refl, [], ◌∷◌, ℕ, Bool, true, Option, Some, None, List, ◌++◌, false, length, get_or, arith, sym, subst, ap, append_assoc}
 use Rattle.std.specs.Prelude.{Contains, slice_get}
 use Rattle.std.proofs.lemmas.Option.{slice_get_cases, slice_get_read, slice_get_within}
 use Rattle.std.proofs.lemmas.List.Elements.{Contains-append_left}
@@ -30,6 +30,7 @@ all_more xs ys s p o e all = record {
   act = λ r is. has_more xs ys s (move.Act p r) e (all.act r is);
   part = λ r is. has_more xs ys s (move.Part p r) e (all.part r is);
   arrive = has_more xs ys s (move.Arrive p) e all.arrive;
+  displace = λ r is. has_more xs ys s (move.Displace p r) e (all.displace r is);
 }
 
 pub extends_twice : (xs ys zs : List Stage) → Extends xs ys → Extends ys zs → Extends xs zs
@@ -49,7 +50,7 @@ module _ (level : List Stage) (s : Stage) (p : ℕ) (c : Call ℕ) (b : Bool) (a
       (o got : Option (Reply ℕ))
       → ((r : Reply ℕ) → o ≡ Some r → got ≡ Some r)
       → ((r : Reply ℕ) → IsExpected o r → Acts c r s.queue → got ≡ Some r)
-      → ((r : Reply ℕ) → got ≡ Some r → Has level s (move.See p r) × Has level s (move.Act p r) × Has level s (move.Part p r))
+      → ((r : Reply ℕ) → got ≡ Some r → Has level s (move.See p r) × Has level s (move.Act p r) × Has level s (move.Part p r) × Has level s (move.Displace p r))
       → HasAll level s p o
   waits o got sees acts has = record {
     see = λ r is. (has r (sees r is)).0;
@@ -62,6 +63,10 @@ module _ (level : List Stage) (s : Stage) (p : ℕ) (c : Call ℕ) (b : Bool) (a
         let same : m.0 ≡ c = cc in
         (has r (acts r is (inr (m.1, m.2, subst (λ (d : Call ℕ). Tells d r (effect.Front m.1 m.2 ∷ effect.Arrive ∷ [])) same m.4, m.5)))).2 t m;
     arrive = not_half;
+    displace = λ r is t m.
+        let there = m.4 in
+        let same : m.0 ≡ c = cc in
+        (has r (acts r is (inr (m.2, m.3, subst (λ (d : Call ℕ). Tells d r (effect.Front m.2 m.3 ∷ effect.Arrive ∷ [])) same m.5, m.6)))).3 t m;
   }
 
 pub half_done : (level : List Stage) (s : Stage) (p : ℕ) (r : Reply ℕ) (o : Option (Reply ℕ)) → IsAt s p (Halfway r) → Has level s (move.Arrive p) → HasAll level s p o
@@ -70,6 +75,7 @@ half_done level s p x o at arrive = record {
   act = λ r is t m. absurd (let there = m.3 in cc);
   part = λ r is t m. absurd (let there = m.3 in cc);
   arrive = arrive;
+  displace = λ r is t m. absurd (let there = m.4 in cc);
 }
 
 pub is_answered : (level : List Stage) (s : Stage) (p : ℕ) (r : Reply ℕ) (o : Option (Reply ℕ)) → IsAt s p (Answered r) → HasAll level s p o
@@ -78,6 +84,7 @@ is_answered level s p x o at = record {
   act = λ r is t m. absurd (let there = m.3 in cc);
   part = λ r is t m. absurd (let there = m.3 in cc);
   arrive = λ t m. absurd (let there = m.1 in cc);
+  displace = λ r is t m. absurd (let there = m.4 in cc);
 }
 
 -- the party is in no call
@@ -87,7 +94,15 @@ is_between level s p o none = record {
   act = λ r is t m. absurd (none (Waiting m.0 m.1) m.3);
   part = λ r is t m. absurd (none (Waiting m.0 true) m.3);
   arrive = λ t m. absurd (none (Halfway m.0) m.1);
+  displace = λ r is t m. absurd (none (Waiting m.0 m.1) m.4);
 }
+
+-- where a displacement is one step, none is two, and the other way round
+pub no_part : (level : List Stage) (s : Stage) (p : ℕ) (r : Reply ℕ) → s.at_once ≡ true → Has level s (move.Part p r)
+no_part level s p r once t m = absurd (let steps = m.6 in cc)
+
+pub no_displace : (level : List Stage) (s : Stage) (p : ℕ) (r : Reply ℕ) → s.at_once ≡ false → Has level s (move.Displace p r)
+no_displace level s p r steps t m = absurd (let once = m.8 in cc)
 
 -- what is in a list keeps its place when the list grows
 pub stays_there : (xs ys : List Stage) (k : ℕ) (s : Stage) → Extends xs ys → k < length xs → slice_get ys k ≡ Some s → slice_get xs k ≡ Some s
@@ -123,12 +138,20 @@ onward level s t (move.Act p r) es ms all makes g = choose (next_reply p es) ref
 onward level s t (move.Part p r) es ms all makes g = choose (next_reply p es) refl
   where
     gets : Gets t p r
-    gets = inr (subst (λ (u : Stage). IsAt u p (Halfway r)) (sym makes.6) (set_here s.calls p (Some (Waiting makes.0 true)) (Some (Halfway r)) makes.3))
+    gets = inr (subst (λ (u : Stage). IsAt u p (Halfway r)) (sym makes.7) (set_here s.calls p (Some (Waiting makes.0 true)) (Some (Halfway r)) makes.3))
 
     choose : (o : Option (Reply ℕ)) → next_reply p es ≡ o → Contains level t ⊎ Goes s es ms
     choose None none = inl ((all p).part r (subst (λ (o : Option (Reply ℕ)). IsExpected o r) (sym none) tt) t makes)
     choose (Some x) is = inl ((all p).part r (subst (λ (o : Option (Reply ℕ)). IsExpected o r) (sym is) (gets_next ms es t p r x gets is g)) t makes)
 onward level s t (move.Arrive p) es ms all makes g = inl ((all p).arrive t makes)
+onward level s t (move.Displace p r) es ms all makes g = choose (next_reply p es) refl
+  where
+    gets : Gets t p r
+    gets = inl (subst (λ (u : Stage). IsAt u p (Answered r)) (sym makes.9) (set_here s.calls p (Some (Waiting makes.0 makes.1)) (Some (Answered r)) makes.4))
+
+    choose : (o : Option (Reply ℕ)) → next_reply p es ≡ o → Contains level t ⊎ Goes s es ms
+    choose None none = inl ((all p).displace r (subst (λ (o : Option (Reply ℕ)). IsExpected o r) (sym none) tt) t makes)
+    choose (Some x) is = inl ((all p).displace r (subst (λ (o : Option (Reply ℕ)). IsExpected o r) (sym is) (gets_next ms es t p r x gets is g)) t makes)
 
 -- whoever goes on from a stage of the level gets past the event
 module _ (level next : List Stage) (e : Event) (replies : List (Option (Reply ℕ))) (es : List Event) (expects : Expects replies (e ∷ es)) (handles : (s : Stage) → Contains level s → Handles level next e replies s) where
@@ -153,6 +176,7 @@ module _ (level next : List Stage) (e : Event) (replies : List (Option (Reply �
   go_on (move.Act p r ∷ ms) s has (t, fs, (makes, same), g) = step (move.Act p r) ms s t fs (go_on ms) has makes same g (t, fs, (makes, same), g)
   go_on (move.Part p r ∷ ms) s has (t, fs, (makes, same), g) = step (move.Part p r) ms s t fs (go_on ms) has makes same g (t, fs, (makes, same), g)
   go_on (move.Arrive p ∷ ms) s has (t, fs, (makes, same), g) = step (move.Arrive p) ms s t fs (go_on ms) has makes same g (t, fs, (makes, same), g)
+  go_on (move.Displace p r ∷ ms) s has (t, fs, (makes, same), g) = step (move.Displace p r) ms s t fs (go_on ms) has makes same g (t, fs, (makes, same), g)
 
 pub levels_pass : LevelsPass
 levels_pass level next e replies handles es expects (s, ms, has, g) = go_on level next e replies es expects handles ms s has g

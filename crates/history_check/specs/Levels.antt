@@ -11,6 +11,7 @@ use Rattle.history_check.specs.declared.recorded.Event.{Event}
 use Rattle.history_check.specs.declared.recorded.Event.TheVariants.{Begin, End}
 use Rattle.history_check.specs.declared.recorded.Move.{Move}
 use Rattle.history_check.specs.declared.recorded.Move.TheVariants as move
+use Rattle.history_check.specs.declared.recorded.Rules.{Rules}
 use Rattle.history_check.specs.Legal.{Stage, opening, MayRecord, recorded, Makes, Goes, IsLegal}
 
 -- the reply by which the party's next end is recorded
@@ -44,6 +45,7 @@ pub record HasAll (level : List Stage) (s : Stage) (p : ℕ) (o : Option (Reply 
   pub act : (r : Reply ℕ) → IsExpected o r → Has level s (move.Act p r)
   pub part : (r : Reply ℕ) → IsExpected o r → Has level s (move.Part p r)
   pub arrive : Has level s (move.Arrive p)
+  pub displace : (r : Reply ℕ) → IsExpected o r → Has level s (move.Displace p r)
 
 -- the level has each stage to which a call leads from s, if these are the replies of the parties' next ends
 abbrev pub HasEach : List Stage → Stage → List (Option (Reply ℕ)) → Type 0
@@ -82,4 +84,4 @@ Dies level (e ∷ es) =
 
 -- a history whose levels die is not legal
 abbrev pub LevelsRefute : Type 0
-LevelsRefute = (cap : Option ℕ) (parties : ℕ) (es : List Event) (level : List Stage) → Contains level (opening cap parties) → Dies level es → ¬ (IsLegal cap parties es)
+LevelsRefute = (rules : Rules) (parties : ℕ) (es : List Event) (level : List Stage) → Contains level (opening rules parties) → Dies level es → ¬ (IsLegal rules parties es)

@@ -3,7 +3,7 @@ ghost use Rattle.std.specs.Prelude.{◌+◌, ◌-◌, ◌<◌, IfOk, IfSome};
 ghost use Rattle.history_check.specs.Legal.{IsLegal};
 ghost use Rattle.history_check.specs.Verdicts.{AreBounds, IsFound, IsVerdict};
 
-use crate::recorded::{Event, Move};
+use crate::recorded::{Event, Move, Rules};
 use crate::search::{Found, find_order};
 use crate::show::shows;
 use std::alloc::{AllocError, Allocator};
@@ -26,16 +26,16 @@ pub enum Verdict<A: Allocator> {
 /// Where there is no memory.
 pub fn decide<A: Allocator + Copy>(
     alloc: A,
-    cap: Option<usize>,
+    rules: Rules,
     parties: usize,
     events: &[Event],
     most: usize,
 ) -> Result<Verdict<A>, AllocError>
-    ensures { IfOk result (IsVerdict cap parties events.now) }
+    ensures { IfOk result (IsVerdict rules parties events.now) }
 {
-    match examine(alloc, cap, parties, events, most)? {
+    match examine(alloc, rules, parties, events, most)? {
         Found::Order(moves) => Ok(Verdict::Legal(moves)),
-        Found::Nothing(first) => shortest(alloc, cap, parties, events, most, first),
+        Found::Nothing(first) => shortest(alloc, rules, parties, events, most, first),
         Found::TooMany => Ok(Verdict::TooMany),
     }
 }
@@ -43,16 +43,16 @@ pub fn decide<A: Allocator + Copy>(
 // An order that is shown to be one, or that there is none.
 fn examine<A: Allocator + Copy>(
     alloc: A,
-    cap: Option<usize>,
+    rules: Rules,
     parties: usize,
     events: &[Event],
     most: usize,
 ) -> Result<Found<A>, AllocError>
-    ensures { IfOk result (IsFound cap parties events.now) }
+    ensures { IfOk result (IsFound rules parties events.now) }
 {
-    match find_order(alloc, cap, parties, events, most)? {
+    match find_order(alloc, rules, parties, events, most)? {
         Found::Order(moves) => {
-            if shows(alloc, cap, parties, events, &moves)? {
+            if shows(alloc, rules, parties, events, &moves)? {
                 Ok(Found::Order(moves))
             } else {
                 Ok(Found::TooMany)
@@ -74,14 +74,14 @@ struct Bounds {
 #[tactic(auto, using(crate::proofs::Deciding::first_bounds))]
 fn shortest<A: Allocator + Copy>(
     alloc: A,
-    cap: Option<usize>,
+    rules: Rules,
     parties: usize,
     events: &[Event],
     most: usize,
     guess: usize,
 ) -> Result<Verdict<A>, AllocError>
-    requires refuted { IsLegal cap parties events.now → ⊥ }
-    ensures { IfOk result (IsVerdict cap parties events.now) }
+    requires refuted { IsLegal rules parties events.now → ⊥ }
+    ensures { IfOk result (IsVerdict rules parties events.now) }
 {
     let mut bounds = Bounds {
         legal: 0,
@@ -91,7 +91,7 @@ fn shortest<A: Allocator + Copy>(
     let mut step = 1usize;
     'closing: while bounds.not_legal - bounds.legal > 1 {
         let middle = between(bounds, distance);
-        let Some(closer) = narrowed(alloc, cap, parties, events, most, bounds, middle)? else {
+        let Some(closer) = narrowed(alloc, rules, parties, events, most, bounds, middle)? else {
             return Ok(Verdict::TooMany);
         };
         bounds = closer;
@@ -114,19 +114,19 @@ fn between(bounds: Bounds, distance: usize) -> usize
 // The bounds once the beginning of this length between them is examined.
 fn narrowed<A: Allocator + Copy>(
     alloc: A,
-    cap: Option<usize>,
+    rules: Rules,
     parties: usize,
     events: &[Event],
     most: usize,
     bounds: Bounds,
     middle: usize,
 ) -> Result<Option<Bounds>, AllocError>
-    requires bounds { AreBounds cap parties events.now bounds.legal bounds.not_legal }
+    requires bounds { AreBounds rules parties events.now bounds.legal bounds.not_legal }
     requires above { bounds.legal < middle }
     requires below { middle < bounds.not_legal }
-    ensures { IfOk result (λ o. IfSome o (λ closer. AreBounds cap parties events.now closer.legal closer.not_legal × (closer.not_legal - closer.legal < bounds.not_legal - bounds.legal))) }
+    ensures { IfOk result (λ o. IfSome o (λ closer. AreBounds rules parties events.now closer.legal closer.not_legal × (closer.not_legal - closer.legal < bounds.not_legal - bounds.legal))) }
 {
-    match examine(alloc, cap, parties, &events[..middle], most)? {
+    match examine(alloc, rules, parties, &events[..middle], most)? {
         Found::Order(_) => Ok(Some(Bounds {
             legal: middle,
             not_legal: bounds.not_legal,

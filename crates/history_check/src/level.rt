@@ -1,5 +1,6 @@
 //! Stages beside each other, each once, and what moves and events make of them.
 ghost use Rattle.std.specs.Prelude.{◌≡◌, ℕ, Bool, List, [], true, Option, Some, None, Contains, IfOk, IfSome, OnOk, slice_get};
+ghost use Rattle.history_check.specs.declared.recorded.Move.TheVariants as move;
 ghost use Rattle.history_check.specs.declared.recorded.Way.TheVariants.{Waiting};
 ghost use Rattle.history_check.specs.Legal.{Stage as SpecStage, IsAt};
 ghost use Rattle.history_check.specs.Levels.{Has, HasAll, HasEach, Handles, Extends, Passes};
@@ -185,6 +186,26 @@ impl<A: Allocator + Copy> Level<A> {
         self.add(then)
     }
 
+    // Adds what the party's call leads to by a displacement, in two steps or at once.
+    fn follow_displacement(
+        &mut self,
+        alloc: A,
+        trail: &mut Trail<A>,
+        stage: &Stage<A>,
+        party: usize,
+        reply: Reply<u64>,
+    ) -> Result<(), AllocError>
+        ensures part { OnOk result (Has self.new stage.now (move.Part party reply)) }
+        ensures displace { OnOk result (Has self.new stage.now (move.Displace party reply)) }
+        ensures keeps { Extends self.old self.new }
+    {
+        if stage.is_at_once() {
+            self.follow(alloc, trail, stage, Move::Displace(party, reply))
+        } else {
+            self.follow(alloc, trail, stage, Move::Part(party, reply))
+        }
+    }
+
     // Adds what a call leads to that waits, if this is the reply of its party's next end.
     fn spread_waiting(
         &mut self,
@@ -204,7 +225,7 @@ impl<A: Allocator + Copy> Level<A> {
         };
         self.follow(alloc, trail, stage, Move::See(party, reply))?;
         self.follow(alloc, trail, stage, Move::Act(party, reply))?;
-        self.follow(alloc, trail, stage, Move::Part(party, reply))?;
+        self.follow_displacement(alloc, trail, stage, party, reply)?;
         Ok(())
     }
 

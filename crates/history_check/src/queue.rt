@@ -154,6 +154,21 @@ impl<A: Allocator> Queue<A> {
         }
     }
 
+    /// Takes the old front off a full queue that is open and puts the value at its end. Where it may not, the queue is of no use any more.
+    ///
+    /// # Errors
+    ///
+    /// Where there is no memory.
+    pub fn displace(&mut self, old: u64, value: u64) -> Result<bool, AllocError>
+        ensures done { IfOk result (λ yes. yes ≡ true → Fits (effect.Front old value) self.old × (self.old.closed ≡ false) × (self.new ≡ made effect.Arrive (made (effect.Front old value) self.old))) }
+        ensures exact { IfOk result (λ yes. yes ≡ false → Fits (effect.Front old value) self.old × (self.old.closed ≡ false) → ⊥) }
+    {
+        if self.closed || !self.front(old, value) {
+            return Ok(false);
+        }
+        self.arrive()
+    }
+
     // Appends the value, if there is room.
     fn append(&mut self, value: u64) -> Result<bool, AllocError>
         ensures done { IfOk result (λ yes. yes ≡ true → Fits (effect.Append value) self.old × (self.new ≡ made (effect.Append value) self.old)) }

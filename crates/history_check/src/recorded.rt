@@ -1,6 +1,15 @@
 //! What was recorded of calls, and an order of their effects.
 use queue_steps::model::{Call, Reply};
 
+/// The queue that a history is judged by.
+#[derive(Clone, Copy)]
+pub struct Rules {
+    /// Its capacity, if it has one.
+    pub cap: Option<usize>,
+    /// Whether a forced push that displaces is one step. It is in any case where the capacity is 1.
+    pub at_once: bool,
+}
+
 /// What was recorded, in the order of time.
 #[derive(Clone, Copy)]
 pub enum Event {
@@ -34,4 +43,6 @@ pub enum Move {
     Part(usize, Reply<u64>),
     /// The item of the party's call arrives, by the second.
     Arrive(usize),
+    /// The party's call takes the front off a full queue, and its item arrives, at once. It gets this reply.
+    Displace(usize, Reply<u64>),
 }

@@ -4,7 +4,7 @@ ghost use Rattle.history_check.specs.Verdicts.{IsRefuted};
 
 use crate::expected::{expected, go_past, next_event};
 use crate::level::Level;
-use crate::recorded::{Event, Move};
+use crate::recorded::{Event, Move, Rules};
 use crate::stage::Stage;
 use crate::trail::Trail;
 use std::alloc::{AllocError, Allocator};
@@ -27,18 +27,18 @@ pub enum Found<A: Allocator> {
 /// Where there is no memory.
 pub fn find_order<A: Allocator + Copy>(
     alloc: A,
-    cap: Option<usize>,
+    rules: Rules,
     parties: usize,
     events: &[Event],
     most: usize,
 ) -> Result<Found<A>, AllocError>
-    ensures { IfOk result (IsRefuted cap parties events.now) }
+    ensures { IfOk result (IsRefuted rules parties events.now) }
 {
     let mut trail = Trail::new(alloc);
     let mut noted = expected(alloc, events, parties)?;
     let replies = noted.as_mut_slice();
     let mut level = Level::new(alloc);
-    let stage = Stage::new(alloc, cap, parties)?;
+    let stage = Stage::new(alloc, rules, parties)?;
     level.add(stage)?;
     let mut rest = events;
     while let Some((event, others)) = next_event(rest) {

@@ -2,7 +2,7 @@
 ghost use Rattle.std.specs.Prelude.{◌≡◌, true, IfOk};
 ghost use Rattle.history_check.specs.Legal.{IsOrder};
 
-use crate::recorded::{Event, Move};
+use crate::recorded::{Event, Move, Rules};
 use crate::stage::Stage;
 use std::alloc::{AllocError, Allocator};
 
@@ -13,14 +13,14 @@ use std::alloc::{AllocError, Allocator};
 /// Where there is no memory.
 pub fn shows<A: Allocator + Copy>(
     alloc: A,
-    cap: Option<usize>,
+    rules: Rules,
     parties: usize,
     events: &[Event],
     moves: &[Move],
 ) -> Result<bool, AllocError>
-    ensures { IfOk result (λ yes. yes ≡ true → IsOrder cap parties events.now moves.now) }
+    ensures { IfOk result (λ yes. yes ≡ true → IsOrder rules parties events.now moves.now) }
 {
-    let mut stage = Stage::new(alloc, cap, parties)?;
+    let mut stage = Stage::new(alloc, rules, parties)?;
     let mut at = 0;
     for next in moves {
         match stage.take(events, at, *next)? {

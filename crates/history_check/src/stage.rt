@@ -12,18 +12,20 @@ ghost use Rattle.history_check.specs.declared.recorded.Way.TheVariants.{Waiting}
 ghost use Rattle.history_check.specs.declared.recorded.Move.TheVariants as move;
 
 use crate::queue::Queue;
-use crate::recorded::{Event, Move, Way};
+use crate::recorded::{Event, Move, Rules, Way};
 use queue_steps::errors::{ForcePushError, PushError};
 use queue_steps::model::{Call, Effect, Reply};
 use std::alloc::{AllocError, Allocator};
 use std::hash::{FoldHasher, Hasher};
 use std::marker::Model;
 
-/// The queue, and how far the call is that each party is in.
+/// The queue, how far the call is that each party is in, and whether a displacement is one step.
 #[derive(Drop)]
 pub struct Stage<A: Allocator> {
     queue: Queue<A>,
     calls: Vec<Option<Way>, A>,
+    // Whether a displacement is one step.
+    at_once: bool,
     // The last of the moves that led here.
     last: Option<usize>,
 }
@@ -31,7 +33,7 @@ pub struct Stage<A: Allocator> {
 impl<A: Allocator> Model for Stage<A> {
     ghost Value = { SpecStage };
 
-    ghost view = { λ s. record { queue = s.queue; calls = s.calls.items } };
+    ghost view = { λ s. record { queue = s.queue; calls = s.calls.items; at_once = s.at_once } };
 }
 
 /// The one effect of a call that is answered so, if it has one.
@@ -103,13 +105,14 @@ impl<A: Allocator + Copy> Stage<A> {
     /// # Errors
     ///
     /// Where there is no memory.
-    pub fn new(alloc: A, cap: Option<usize>, parties: usize) -> Result<Stage<A>, AllocError>
-        ensures { IfOk result (λ s. s ≡ opening cap parties) }
+    pub fn new(alloc: A, rules: Rules, parties: usize) -> Result<Stage<A>, AllocError>
+        ensures { IfOk result (λ s. s ≡ opening rules parties) }
     {
         let calls = vec![in alloc; None; parties]?;
         Ok(Stage {
-            queue: Queue::new(alloc, cap),
+            queue: Queue::new(alloc, rules.cap),
             calls,
+            at_once: rules.at_once,
             last: None,
         })
     }
@@ -127,6 +130,7 @@ impl<A: Allocator + Copy> Stage<A> {
         Ok(Stage {
             queue,
             calls,
+            at_once: self.at_once,
             last: self.last,
         })
     }
@@ -162,6 +166,13 @@ impl<A: Allocator> Stage<A> {
         }
     }
 
+    /// Whether a displacement is one step.
+    pub fn is_at_once(&self) -> bool
+        ensures { result ≡ self.now.at_once }
+    {
+        self.at_once
+    }
+
     /// The last of the moves that led here, by its place among all that were noted.
     pub fn last(&self) -> Option<usize> {
         self.last
@@ -178,7 +189,9 @@ impl<A: Allocator> Stage<A> {
     pub fn is_same(&self, other: &Stage<A>) -> bool
         ensures { result ≡ true → self.now ≡ other.now }
     {
-        are_same(&self.calls, &other.calls) && self.queue.is_same(&other.queue)
+        self.at_once == other.at_once
+            && are_same(&self.calls, &other.calls)
+            && self.queue.is_same(&other.queue)
     }
 
     /// A hash, which equal stages have in common, and few others.
@@ -279,6 +292,9 @@ impl<A: Allocator> Stage<A> {
         ensures done { IfOk result (λ yes. yes ≡ true → Makes self.old (move.Part party reply) self.new) }
         ensures exact { IfOk result (λ yes. (t : SpecStage) → Makes self.old (move.Part party reply) t → (yes ≡ true) × (t ≡ self.new)) }
     {
+        if self.at_once {
+            return Ok(false);
+        }
         let Some((call, true)) = self.waiting(party) else {
             return Ok(false);
         };
@@ -296,10 +312,33 @@ impl<A: Allocator> Stage<A> {
         ensures done { IfOk result (λ yes. yes ≡ true → Makes self.old (move.Arrive party) self.new) }
         ensures exact { IfOk result (λ yes. (t : SpecStage) → Makes self.old (move.Arrive party) t → (yes ≡ true) × (t ≡ self.new)) }
     {
+        if self.at_once {
+            return Ok(false);
+        }
         let Some(Some(Way::Halfway(reply))) = self.calls.get(party).copied() else {
             return Ok(false);
         };
         if !self.queue.make(Effect::Arrive)? {
+            return Ok(false);
+        }
+        Ok(self.set(party, Some(Way::Answered(reply))))
+    }
+
+    // The party's call takes the front off a full queue that is open, and its item arrives.
+    fn displace(&mut self, party: usize, reply: Reply<u64>) -> Result<bool, AllocError>
+        ensures done { IfOk result (λ yes. yes ≡ true → Makes self.old (move.Displace party reply) self.new) }
+        ensures exact { IfOk result (λ yes. (t : SpecStage) → Makes self.old (move.Displace party reply) t → (yes ≡ true) × (t ≡ self.new)) }
+    {
+        if !self.at_once {
+            return Ok(false);
+        }
+        let Some((call, _)) = self.waiting(party) else {
+            return Ok(false);
+        };
+        let Some((old, value)) = displaced_by(call, reply) else {
+            return Ok(false);
+        };
+        if !self.queue.displace(old, value)? {
             return Ok(false);
         }
         Ok(self.set(party, Some(Way::Answered(reply))))
@@ -320,6 +359,7 @@ impl<A: Allocator> Stage<A> {
             Move::Act(party, reply) => self.act(party, reply),
             Move::Part(party, reply) => self.part(party, reply),
             Move::Arrive(party) => self.arrive(party),
+            Move::Displace(party, reply) => self.displace(party, reply),
         }
     }
 

@@ -67,7 +67,7 @@ module _ (p : ℕ) (flag : Bool) (o : Open ℕ) (Q : State ℕ) (e : Effect ℕ)
         is = (refl, refl, none);
         goes = λ ways es ms at g.
             let there : slice_get ways p ≡ Some (Some (Waiting o.call true)) = subst (λ b. slice_get ways p ≡ Some (Some (Waiting o.call b))) saw_open at in
-            (stage (made e Q) (slice_set ways p (Some (Halfway r))), es, ((o.call, old, v, there, tells, subst (λ x. Fits x Q) is fits, ap (λ x. stage (made x Q) (slice_set ways p (Some (Halfway r)))) is), refl), g);
+            (stage (made e Q) (slice_set ways p (Some (Halfway r))), es, ((o.call, old, v, there, tells, subst (λ x. Fits x Q) is fits, refl, ap (λ x. stage (made x Q) (slice_set ways p (Some (Halfway r)))) is), refl), g);
       }
 
   acts : (r : Reply ℕ) → o.effects ≡ [] → Tells o.call r (e ∷ []) → Was p flag o Q e (Answered r)
@@ -83,7 +83,7 @@ module _ (p : ℕ) (flag : Bool) (o : Open ℕ) (Q : State ℕ) (e : Effect ℕ)
     before = Halfway r;
     move = move.Arrive p;
     is = (old, v, front, tells);
-    goes = λ ways es ms at g. (stage (made e Q) (slice_set ways p (Some (Answered r))), es, ((r, at, subst (λ x. Fits x Q) is fits, ap (λ x. stage (made x Q) (slice_set ways p (Some (Answered r)))) is), refl), g);
+    goes = λ ways es ms at g. (stage (made e Q) (slice_set ways p (Some (Answered r))), es, ((r, at, subst (λ x. Fits x Q) is fits, refl, ap (λ x. stage (made x Q) (slice_set ways p (Some (Answered r)))) is), refl), g);
   }
 
   was : (o' : Open ℕ) (way : Way) → o'.call ≡ o.call → o'.effects ≡ o.effects ++ e ∷ [] → IsWay flag o' way → Was p flag o Q e way

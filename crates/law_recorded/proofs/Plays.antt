@@ -1,5 +1,5 @@
 -- How the calls of a run are played: how far each is in an order of the recorded events, and what one move before makes of that.
-use Rattle.std.proofs.Common.{◌≡◌, ◌≢◌, ◌∙◌, ℕ, ◌<◌, Bool, Option, Some, None, List, [], ◌∷◌, length, sym, subst, inl, inr, arith}
+use Rattle.std.proofs.Common.{◌≡◌, ◌≢◌, ◌∙◌, ℕ, ◌<◌, Bool, false, Option, Some, None, List, [], ◌∷◌, length, sym, subst, inl, inr, arith}
 use Rattle.std.proofs.lemmas.Bool.{cases_eq}
 use Rattle.std.proofs.lemmas.List.{length-set}
 use Rattle.std.proofs.lemmas.Option.{slice_get_cases}
@@ -16,7 +16,7 @@ use Rattle.history_check.specs.Legal.{Stage, Goes}
 use Rattle.history_check.proofs.Moves.{set_here, set_other}
 
 abbrev pub stage : State ℕ → List (Option Way) → Stage
-stage Q ways = record { queue = Q; calls = ways }
+stage Q ways = record { queue = Q; calls = ways; at_once = false }
 
 -- The open call may be so far; the flag is whether the queue was open when it began. A call that will have an effect waits until then, and one that will have none
 -- until the moment that allows its reply. So one that has its reply may end with it.

@@ -4,7 +4,7 @@ use Rattle.std.proofs.lemmas.Bool.{ne_eqb}
 use Rattle.machine_replay.specs.Vocabulary.{Reply, EffectKind, Event, Told, Begin, Step, Skipped, Ran}
 use Rattle.machine_replay.specs.Book.{Book, Run, opening}
 use Rattle.machine_replay.specs.Conforms.{party_of, entries_from, reply_entry, skipped_entry}
-use Rattle.history_check.specs.Legal.{IsLegal}
+use Rattle.history_check.specs.Legal.{in_steps, IsLegal}
 use Rattle.law_recorded.specs.Recorded.{entry, recorded, first_reply, later_replies, is_skipped, later_skipped, told_at, history_from, ReplaysAreLegal}
 use Rattle.law_recorded.proofs.Runs.{runs_are_legal}
 
@@ -97,4 +97,4 @@ shows cap parties n (e ∷ es) (t ∷ ts) b last (mid, happens, run) =
 pub replays_are_legal : {A : Type 0} → ReplaysAreLegal A
 replays_are_legal cap parties events r c =
     let same = ap (λ l. history_from 0 events l r.skipped.items) c.replies ∙ (ap (λ l. history_from 0 events (entries_from reply_entry 0 events c.told) l) c.skipped ∙ shows cap parties 0 events c.told (opening cap) c.last c.run) in
-    subst (IsLegal cap parties) (sym same) (runs_are_legal cap parties events c.told c.last c.run)
+    subst (IsLegal (in_steps cap) parties) (sym same) (runs_are_legal cap parties events c.told c.last c.run)

@@ -5,7 +5,7 @@ use Rattle.machine_replay.specs.Book.{Book, Run, opening}
 use Rattle.machine_replay.specs.Conforms.{Conforms}
 use Rattle.history_check.specs.declared.recorded.Event.{Event as Recorded}
 use Rattle.history_check.specs.declared.recorded.Event.TheVariants as call
-use Rattle.history_check.specs.Legal.{IsLegal}
+use Rattle.history_check.specs.Legal.{in_steps, IsLegal}
 
 -- what is recorded of one event: the beginning of a call, and the reply that ends one. A call without steps begins and ends at once
 abbrev pub entry : Event ℕ → Told ℕ → List Recorded
@@ -21,7 +21,7 @@ recorded _ _ = []
 
 -- the calls of each run, from the empty open queue on, are a legal history
 abbrev pub RunsAreLegal : Type 0
-RunsAreLegal = (cap : Option ℕ) (parties : ℕ) (events : List (Event ℕ)) (told : List (Told ℕ)) (last : Book ℕ) → Run cap parties (opening cap) events told last → IsLegal cap parties (recorded events told)
+RunsAreLegal = (cap : Option ℕ) (parties : ℕ) (events : List (Event ℕ)) (told : List (Told ℕ)) (last : Book ℕ) → Run cap parties (opening cap) events told last → IsLegal (in_steps cap) parties (recorded events told)
 
 -- What the lists of a replay tell of the event n and those behind it: the reply of the event, and whether it was skipped, stand first, and then what is told of those behind it.
 abbrev pub first_reply : ℕ → List (ℕ × ℕ × Reply ℕ) → Option (Reply ℕ)
@@ -55,4 +55,4 @@ history_of events r = history_from 0 events r.replies.items r.skipped.items
 
 -- the calls of each replay that conforms are a legal history
 abbrev pub ReplaysAreLegal : Type 0 → Type 0
-ReplaysAreLegal A = (cap : Option ℕ) (parties : ℕ) (events : List (Event ℕ)) (r : Replay ℕ A) → Conforms cap parties events r → IsLegal cap parties (history_of events r)
+ReplaysAreLegal A = (cap : Option ℕ) (parties : ℕ) (events : List (Event ℕ)) (r : Replay ℕ A) → Conforms cap parties events r → IsLegal (in_steps cap) parties (history_of events r)

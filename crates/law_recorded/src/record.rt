@@ -3,7 +3,7 @@ ghost use Rattle.std.specs.Prelude.{◌≡◌, ◌++◌, ℕ, Option, None, if�
 ghost use Rattle.machine_replay.specs.Conforms.{Conforms, capacity_of};
 ghost use Rattle.machine_replay.specs.Replays.{CanReplay};
 ghost use Rattle.machine_memory.specs.declared.types.Told.TheVariants.{Skipped, Ran};
-ghost use Rattle.history_check.specs.Legal.{IsLegal};
+ghost use Rattle.history_check.specs.Legal.{in_steps, IsLegal};
 ghost use Rattle.law_recorded.specs.Recorded.{entry, first_reply, later_replies, is_skipped, later_skipped, history_of};
 
 use history_check::recorded::Event as Recorded;
@@ -76,7 +76,7 @@ pub fn record<A: Allocator + Copy>(
     replay: &Replay<u64, A>,
 ) -> Result<Vec<Recorded, A>, AllocError>
     ensures exact { IfOk result (λ h. h.items ≡ history_of events.now replay.now) }
-    ensures legal { IfOk result (λ h. (cap : Option ℕ) (parties : ℕ) → Conforms cap parties events.now replay.now → IsLegal cap parties h.items) }
+    ensures legal { IfOk result (λ h. (cap : Option ℕ) (parties : ℕ) → Conforms cap parties events.now replay.now → IsLegal (in_steps cap) parties h.items) }
 {
     let mut history = Vec::new(alloc);
     let mut replies = replay.replies.as_slice();
@@ -107,7 +107,7 @@ pub fn replay_recorded<A: Allocator + Copy>(
     events: &[Event<u64>],
 ) -> Result<Vec<Recorded, A>, AllocError>
     requires { CanReplay kind }
-    ensures { IfOk result (λ h. IsLegal (capacity_of kind) parties h.items) }
+    ensures { IfOk result (λ h. IsLegal (in_steps (capacity_of kind)) parties h.items) }
 {
     let replayed = replay(alloc, kind, parties, Vec::from_slice(alloc, events)?)?;
     record(alloc, events, &replayed)

@@ -5,4 +5,4 @@ use Rattle.history_check.proofs.decide.shortest.Goals as goal
 pub returns : goal.returns
 returns g c =
     let close : c.closing.bounds.not_legal - c.closing.bounds.legal ≤ 1 = c.closing-test.false in
-    last_bounds c.args.cap c.args.parties c.args.events.now c.closing.bounds.legal c.closing.bounds.not_legal c.closing.invariant close
+    last_bounds c.args.rules c.args.parties c.args.events.now c.closing.bounds.legal c.closing.bounds.not_legal c.closing.invariant close

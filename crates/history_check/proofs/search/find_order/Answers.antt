@@ -8,10 +8,10 @@ use Rattle.history_check.proofs.search.find_order.Goals as goal
 
 pub loop-event-init : goal.loop-event-init
 loop-event-init g c =
-    let has : Contains c.add.new.self (opening c.args.cap c.args.parties) = rw c.in_ok-stage.ensures at c.in_ok-add.ensures.has in
+    let has : Contains c.add.new.self (opening c.args.rules c.args.parties) = rw c.in_ok-stage.ensures at c.in_ok-add.ensures.has in
     record {
       expects = rw c.as_mut_slice-replies.ensures.value c.in_ok-noted.ensures;
-      survives = opens c.args.cap c.args.parties c.args.events.now c.add.new.self has;
+      survives = opens c.args.rules c.args.parties c.args.events.now c.add.new.self has;
     }
 
 pub go_past-requires : goal.go_past-requires

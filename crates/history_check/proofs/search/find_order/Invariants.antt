@@ -6,7 +6,7 @@ use Rattle.history_check.proofs.search.find_order.Given as goal
 abbrev pub invariant-loop-event : goal.invariant-loop-event
 invariant-loop-event g l = record {
   expects : Expects l.replies l.rest;
-  survives : IsLegal l.fn.cap l.fn.parties l.events → Survives l.level l.rest;
+  survives : IsLegal l.fn.rules l.fn.parties l.events → Survives l.level l.rest;
 }
 
 abbrev pub decreases-loop-event : goal.decreases-loop-event

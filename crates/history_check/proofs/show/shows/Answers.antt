@@ -9,7 +9,7 @@ use Rattle.std.proofs.lemmas.Bool.Decides.{nat_tests}
 use Rattle.history_check.proofs.show.shows.Goals as goal
 
 pub loop-next-init : goal.loop-next-init
-loop-next-init g c = let P : Stage → Type 0 = λ s. Goes s c.args.events.now c.args.moves.now → Goes (opening c.args.cap c.args.parties) c.args.events.now c.args.moves.now in subst P (sym c.in_ok-stage.ensures) (λ h. h)
+loop-next-init g c = let P : Stage → Type 0 = λ s. Goes s c.args.events.now c.args.moves.now → Goes (opening c.args.rules c.args.parties) c.args.events.now c.args.moves.now in subst P (sym c.in_ok-stage.ensures) (λ h. h)
 
 pub loop-next-preserved : goal.loop-next-preserved
 loop-next-preserved g c =

@@ -18,10 +18,10 @@ returns-clause-has g c =
     let x : Reply ℕ = c.in-Some.reply in
     let one : List SpecStage = c.follow.new.self in
     let two : List SpecStage = c.follow-2.new.self in
-    let three : List SpecStage = c.follow-3.new.self in
-    let then : Extends two three = c.follow-3.ensures.keeps in
+    let three : List SpecStage = c.follow_displacement.new.self in
+    let then : Extends two three = c.follow_displacement.ensures.keeps in
     let w = c.requires.waits in
     let see : Has three s (move.See p x) = has_more two three s (move.See p x) then (has_more one two s (move.See p x) c.follow-2.ensures.keeps c.in_ok-follow.ensures.has) in
     let act : Has three s (move.Act p x) = has_more two three s (move.Act p x) then c.in_ok-follow-2.ensures.has in
-    let H : Reply ℕ → Type 0 = λ r. Has three s (move.See p r) × Has three s (move.Act p r) × Has three s (move.Part p r) in
-    waits three s p c.args.call w.0 w.1 c.args.expected c.reply_to.result c.reply_to.ensures.recorded c.reply_to.ensures.acts (λ r is. let same : x ≡ r = let got = c.in-Some.is in cc in subst H same (see, act, c.in_ok-follow-3.ensures.has))
+    let H : Reply ℕ → Type 0 = λ r. Has three s (move.See p r) × Has three s (move.Act p r) × Has three s (move.Part p r) × Has three s (move.Displace p r) in
+    waits three s p c.args.call w.0 w.1 c.args.expected c.reply_to.result c.reply_to.ensures.recorded c.reply_to.ensures.acts (λ r is. let same : x ≡ r = let got = c.in-Some.is in cc in subst H same (see, act, c.in_ok-follow_displacement.ensures.part, c.in_ok-follow_displacement.ensures.displace))

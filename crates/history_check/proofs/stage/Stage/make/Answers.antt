@@ -15,3 +15,6 @@ returns-in-Part-clause-exact g c = let P : Move → Type 0 = λ m. IfOk c.part.r
 
 pub returns-in-Arrive-clause-exact : goal.returns-in-Arrive-clause-exact
 returns-in-Arrive-clause-exact g c = let P : Move → Type 0 = λ m. IfOk c.arrive.result (λ yes. (t : SpecStage) → Makes c.args.self.now m t → (yes ≡ true) × (t ≡ c.arrive.new.self)) in subst P (sym c.in-Arrive.is) c.arrive.ensures.exact
+
+pub returns-in-Displace-clause-exact : goal.returns-in-Displace-clause-exact
+returns-in-Displace-clause-exact g c = let P : Move → Type 0 = λ m. IfOk c.displace.result (λ yes. (t : SpecStage) → Makes c.args.self.now m t → (yes ≡ true) × (t ≡ c.displace.new.self)) in subst P (sym c.in-Displace.is) c.displace.ensures.exact
