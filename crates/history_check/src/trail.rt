@@ -18,7 +18,7 @@ pub struct Trail<A: Allocator> {
 }
 
 /// How many moves are noted, at least, before those that led nowhere are forgotten.
-const ROOM: usize = 1_000_000;
+const ROOM: usize = 1_000;
 
 impl<A: Allocator + Copy> Trail<A> {
     /// None so far.
