@@ -1,37 +1,23 @@
 //! An end that waits in a future takes next to no processor time.
 ghost use Rattle.std.specs.Prelude.{◌≡◌, None};
 
-use crate::asserts::is_in;
 use crate::opening::{incoming, opened, outgoing};
 use channel_futures::{Disconnected, Incoming, Outgoing, Receiver, SendError, Sender};
 use futures::executor::block_on;
 use std::alloc::AllocGlobal;
-use std::fs;
 use std::process::Abort;
 use std::random::RandomSource;
 use std::sync::Wait;
 use std::thread::{join, sleep};
 use std::time::Duration;
+use test_support::asserts::is_in;
+use test_support::watched::time_of_all;
 
 /// How many hundredths of a second of processor time a wait of a second may take.
 const MOST: u64 = 1;
 
 /// Another thread waits for this long before it acts.
 const PAUSE: u64 = 1;
-
-/// A number in a text, after so many fields.
-fn field(text: &str, after: usize) -> u64 {
-    match text.split(' ').nth(after) {
-        Some(field) => field.parse().unwrap_or(0),
-        None => 0,
-    }
-}
-
-/// How many hundredths of a second of processor time this process had.
-fn spent(rt: &impl Abort, host: &HostRuntime) -> u64 {
-    let text = fs::read_to_string(host, "/proc/self/stat").expect(rt, "a text of the system");
-    field(&text, 13).wrapping_add(field(&text, 14))
-}
 
 /// Receives one item in a future.
 fn receive<R: Wait + RandomSource + AllocGlobal + Abort>(
@@ -76,9 +62,9 @@ fn receive_late<R: Wait>(
 fn an_idle_receiver_takes_no_processor_time(rt: HostRuntime) {
     let (sender, receiver) = opened(&rt, Some(2));
     let stream = incoming(&rt, receiver);
-    let before = spent(&rt, &rt);
+    let before = time_of_all(&rt);
     let (came, sent) = join(&rt, || receive(&rt, stream), || send_late(&rt, &rt, sender));
-    let spent = spent(&rt, &rt).wrapping_sub(before);
+    let spent = time_of_all(&rt).wrapping_sub(before);
     is_in(
         &rt,
         spent,
@@ -92,7 +78,7 @@ fn an_idle_sender_takes_no_processor_time(rt: HostRuntime) {
     let (mut sender, receiver) = opened(&rt, Some(1));
     is_in(&rt, 1, sender.send(&rt, 1), Ok(()));
     let sink = outgoing(&rt, sender);
-    let before = spent(&rt, &rt);
+    let before = time_of_all(&rt);
     let (sent, (came, _receiver)) = join(
         &rt,
         || -> Result<(), SendError<u64>>
@@ -100,7 +86,7 @@ fn an_idle_sender_takes_no_processor_time(rt: HostRuntime) {
         { send(&rt, sink) },
         || receive_late(&rt, &rt, receiver),
     );
-    let spent = spent(&rt, &rt).wrapping_sub(before);
+    let spent = time_of_all(&rt).wrapping_sub(before);
     is_in(
         &rt,
         spent,

@@ -1,5 +1,4 @@
 //! Runs of calls. Scripts show those on a queue whose replies have room.
-use crate::asserts::is;
 use crate::owner::made::{Made, open};
 use app_text::lines::Line;
 use app_text::replies::ReplyText;
@@ -8,6 +7,7 @@ use queue_steps::model::{Call, Reply};
 use std::alloc::Global;
 use std::process::Abort;
 use test_support::allocators::{Heap, Refusal};
+use test_support::asserts::is;
 use test_support::items::{Counted, Items};
 
 /// What a run of these calls is answered, both as the explorer has them. Asserts that there is memory.

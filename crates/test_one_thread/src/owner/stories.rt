@@ -1,5 +1,4 @@
 //! Stories that no script shows: requests that are counted and refused, and queues that stand as after many items.
-use crate::asserts::is_in;
 use crate::owner::made::{Made, open};
 use crate::owner::runs::told;
 use exclusive_queue::Exclusive;
@@ -7,6 +6,7 @@ use queue_steps::sizes::LIMIT;
 use std::alloc::Global;
 use std::process::Abort;
 use test_support::allocators::{Heap, Refusal};
+use test_support::asserts::is_in;
 
 /// A story of a queue.
 #[derive(Clone, Copy)]
