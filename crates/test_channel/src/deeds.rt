@@ -1,6 +1,8 @@
 //! What an end of a channel does, by a word for each call, and what it is answered, as that is printed for debugging.
 ghost use Rattle.counted_channel.specs.Channel.{IsEndOf};
 
+use crate::asserts::is;
+use crate::host::Host;
 use crate::opening::one_more;
 use channel_handle::{Handle, PopError, PushError, Receiver, Sender};
 use counted_channel::{Channel, ChannelEnd};
@@ -9,8 +11,6 @@ use std::fmt::Debug;
 use std::process::Abort;
 use std::sync::Wait;
 use std::time::{Duration, Instant};
-use test_support::asserts::is;
-use test_support::host::Host;
 
 /// What is sent where no number is told.
 const ITEM: u64 = 7;

@@ -1,12 +1,12 @@
 //! Ends that become one again, and what is left of a channel whose ends have ended.
 ghost use Rattle.std.specs.Prelude.{◌≡◌};
 
+use crate::asserts::{is, is_in};
+use crate::host::Host;
 use crate::opening::{one_more, opened_surely};
 use channel_handle::{Ended, Exclusive, Handle, PopError, Receiver, Sender, Unfinished};
 use counted_channel::ChannelEnd;
 use std::process::Abort;
-use test_support::asserts::{is, is_in};
-use test_support::host::Host;
 
 static CAPACITIES: [Option<usize>; 3] = [Some(1), Some(3), None];
 

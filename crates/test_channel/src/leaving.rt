@@ -1,8 +1,8 @@
 //! The ways in which an end comes to be dropped.
+use crate::host::Host;
 use std::alloc::AllocError;
 use std::io;
 use std::thread::Builder;
-use test_support::host::Host;
 
 /// How an end comes to be dropped.
 #[derive(Clone, Copy, Debug)]

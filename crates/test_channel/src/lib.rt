@@ -2,6 +2,8 @@
 #![tactic(auto)]
 
 #[cfg(test)]
+mod asserts;
+#[cfg(test)]
 mod deeds;
 #[cfg(test)]
 mod dropped;
@@ -9,6 +11,8 @@ mod dropped;
 mod ended;
 #[cfg(test)]
 mod falling;
+#[cfg(test)]
+mod host;
 #[cfg(test)]
 mod idle;
 #[cfg(test)]

@@ -2,12 +2,12 @@
 ghost use Rattle.concurrent_queue.specs.Shared.{IsPartyOf};
 ghost use Rattle.counted_channel.specs.Channel.{IsEndOf};
 
+use crate::asserts::is_in;
+use crate::host::Host;
 use crate::opening::{opened_by_hand, two};
 use concurrent_queue::Party;
 use counted_channel::{Channel, ChannelEnd};
 use std::process::Abort;
-use test_support::asserts::is_in;
-use test_support::host::Host;
 
 /// When an end of each side that are parted off end: before those that are parted off later, or after them.
 enum Turn {

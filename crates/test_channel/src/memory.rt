@@ -2,6 +2,8 @@
 ghost use Rattle.concurrent_queue.specs.Shared.{IsPartyOf};
 ghost use Rattle.counted_channel.specs.Channel.{IsEndOf};
 
+use crate::asserts::{is, is_in};
+use crate::host::Host;
 use crate::opening::{opened, opened_surely};
 use crate::queues::open_surely;
 use channel_handle::{PopError, Receiver, SendError, Sender};
@@ -11,8 +13,6 @@ use std::alloc::Global;
 use std::sync::Wait;
 use std::thread::join;
 use test_support::allocators::{Heap, Refusal};
-use test_support::asserts::{is, is_in};
-use test_support::host::Host;
 use test_support::items::{Counted, Items};
 
 /// Whether a channel was made, the item that its queue has still, and whether that has one owner again. Then nothing of the channel is left but the queue.

@@ -1,11 +1,11 @@
 //! What one thread is answered.
+use crate::asserts::is;
 use crate::stories::{Told, tell_all};
 use channel_handle::{Disconnected, SendError};
 use std::alloc::Global;
 use std::fmt::{Debug, Display};
 use std::io;
 use std::io::ErrorKind;
-use test_support::asserts::is;
 
 static STORIES: [&str; 16] = [
     "what was sent comes before the end: 2

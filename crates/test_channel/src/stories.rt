@@ -10,7 +10,9 @@
 //! - `sees X` waits until X sleeps, `pause 60` for so many milliseconds, `meet` until another end comes to meet this one. `pass` passes some time, which is another one in each round.
 //!
 //! A story is told on one thread, line by line, or on a thread for each end. An end that neither ends nor leaves is there until all have done their deeds.
+use crate::asserts::is_in;
 use crate::deeds::{AnyEnd, said};
+use crate::host::Host;
 use crate::leaving::{WAYS, Way, let_go};
 use crate::opening::opened_surely;
 use std::process::Abort;
@@ -18,8 +20,6 @@ use std::sync::atomic::AtomicU64;
 use std::sync::atomic::Ordering::SeqCst;
 use std::thread::{join, sleep, yield_now};
 use std::time::Duration;
-use test_support::asserts::is_in;
-use test_support::host::Host;
 use test_support::watched::{Watched, time};
 
 /// How many hundredths of a second of processor time an idle call may take.
@@ -163,9 +163,9 @@ fn call<R: Host>(rt: &R, stage: &Stage, end: &mut Option<AnyEnd>, line: &str, de
 
 /// Makes a call. Asserts that it takes next to no processor time.
 fn idle<R: Host>(rt: &R, stage: &Stage, end: &mut Option<AnyEnd>, line: &str, deed: &str) {
-    let before = time(rt);
+    let before = time(rt).expect(rt, "the time so far");
     call(rt, stage, end, line, deed);
-    let spent = time(rt).wrapping_sub(before);
+    let spent = time(rt).expect(rt, "the time since").wrapping_sub(before);
     is_in(rt, (stage.story, line, spent), spent <= MOST, true);
 }
 

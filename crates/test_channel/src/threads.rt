@@ -2,12 +2,12 @@
 ghost use Rattle.concurrent_queue.specs.Shared.{IsPartyOf};
 ghost use Rattle.counted_channel.specs.Channel.{IsEndOf};
 
+use crate::asserts::is;
 use crate::opening::{opened_by_hand, two};
 use concurrent_queue::Party;
 use counted_channel::{Channel, Receiver, SendError, Sender};
 use std::sync::Wait;
 use std::thread::{Threads, join};
-use test_support::asserts::is;
 
 /// Sends 0, 1, .. up to 99, and ends. Gives its party, how many were sent, and whether each other one was answered that the channel is closed.
 fn send_hundred<R: Wait>(

@@ -1,9 +1,9 @@
 //! Two threads hand a number to and fro over two channels, and each sleeps until it comes.
+use crate::asserts::is;
+use crate::host::Host;
 use crate::opening::opened_surely;
 use channel_handle::{Receiver, Sender};
 use std::thread::join;
-use test_support::asserts::is;
-use test_support::host::Host;
 use test_support::watched::Watched;
 
 /// How many numbers go there and back.

@@ -1,10 +1,10 @@
 //! Programs with just as many states as may be looked at, and one more.
+use crate::asserts::is_in;
 use app_explore::args::parse_request;
 use app_explore::command::told;
 use app_explore::faults::Stop;
 use std::alloc::Global;
 use std::process::Abort;
-use test_support::asserts::is_in;
 use test_support::runs::words;
 
 /// A program with waits, and how many states it has: `bench/outcomes --states` counts them.

@@ -1,6 +1,7 @@
 //! What a walk found, changed in one place, is not shown. No program is known for which a walk finds such a thing, so `queue_explore` is not known to end with `not shown`.
 ghost use Rattle.machine_replay.specs.Replays.{CanReplay};
 
+use crate::asserts::is_in;
 use app_explore::limits::MOST_STATES;
 use app_explore::listed::{Listed, sorted_by_text};
 use app_explore::reading::read_program;
@@ -16,7 +17,6 @@ use machine_explore::shown::ShownOutcome;
 use queue_steps::steps::Kind;
 use std::alloc::Global;
 use std::process::Abort;
-use test_support::asserts::is_in;
 
 /// Two outcomes: the pop is before the push, or after it.
 const PROGRAM: &str = "0: pop\n1: push 1\n";

@@ -1,10 +1,10 @@
 //! The arguments as the system gives them.
+use crate::asserts::is_in;
 use app_explore::program::program;
 use std::env::Args;
 use std::io;
 use std::io::ErrorKind;
 use std::process::ExitCode;
-use test_support::asserts::is_in;
 use test_support::runs::words;
 
 /// An input of two parties.

@@ -1,6 +1,7 @@
 //! Programs with many parties, calls, slots or items: what is found of each is shown, and is all.
 ghost use Rattle.machine_replay.specs.Replays.{CanReplay};
 
+use crate::asserts::is_in;
 use app_explore::limits::MOST_STATES;
 use app_explore::listed::{Listed, are_in_order};
 use app_explore::listing::list_outcomes;
@@ -13,7 +14,6 @@ use queue_steps::model::Call;
 use queue_steps::steps::Kind;
 use std::alloc::Global;
 use std::process::Abort;
-use test_support::asserts::is_in;
 
 /// So many times the same call.
 fn calls(rt: &impl Abort, alloc: Global, call: Call<u64>, count: usize) -> Calls<Global> {

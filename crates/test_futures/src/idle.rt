@@ -1,6 +1,7 @@
 //! An end that waits in a future takes next to no processor time.
 ghost use Rattle.std.specs.Prelude.{◌≡◌, None};
 
+use crate::asserts::is_in;
 use crate::opening::{incoming, opened, outgoing};
 use channel_futures::{Disconnected, Incoming, Outgoing, Receiver, SendError, Sender};
 use futures::executor::block_on;
@@ -10,7 +11,6 @@ use std::random::RandomSource;
 use std::sync::Wait;
 use std::thread::{join, sleep};
 use std::time::Duration;
-use test_support::asserts::is_in;
 use test_support::watched::time_of_all;
 
 /// How many hundredths of a second of processor time a wait of a second may take.
@@ -62,9 +62,11 @@ fn receive_late<R: Wait>(
 fn an_idle_receiver_takes_no_processor_time(rt: HostRuntime) {
     let (sender, receiver) = opened(&rt, Some(2));
     let stream = incoming(&rt, receiver);
-    let before = time_of_all(&rt);
+    let before = time_of_all(&rt).expect(&rt, "the time so far");
     let (came, sent) = join(&rt, || receive(&rt, stream), || send_late(&rt, &rt, sender));
-    let spent = time_of_all(&rt).wrapping_sub(before);
+    let spent = time_of_all(&rt)
+        .expect(&rt, "the time since")
+        .wrapping_sub(before);
     is_in(
         &rt,
         spent,
@@ -78,7 +80,7 @@ fn an_idle_sender_takes_no_processor_time(rt: HostRuntime) {
     let (mut sender, receiver) = opened(&rt, Some(1));
     is_in(&rt, 1, sender.send(&rt, 1), Ok(()));
     let sink = outgoing(&rt, sender);
-    let before = time_of_all(&rt);
+    let before = time_of_all(&rt).expect(&rt, "the time so far");
     let (sent, (came, _receiver)) = join(
         &rt,
         || -> Result<(), SendError<u64>>
@@ -86,7 +88,9 @@ fn an_idle_sender_takes_no_processor_time(rt: HostRuntime) {
         { send(&rt, sink) },
         || receive_late(&rt, &rt, receiver),
     );
-    let spent = time_of_all(&rt).wrapping_sub(before);
+    let spent = time_of_all(&rt)
+        .expect(&rt, "the time since")
+        .wrapping_sub(before);
     is_in(
         &rt,
         spent,

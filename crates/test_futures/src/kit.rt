@@ -1,9 +1,9 @@
 //! The kit's combinators over ends in futures.
+use crate::asserts::is_in;
 use crate::opening::{CAPACITIES, incoming, opened, outgoing};
 use channel_futures::SendError;
 use futures::executor::block_on;
 use futures::{FutureExt, StreamExt, future, stream};
-use test_support::asserts::is_in;
 
 static VALUES: [u64; 8] = [3, 1, 4, 1, 5, 9, 2, 6];
 

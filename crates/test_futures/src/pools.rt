@@ -1,4 +1,5 @@
 //! Tasks on one thread and on four, also beside threads: each number comes once, and all ends.
+use crate::asserts::is_in;
 use crate::opening::{CAPACITIES, incoming, opened, outgoing};
 use crate::tasks::{Came, Sends, Task, Work};
 use channel_futures::{Incoming, Receiver, Sender};
@@ -10,7 +11,6 @@ use std::process::Abort;
 use std::random::RandomSource;
 use std::sync::{Arc, Wait};
 use std::thread::{Threads, join};
-use test_support::asserts::is_in;
 
 /// How many tasks send, and how many receive.
 const TASKS: u64 = 4;

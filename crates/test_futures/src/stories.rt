@@ -1,6 +1,7 @@
 //! Futures that are polled by hand: what wakes them, and what becomes of one that is dropped.
 ghost use Rattle.std.specs.Prelude.{◌≡◌, None};
 
+use crate::asserts::is_in;
 use crate::opening::{CAPACITIES, incoming, opened, outgoing};
 use channel_futures::{Disconnected, Incoming, Outgoing, Receiver, SendError, Sender};
 use futures::Future;
@@ -10,7 +11,6 @@ use std::alloc::AllocGlobal;
 use std::process::Abort;
 use std::random::RandomSource;
 use std::sync::Wait;
-use test_support::asserts::is_in;
 
 /// A receiver in a future, with the task that polls it.
 #[derive(Drop)]

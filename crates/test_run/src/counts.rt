@@ -1,8 +1,8 @@
 //! Counts that are wrong, as no run of the program has them.
+use crate::asserts::is_in;
 use app_threads::counts::{Finding, count, judge, none_counted};
 use app_threads::verdict::Verdict;
 use std::process::Abort;
-use test_support::asserts::is_in;
 
 /// How often each of three values came, of these values.
 fn counts_of<R: Abort + AllocGlobal>(rt: &R, values: &[u64]) -> [u64; 3] {

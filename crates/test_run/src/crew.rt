@@ -2,6 +2,7 @@
 ghost use Rattle.std.specs.Prelude.{◌≡◌, ◌<◌, ◌+◌, ◌*◌, ◌^◌, true, IfOk};
 ghost use Rattle.concurrent_queue.specs.Shared.{IsPartyOf};
 
+use crate::asserts::is_in;
 use app_threads::counts::judge;
 use app_threads::crew::{Plan, WorkResult, run_all};
 use app_threads::limit::NO_LIMIT;
@@ -12,7 +13,6 @@ use std::process::Abort;
 use std::sync::Wait;
 use std::thread::{Threads, join, yield_now};
 use test_support::allocators::{Heap, Refusal};
-use test_support::asserts::is_in;
 
 /// A queue that asks such a heap for its memory.
 pub type Queue<'a> = ConcurrentQueue<u64, &'a Heap>;

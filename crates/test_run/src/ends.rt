@@ -3,6 +3,7 @@ ghost use Rattle.std.specs.Prelude.{◌≡◌};
 ghost use Rattle.std.specs.Option.{IfSome};
 ghost use Rattle.counted_channel.specs.Channel.{IsEndOf};
 
+use crate::asserts::is_in;
 use crate::crew::{IDLE, PUSHER, Row, are_few, open};
 use app_threads::counts::{Finding, judge};
 use app_threads::crew::WorkResult;
@@ -12,7 +13,6 @@ use std::process::Abort;
 use std::sync::Wait;
 use std::thread::Threads;
 use test_support::allocators::{Heap, Refusal};
-use test_support::asserts::is_in;
 
 static ROWS: [Row; 4] = [
     // While one thread's send waits for the first block, another thread's send asks for it too. On one thread no other call is made before that send is answered.

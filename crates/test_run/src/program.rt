@@ -1,9 +1,9 @@
 //! The arguments as the system gives them.
+use crate::asserts::is_in;
 use app_command::program::program;
 use std::env::Args;
 use std::io;
 use std::io::ErrorKind;
-use test_support::asserts::is_in;
 use test_support::runs::{End, words};
 
 /// An input of one line.

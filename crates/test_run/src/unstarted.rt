@@ -1,4 +1,5 @@
 //! Threads that cannot be started: those that were started end, and the run ends as one without memory.
+use crate::asserts::is_in;
 use app_text::args::{Mode, parse_mode};
 use app_text::faults::Fault;
 use app_threads::channel::channel;
@@ -9,7 +10,6 @@ use app_threads::threads::threads;
 use std::process::Abort;
 use std::sync::Wait;
 use std::thread::Threads;
-use test_support::asserts::is_in;
 use test_support::runs::words;
 
 /// Runs the mode that a line asks for, where no more threads can be started than the limit says.

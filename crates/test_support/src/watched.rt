@@ -1,15 +1,28 @@
 //! What the system reports of a thread: its number, whether it sleeps, and how much processor time it had.
-use crate::host::Host;
+use std::alloc::AllocGlobal;
+use std::fs;
 use std::sync::atomic::AtomicU64;
 use std::sync::atomic::Ordering::SeqCst;
 use std::thread::sleep;
-use std::time::Duration;
+use std::time::{Clock, Duration};
 
 /// How often a thread is looked at before it is taken to be awake for ever.
 const LOOKS: u64 = 5_000;
 
 /// How many microseconds there are between two looks.
 const PAUSE: u64 = 100;
+
+/// What reads texts of the system, by their paths.
+pub trait System {
+    /// The text of this path, where it can be read.
+    fn text(&self, path: &str) -> Option<String>;
+}
+
+impl System for HostRuntime {
+    fn text(&self, path: &str) -> Option<String> {
+        fs::read_to_string(self, path).ok()
+    }
+}
 
 /// A thread that others look at.
 #[derive(Drop)]
@@ -26,8 +39,9 @@ impl Watched {
     }
 
     /// The thread that calls this is looked at from now on.
-    pub fn enter<R: Host>(&self, rt: &R) {
-        self.number.store(field(&read(rt, OWN), 0), SeqCst);
+    pub fn enter<R: System>(&self, rt: &R) {
+        let number = rt.text(OWN).and_then(|text| field(&text, 0));
+        self.number.store(number.unwrap_or(0), SeqCst);
     }
 
     /// No thread is looked at from now on.
@@ -36,19 +50,22 @@ impl Watched {
     }
 
     /// Whether it sleeps.
-    fn sleeps<R: Host>(&self, rt: &R) -> bool {
+    fn sleeps<R: System + AllocGlobal>(&self, rt: &R) -> bool {
         let number = self.number.load(SeqCst);
         if number == 0 {
             return false;
         }
-        match format!(in rt.alloc(); "/proc/self/task/{number}/status") {
-            Ok(path) => read(rt, &path).contains("State:\tS"),
-            Err(_) => false,
+        let Ok(path) = format!(in rt.alloc(); "/proc/self/task/{number}/status") else {
+            return false;
+        };
+        match rt.text(&path) {
+            Some(text) => text.contains("State:\tS"),
+            None => false,
         }
     }
 
     /// Whether it is seen asleep.
-    pub fn is_seen_asleep<R: Host>(&self, rt: &R) -> bool {
+    pub fn is_seen_asleep<R: System + AllocGlobal + Clock>(&self, rt: &R) -> bool {
         for _ in 0..LOOKS {
             if self.sleeps(rt) {
                 return true;
@@ -59,40 +76,31 @@ impl Watched {
     }
 }
 
-/// Where the system tells of the thread that asks.
+/// Where the system reports of the thread that asks.
 const OWN: &str = "/proc/thread-self/stat";
 
-/// Where it tells of the process.
+/// Where it reports of the process.
 const ALL: &str = "/proc/self/stat";
 
-/// How much processor time this thread had, in hundredths of a second.
-pub fn time<R: Host>(rt: &R) -> u64 {
+/// How much processor time this thread had, in hundredths of a second, where the system reports it.
+pub fn time<R: System>(rt: &R) -> Option<u64> {
     time_at(rt, OWN)
 }
 
-/// How much processor time all threads of the process had, in hundredths of a second.
-pub fn time_of_all<R: Host>(rt: &R) -> u64 {
+/// How much processor time all threads of the process had, in hundredths of a second, where the system reports it.
+pub fn time_of_all<R: System>(rt: &R) -> Option<u64> {
     time_at(rt, ALL)
 }
 
-/// The processor time that a text of the system tells.
-fn time_at<R: Host>(rt: &R, path: &str) -> u64 {
-    let text = read(rt, path);
-    field(&text, 13).wrapping_add(field(&text, 14))
-}
-
-/// A text of the system. Asserts that it can be read.
-fn read<R: Host>(rt: &R, path: &str) -> String {
-    match rt.text(path) {
-        Some(text) => text,
-        None => panic!(rt; "a text of the system"),
-    }
+/// The processor time that a text of the system reports.
+fn time_at<R: System>(rt: &R, path: &str) -> Option<u64> {
+    let text = rt.text(path)?;
+    let own = field(&text, 13)?;
+    let system = field(&text, 14)?;
+    Some(own.wrapping_add(system))
 }
 
 /// A number in a text, after so many fields.
-fn field(text: &str, after: usize) -> u64 {
-    match text.split(' ').nth(after) {
-        Some(field) => field.parse().unwrap_or(0),
-        None => 0,
-    }
+fn field(text: &str, after: usize) -> Option<u64> {
+    text.split(' ').nth(after)?.parse().ok()
 }

@@ -2,6 +2,10 @@
 #![tactic(auto)]
 
 #[cfg(test)]
+mod asserts;
+#[cfg(test)]
 mod blocks;
+#[cfg(test)]
+mod host;
 #[cfg(test)]
 mod sleep;

@@ -1,9 +1,9 @@
 //! The callers of shared queues and of channels that the pages show, run on threads.
+use crate::asserts::{is, is_in};
 use crate::opening::open_surely;
 use callers::channel::{gather, hand_through};
 use callers::parties::{closed_by_many, hand_over, hand_to_many, through_a_shared_slot};
 use counted_channel::Disconnected;
-use test_support::asserts::{is, is_in};
 
 #[test]
 fn handed_over(rt: HostRuntime) {

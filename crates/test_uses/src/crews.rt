@@ -2,6 +2,7 @@
 ghost use Rattle.std.specs.Prelude.{⊤, ◌≡◌};
 ghost use Rattle.concurrent_queue.specs.Shared.{IsPartyOf};
 
+use crate::asserts::{is, is_in};
 use crate::opening::open_surely;
 use concurrent_queue::{ConcurrentQueue, Exclusive, Party};
 use queue_crew::{Gathered, Limit, NO_LIMIT, OnRefusal, Roster, Shift, run_shift};
@@ -9,7 +10,6 @@ use std::alloc::Global;
 use std::process::Abort;
 use std::sync::Wait;
 use std::thread::Threads;
-use test_support::asserts::{is, is_in};
 
 /// Each thread pushes its number.
 struct Signing;

@@ -1,5 +1,5 @@
 //! Jobs are handed to as many workers as there are, each worker's in their order, or are left where there is none.
-use test_support::asserts::{is, is_in};
+use crate::asserts::{is, is_in};
 use use_shared::work::distribute;
 
 /// How many of these jobs come right after a greater one.

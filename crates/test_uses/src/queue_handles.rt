@@ -1,12 +1,12 @@
 //! Handles of a queue: their calls, and what comes of one that ends the sharing of its queue.
 ghost use Rattle.std.specs.Prelude.{◌≡◌};
 
+use crate::asserts::{is, is_in};
 use callers::handle::sum_of_a_thread;
 use queue_handle::{Handle, Unfinished};
 use std::alloc::Global;
 use std::process::Abort;
 use std::sync::Wait;
-use test_support::asserts::{is, is_in};
 
 /// What becomes of the second handle.
 #[derive(Clone, Copy, Debug)]

@@ -1,4 +1,5 @@
 //! Tasks that workers share come to what each comes to alone, in as many steps, and workers that find none end.
+use crate::asserts::{is, is_in};
 use crate::system::{threads, time};
 use std::alloc::Global;
 use std::process::Abort;
@@ -7,7 +8,6 @@ use std::sync::atomic::{AtomicBool, AtomicU64, Ordering};
 use std::thread::{Threads, sleep};
 use std::time::Duration;
 use test_support::allocators::{Heap, Refusal};
-use test_support::asserts::{is, is_in};
 use test_support::signs::wait_for;
 use use_shared::tasks::{Step, Task, run};
 

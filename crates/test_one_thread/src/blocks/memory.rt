@@ -4,6 +4,7 @@ ghost use denote.RawPtr.{InBlock};
 ghost use Rattle.mem_blocks.specs.Seats.{Sits, Same};
 ghost use Rattle.mem_blocks.specs.Web.{AllVacant, alive_at};
 
+use crate::asserts::is;
 use mem_blocks::block::{BlockPtr, Loose};
 use mem_blocks::chain::Chain;
 use mem_blocks::hub::Hub;
@@ -13,7 +14,6 @@ use mem_blocks::web::{Seat, Web};
 use std::alloc::{AllocError, Allocator, Global, Layout};
 use std::process::Abort;
 use test_support::allocators::{Heap, Refusal};
-use test_support::asserts::is;
 use test_support::closing;
 use test_support::closing_rule::{ClosingRule, QueueEnds, View};
 

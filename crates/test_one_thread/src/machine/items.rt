@@ -1,6 +1,7 @@
 //! Items that count their drops: each that a run is given is dropped once, wherever its calls were stopped.
 ghost use Rattle.machine_replay.specs.Replays.{CanReplay};
 
+use crate::asserts::is_in;
 use crate::machine::events::add;
 use machine_replay::replay;
 use machine_replay::types::Event;
@@ -9,7 +10,6 @@ use queue_steps::sizes::SOLO_STEPS;
 use queue_steps::steps::Kind;
 use std::alloc::Global;
 use std::process::Abort;
-use test_support::asserts::is_in;
 use test_support::items::{Counted, Items};
 
 /// So many pushes; a forced push, a push and a pop that stop after so many steps; and calls of parties of which one may be in a call already, and of one that the machine does not have.

@@ -1,6 +1,7 @@
 //! Requests for room, and for blocks, that are refused.
 ghost use Rattle.machine_replay.specs.Replays.{CanReplay};
 
+use crate::asserts::is_in;
 use crate::machine::events::add;
 use machine_replay::replay;
 use machine_replay::types::Event;
@@ -10,7 +11,6 @@ use queue_steps::steps::Kind;
 use std::alloc::Global;
 use std::process::Abort;
 use test_support::allocators::{Heap, Refusal};
-use test_support::asserts::is_in;
 
 /// How many items a run of these events by two parties leaves, where there is memory for it.
 fn left_of(heap: &Heap, kind: Kind, events: &[Event<u64>]) -> Option<usize>

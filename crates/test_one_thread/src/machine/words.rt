@@ -1,4 +1,5 @@
 //! The words of a ring of two slots.
+use crate::asserts::is;
 use crate::machine::events::{add, add_steps};
 use machine_replay::types::Event;
 use machine_replay::words::{QueueWords, words_after};
@@ -6,7 +7,6 @@ use queue_steps::model::Call;
 use queue_steps::sizes::SOLO_STEPS;
 use queue_steps::steps::Kind;
 use std::process::Abort;
-use test_support::asserts::is;
 
 /// Asserts the tail, the head and both stamps after these events.
 fn has_words<R: Abort + AllocGlobal>(rt: &R, events: &[Event<u64>], words: [u64; 4]) {

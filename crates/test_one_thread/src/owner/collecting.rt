@@ -1,8 +1,8 @@
 //! Queues of what an iterator gives.
+use crate::asserts::{is, is_in};
 use crate::owner::made::Counting;
 use std::alloc::AllocError;
 use test_support::allocators::{Heap, Refusal};
-use test_support::asserts::{is, is_in};
 
 /// Far more items than a block has.
 const MANY: u64 = 70_000;

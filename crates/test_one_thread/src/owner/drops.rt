@@ -1,10 +1,10 @@
 //! Items that count their drops: each that a queue is given is dropped once.
+use crate::asserts::is_in;
 use crate::owner::made::Made;
 use exclusive_queue::Exclusive;
 use std::alloc::Global;
 use std::process::Abort;
 use test_support::allocators::{Heap, Refusal};
-use test_support::asserts::is_in;
 use test_support::items::{Counted, Items};
 
 /// Pushes so many items, by force or not. Drops what comes back.

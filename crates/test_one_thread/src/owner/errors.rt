@@ -1,9 +1,9 @@
 //! The errors: their texts, what they hand back, and when two are equal.
+use crate::asserts::is;
 use exclusive_queue::{ForcePushError, PopError, PushError};
 use std::alloc::Global;
 use std::fmt::{Debug, Display};
 use std::process::Abort;
-use test_support::asserts::is;
 
 const FULL: PushError<u64> = PushError::Full(7);
 

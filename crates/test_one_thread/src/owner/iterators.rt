@@ -1,10 +1,10 @@
 //! Iterators over queues with one owner, and what is printed of both.
+use crate::asserts::{is, is_in};
 use crate::owner::made::{Counting, Made, filled};
 use std::alloc::Global;
 use std::fmt::Debug;
 use std::process::Abort;
 use test_support::allocators::{Heap, Refusal};
-use test_support::asserts::{is, is_in};
 
 /// Takes so many items off, if there are as many. Gives how many came in their turn, this number first.
 fn taken(queue: &mut Counting<'_>, first: u64, count: u64) -> u64 {

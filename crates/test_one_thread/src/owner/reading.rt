@@ -1,7 +1,7 @@
 //! Items that are read in their places, and items that are taken out of a queue that ends.
+use crate::asserts::{is, is_in};
 use crate::owner::made::{Counting, Made, filled};
 use test_support::allocators::{Heap, Refusal};
-use test_support::asserts::{is, is_in};
 
 /// How a queue is made, how many items go through it first, and how many are in it then.
 static READ: [(Made, u64, u64); 10] = [

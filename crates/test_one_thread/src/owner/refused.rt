@@ -1,10 +1,10 @@
 //! Constructors whose requests are refused, and those that ask for nothing.
+use crate::asserts::is_in;
 use crate::owner::made::Made;
 use queue_steps::sizes::{LIMIT, MAX_CAPACITY};
 use std::alloc::Global;
 use std::process::Abort;
 use test_support::allocators::{Heap, Refusal};
-use test_support::asserts::is_in;
 
 /// Asserts that no queue is made so where these requests are refused, after so many, and that nothing stays allocated.
 fn is_refused<T: Drop>(

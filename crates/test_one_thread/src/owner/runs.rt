@@ -1,4 +1,5 @@
 //! Runs of calls. Scripts show those on a queue whose replies have room.
+use crate::asserts::is;
 use crate::owner::made::{Made, open};
 use app_text::lines::Line;
 use app_text::replies::ReplyText;
@@ -7,7 +8,6 @@ use queue_steps::model::{Call, Reply};
 use std::alloc::Global;
 use std::process::Abort;
 use test_support::allocators::{Heap, Refusal};
-use test_support::asserts::is;
 use test_support::items::{Counted, Items};
 
 /// What a run of these calls is answered, both as the explorer has them. Asserts that there is memory.

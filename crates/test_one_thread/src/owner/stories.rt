@@ -1,4 +1,5 @@
 //! Stories that no script shows: requests that are counted and refused, and queues that stand as after many items.
+use crate::asserts::is_in;
 use crate::owner::made::{Made, open};
 use crate::owner::runs::told;
 use exclusive_queue::Exclusive;
@@ -6,7 +7,6 @@ use queue_steps::sizes::LIMIT;
 use std::alloc::Global;
 use std::process::Abort;
 use test_support::allocators::{Heap, Refusal};
-use test_support::asserts::is_in;
 
 /// A story of a queue.
 #[derive(Clone, Copy)]

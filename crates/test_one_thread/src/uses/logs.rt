@@ -1,10 +1,10 @@
 //! A log is filled past its capacity, and emptied.
 ghost use Rattle.std.specs.Prelude.{◌<◌};
 
+use crate::asserts::{is, is_in};
 use std::alloc::Global;
 use std::process::Abort;
 use test_support::allocators::{Heap, Refusal};
-use test_support::asserts::{is, is_in};
 use use_owner::log::Log;
 
 /// Appends 0, 1, .. up to `count`, which is left out, to a log, and takes out what it holds. Asserts that the oldest gave way, and that the newest came out.

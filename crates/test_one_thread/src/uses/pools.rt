@@ -1,10 +1,10 @@
 //! Places are taken until none is left, and one is given back between.
 ghost use Rattle.std.specs.Prelude.{◌<◌};
 
+use crate::asserts::is_in;
 use std::alloc::Global;
 use std::process::Abort;
 use test_support::allocators::{Heap, Refusal};
-use test_support::asserts::is_in;
 use use_owner::pool::Pool;
 
 /// Takes all places of a pool but the last. Gives whether each came in its turn.

@@ -2,6 +2,7 @@
 ghost use Rattle.std.specs.Prelude.{◌≡◌, ◌<◌};
 ghost use Rattle.concurrent_queue.specs.Shared.{IsPartyOf};
 
+use crate::asserts::{is, is_in};
 use crate::crew::{Assignment, Board, Deed, Role, crew, find_each, in_order};
 use crate::opening::{end, open_surely};
 use concurrent_queue::{ConcurrentQueue, Exclusive, Party};
@@ -10,7 +11,6 @@ use std::process::Abort;
 use std::sync::Wait;
 use std::thread::Threads;
 use test_support::allocators::{Heap, Refusal};
-use test_support::asserts::{is, is_in};
 
 /// A shared queue whose requests are counted.
 type Queue<'a> = ConcurrentQueue<u64, &'a Heap>;

@@ -2,6 +2,7 @@
 ghost use Rattle.std.specs.Prelude.{◌≡◌, ◌<◌};
 ghost use Rattle.concurrent_queue.specs.Shared.{IsPartyOf};
 
+use crate::asserts::is_in;
 use crate::items::{Item, Items};
 use crate::opening::{end, part};
 use concurrent_queue::{ConcurrentQueue, Party};
@@ -9,7 +10,6 @@ use std::alloc::Global;
 use std::process::Abort;
 use std::sync::Wait;
 use test_support::allocators::{Heap, Refusal};
-use test_support::asserts::is_in;
 
 /// A shared queue whose requests are counted.
 type Counting<'a> = ConcurrentQueue<Item, &'a Heap>;

@@ -2,6 +2,7 @@
 ghost use Rattle.std.specs.Prelude.{◌≡◌};
 ghost use Rattle.concurrent_queue.specs.Shared.{IsPartyOf};
 
+use crate::asserts::is_in;
 use crate::crew::{pop_one, push_one};
 use crate::items::{Item, Items};
 use crate::opening::{open_surely, part};
@@ -10,7 +11,6 @@ use std::alloc::Global;
 use std::process::Abort;
 use std::sync::Wait;
 use std::thread::{Threads, join};
-use test_support::asserts::is_in;
 
 /// Pushes so many items.
 fn push_all<R: Wait + Abort>(

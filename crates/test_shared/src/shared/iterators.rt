@@ -1,13 +1,13 @@
 //! Iterators over shared queues, what is printed of both, and lengths.
 ghost use Rattle.concurrent_queue.specs.Shared.{IsPartyOf};
 
+use crate::asserts::{is, is_in};
 use crate::crew::{Deed, find_each};
 use crate::opening::{Queue, open_surely, part};
 use concurrent_queue::Party;
 use std::alloc::Global;
 use std::process::Abort;
 use std::sync::Wait;
-use test_support::asserts::{is, is_in};
 
 /// Asks an iterator for four items.
 fn four<R: Wait>(rt: &R, queue: &Queue, party: &mut Party<u64>) -> [Option<u64>; 4]

@@ -1,4 +1,5 @@
 //! Requests of the constructor that are refused, and calls that make none.
+use crate::asserts::is_in;
 use crate::crew::{Deed, find_each};
 use crate::opening::{Opened, end, open, open_surely, part};
 use queue_steps::sizes::MAX_CAPACITY;
@@ -6,7 +7,6 @@ use std::alloc::Global;
 use std::process::Abort;
 use std::sync::Wait;
 use test_support::allocators::{Heap, Refusal};
-use test_support::asserts::is_in;
 
 /// What the constructor answers.
 type Made<'a, T> = Opened<T, &'a Heap>;

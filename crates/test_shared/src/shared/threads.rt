@@ -1,13 +1,13 @@
 //! Threads that share a queue, a party each.
 ghost use Rattle.std.specs.Prelude.{◌<◌};
 
+use crate::asserts::is_in;
 use crate::crew::{Assignment, Board, Deed, Role, TURNS, crew, in_order};
 use crate::opening::{end, open_surely};
 use std::alloc::Global;
 use std::process::Abort;
 use std::sync::Wait;
 use std::thread::Threads;
-use test_support::asserts::is_in;
 
 /// What threads do at a queue of each of some capacities.
 struct CrewCase {

@@ -1,9 +1,9 @@
 //! The errors of calls that answer busy in the place of waiting: how they are printed, and what they hand back.
+use crate::asserts::{is, is_in};
 use concurrent_queue::{TryForcePushError, TryPopError, TryPushError};
 use std::alloc::Global;
 use std::fmt::{Debug, Display};
 use std::process::Abort;
-use test_support::asserts::{is, is_in};
 
 static PUSHES: [(TryPushError<u64>, &str); 4] = [
     (TryPushError::Full(1), "Full Full(1)"),

@@ -2,6 +2,7 @@
 ghost use Rattle.concurrent_queue.specs.Shared.{IsPartyOf};
 ghost use Rattle.test_shared.specs.Outcomes.{IsOf};
 
+use crate::asserts::is_in;
 use crate::calls::{Memory, answer, begin, may_go_on, take_up};
 use crate::gates::{Signs, call_waiting};
 use crate::items::{Item, Items};
@@ -14,7 +15,6 @@ use std::process::Abort;
 use std::sync::Wait;
 use std::sync::atomic::Ordering;
 use test_support::allocators::Heap;
-use test_support::asserts::is_in;
 
 /// The queue of a story.
 pub(crate) type Queue<A> = ConcurrentQueue<Item, A>;

@@ -4,6 +4,7 @@ ghost use Rattle.concurrent_queue.specs.Shared.{IsPartyOf};
 ghost use Rattle.test_shared.specs.Outcomes.{IsOf};
 ghost use denote.Param.Send.{IsSync};
 
+use crate::asserts::{is, is_in};
 use crate::calls::Memory;
 use crate::gates::{Holding, Signs, call_held};
 use crate::items::{Item, Items};
@@ -21,7 +22,6 @@ use std::sync::Wait;
 use std::sync::atomic::Ordering;
 use std::thread::{Threads, join};
 use test_support::allocators::{Heap, Refusal};
-use test_support::asserts::{is, is_in};
 use test_support::signs::wait_for;
 
 /// A, and B once there are two.

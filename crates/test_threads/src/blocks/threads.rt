@@ -4,13 +4,13 @@ ghost use denote.RawPtr.{InBlock};
 ghost use Rattle.mem_blocks.specs.Seats.{Sits, Same};
 ghost use Rattle.test_support.specs.ClosingRule.{KeepsHand};
 
+use crate::asserts::is;
 use mem_blocks::block::BlockPtr;
 use mem_blocks::web::{Rested, Seat, Web};
 use std::alloc::Global;
 use std::process::Abort;
 use std::sync::atomic::{AtomicBool, Ordering};
 use std::thread::{Threads, join_mut, yield_now};
-use test_support::asserts::is;
 use test_support::closing;
 use test_support::closing_rule::{ClosingRule, QueueEnds, View};
 use test_support::signs::wait_for;

@@ -1,9 +1,9 @@
 //! Deadlines by clocks that cannot be read, or are too far.
+use crate::asserts::is;
 use event_count::{Deadline, Never, Until};
 use std::io;
 use std::io::ErrorKind;
 use std::time::{Clock, Duration};
-use test_support::asserts::is;
 
 /// A clock that cannot be read.
 struct Broken;

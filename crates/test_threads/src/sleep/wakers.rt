@@ -2,6 +2,7 @@
 ghost use Rattle.std.specs.Prelude.{◌≡◌};
 ghost use Rattle.event_count.specs.declared.wakes.seats.Seat.TheVariants.{Looking};
 
+use crate::asserts::is;
 use futures::task::Context;
 use futures::test::MockTask;
 use std::alloc::AllocGlobal;
@@ -10,7 +11,6 @@ use std::process::Abort;
 use std::random::RandomSource;
 use std::sync::atomic::AtomicU64;
 use std::sync::atomic::Ordering::SeqCst;
-use test_support::asserts::is;
 use waker_list::{Entry, Look, OwesAll, OwesOne, Place, WakerList};
 
 /// What the futures wait for.

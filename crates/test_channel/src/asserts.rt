@@ -3,12 +3,12 @@ use std::fmt::Debug;
 use std::process::Abort;
 
 /// Asserts that this was found.
-pub fn is<T: PartialEq + Debug + Drop>(rt: &impl Abort, found: T, wanted: T) {
+pub(crate) fn is<T: PartialEq + Debug + Drop>(rt: &impl Abort, found: T, wanted: T) {
     assert_eq!(rt; found, wanted);
 }
 
 /// Asserts that this was found in this case, which a failure names.
-pub fn is_in<T: PartialEq + Debug + Drop, C: Debug + Drop>(
+pub(crate) fn is_in<T: PartialEq + Debug + Drop, C: Debug + Drop>(
     rt: &impl Abort,
     case: C,
     found: T,
