@@ -1,6 +1,6 @@
 -- What is noted of the replies of the parties' next ends, event by event.
-use Rattle.std.proofs.Common.{◌≡◌, ◌∙◌, ◌<◌, ◌≤◌, inl, inr, zero, suc, [], ◌∷◌, ℕ, Option, Some, List, ◌++◌, length, arith, sym, subst, ap}
-use Rattle.std.specs.Prelude.{slice_get, slice_set}
+use Rattle.std.proofs.Common.{◌≡◌, ◌∙◌, ◌≤◌, inl, inr, [], ◌∷◌, ℕ, Option, List, ◌++◌, length, arith, sym, ap}
+use Rattle.std.specs.Prelude.{slice_set}
 use Rattle.std.proofs.lemmas.{Bool.cases_eq, Bool.cases_lt, List.length_push, List.get_or_push, Option.slice_get_within, Option.get_or_from_slice_get}
 use Rattle.queue_steps.specs.declared.model.Reply.{Reply}
 use Rattle.history_check.specs.{declared.recorded.Event.Event, declared.recorded.Event.TheVariants.End, Levels.next_reply, Levels.Expects}

@@ -39,10 +39,12 @@ NoWorse es p o (Some w) = IsAsOpen o w ⊎ ((r : Reply ℕ) × (w ≡ Answered r
 abbrev AllNoWorse : List Event → List (Option Way) → List (Option Way) → Type 0
 AllNoWorse es xs ys = (p : ℕ) (w : Option Way) → slice_get ys p ≡ Some w → (o : Option Way) × (slice_get xs p ≡ Some o) × NoWorse es p o w
 
+-- a party is no worse off than itself
 same_way : (es : List Event) (p : ℕ) (w : Option Way) → NoWorse es p w w
 same_way es p None = refl
 same_way es p (Some w) = inl (as_open w)
 
+-- nor than before, where its call still does not end
 fewer : (es fs : List Event) (p : ℕ) (o w : Option Way) → (next_reply p es ≡ None → next_reply p fs ≡ None) → NoWorse es p o w → NoWorse fs p o w
 fewer es fs p o None keeps is = is
 fewer es fs p o (Some w) keeps (inl is) = inl is
