@@ -3,6 +3,7 @@ use crate::asserts::is_in;
 use crate::opening::{CAPACITIES, incoming, opened, outgoing};
 use crate::tasks::{Came, Sends, Task, Work};
 use channel_futures::{Incoming, Receiver, Sender};
+use futures::Future;
 use futures::executor::TaskSet;
 use futures::task::Doorbell;
 use std::alloc::AllocGlobal;
@@ -93,7 +94,7 @@ trait Host: Wait + Threads + Clock + RandomSource + AllocGlobal + Abort + System
 impl<R: Wait + Threads + Clock + RandomSource + AllocGlobal + Abort + System> Host for R {}
 
 /// Sends all numbers from a thread, if one is to send.
-fn send_all<R: Host>(rt: &R, plan: Plan, sender: Option<Sender<u64>>) {
+fn send_all<R: Wait + Clock>(rt: &R, plan: Plan, sender: Option<Sender<u64>>) {
     let Some(mut sender) = sender else { return };
     sleep(rt, Duration::from_secs(plan.pause));
     for number in 0..plan.count {
@@ -104,7 +105,7 @@ fn send_all<R: Host>(rt: &R, plan: Plan, sender: Option<Sender<u64>>) {
 }
 
 /// Receives all that come, in a thread, if one is to receive.
-fn receive_all<R: Host>(rt: &R, plan: Plan, receiver: Option<Receiver<u64>>, came: &Came) {
+fn receive_all<R: Wait + Clock>(rt: &R, plan: Plan, receiver: Option<Receiver<u64>>, came: &Came) {
     let Some(receiver) = receiver else { return };
     sleep(rt, Duration::from_secs(plan.pause));
     for item in receiver.into_iter(rt) {
@@ -114,7 +115,11 @@ fn receive_all<R: Host>(rt: &R, plan: Plan, receiver: Option<Receiver<u64>>, cam
 }
 
 /// Two threads work.
-fn work_in_two<R: Host + Sync>(rt: &R, set: &TaskSet<Task>, first: usize) {
+fn work_in_two<R, F>(rt: &R, set: &TaskSet<F>, first: usize)
+where
+    R: Wait + Threads + Sync,
+    F: Future<Output = ()> + Send,
+{
     join(
         rt,
         || set.work(rt, first),
@@ -122,13 +127,20 @@ fn work_in_two<R: Host + Sync>(rt: &R, set: &TaskSet<Task>, first: usize) {
     );
 }
 
+/// Four threads work.
+fn work_in_four<R, F>(rt: &R, set: &TaskSet<F>)
+where
+    R: Wait + Threads + Sync,
+    F: Future<Output = ()> + Send,
+{
+    join(rt, || work_in_two(rt, set, 0), || work_in_two(rt, set, 2));
+}
+
 /// So many threads work.
-fn work<R: Host + Sync>(rt: &R, set: &TaskSet<Task>, workers: Workers) {
+fn work<R: Wait + Threads + Sync>(rt: &R, set: &TaskSet<Task>, workers: Workers) {
     match workers {
         Workers::One => set.work(rt, 0),
-        Workers::Four => {
-            join(rt, || work_in_two(rt, set, 0), || work_in_two(rt, set, 2));
-        }
+        Workers::Four => work_in_four(rt, set),
     }
 }
 
@@ -150,7 +162,7 @@ fn receives(second: Second, number: u64, stream: Incoming<u64>) -> Work {
 }
 
 /// The tasks of a run, whose ends are parted from these.
-fn tasks<R: Host>(
+fn tasks<R: RandomSource + AllocGlobal + Abort>(
     rt: &R,
     plan: Plan,
     sender: &mut Sender<u64>,
