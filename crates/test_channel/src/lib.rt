@@ -1,4 +1,4 @@
-//! Tests of channels, and of threads that sleep at their ends.
+//! Tests of channels whose ends are values of their own, told as stories, and of threads that sleep at them.
 #![tactic(auto)]
 
 #[cfg(test)]
@@ -8,8 +8,6 @@ mod deeds;
 #[cfg(test)]
 mod dropped;
 #[cfg(test)]
-mod ended;
-#[cfg(test)]
 mod falling;
 #[cfg(test)]
 mod host;
@@ -18,19 +16,11 @@ mod idle;
 #[cfg(test)]
 mod leaving;
 #[cfg(test)]
-mod many_ends;
-#[cfg(test)]
-mod memory;
-#[cfg(test)]
 mod opening;
-#[cfg(test)]
-mod queues;
 #[cfg(test)]
 mod rows;
 #[cfg(test)]
 mod stories;
-#[cfg(test)]
-mod threads;
 #[cfg(test)]
 mod timed;
 #[cfg(test)]

@@ -1,5 +1,5 @@
 use Rattle.counted_channel.specs.Channel.{IsEndOf}
-use Rattle.test_channel.proofs.threads.take_some.Given as goal
+use Rattle.test_ends.proofs.threads.take_some.Given as goal
 
 -- the end is still one of the channel's
 abbrev pub invariant-loop : goal.invariant-loop

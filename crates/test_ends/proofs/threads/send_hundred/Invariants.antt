@@ -1,5 +1,5 @@
 use Rattle.counted_channel.specs.Channel.{IsEndOf}
-use Rattle.test_channel.proofs.threads.send_hundred.Given as goal
+use Rattle.test_ends.proofs.threads.send_hundred.Given as goal
 
 -- the end is still one of the channel's
 abbrev pub invariant-loop-item : goal.invariant-loop-item
