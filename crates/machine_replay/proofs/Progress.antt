@@ -1,5 +1,6 @@
 pub mod FewSteps
 pub mod Solo
+pub mod PartyGoes
 pub mod SoloRun
 pub mod Standings
 pub mod Stretch

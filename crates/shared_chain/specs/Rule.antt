@@ -51,16 +51,17 @@ IsUsed (Spare who) = Unit {0}
 IsUsed (Chained b) = Unit {0}
 IsUsed _ = ⊥
 
+-- the web's block x is an end of the chain, which lies there, has this word and leads to this block
+pub record EndIs {T : Type 0} (p : Ptr) (word : ℕ) (lead : Option ℕ) (x : Block T) : Type 0 where
+  pub lives : (x.alive ≡ true) × (x.at ≡ p)
+  pub words : length x.words ≡ END_WORDS
+  pub word : slice_index_or x.words 0 0 ≡ word
+  pub next : x.next ≡ lead_of lead
+
 -- the web's words, links and blocks are those of the chain, between these ends
 pub record Codes {T : Type 0} (tail_end head_end : Ptr) (g : OutChain T) (bs : List (Block T)) : Type 0 where
-  pub tail : Lives bs 0 tail_end
-  pub head : Lives bs 1 head_end
-  pub tail_words : length (block bs 0).words ≡ END_WORDS
-  pub head_words : length (block bs 1).words ≡ END_WORDS
-  pub tail_is : word_of bs 0 TAIL ≡ tail_word g.chain
-  pub head_is : word_of bs 1 HEAD ≡ head_word g.chain
-  pub last_is : (block bs 0).next ≡ lead_of (last_of g.chain.names g.chain.blocks)
-  pub front_is : (block bs 1).next ≡ lead_of (shown_of g.chain.shown (g.chain.names g.chain.front))
+  pub tail : EndIs tail_end (tail_word g.chain) (last_of g.chain.names g.chain.blocks) (block bs 0)
+  pub head : EndIs head_end (head_word g.chain) (shown_of g.chain.shown (g.chain.names g.chain.front)) (block bs 1)
   pub size : length bs ≡ g.chain.blocks + 2
   pub there : (b : ℕ) → b < g.chain.blocks → IsThere g b (block bs (b + 2))
   pub tested : (f : ℕ) → IsUsed (g.chain.uses f) → Testable (spot f)

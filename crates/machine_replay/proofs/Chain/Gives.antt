@@ -49,16 +49,6 @@ codes_left {c = c} {blocks = blocks} who (Next.Reply x (Some f)) ok (inr (b, nam
     let none : get_or blocks f None ≡ None = elim (held_of b f ok named codes) [ inl h ↦ h.1 | inr h ↦ absurd (h.0 over) ] in
     codes_reset f none (codes_given_block b f (ap c.uses named.1 ∙ ok.name b named.0) codes)
 
--- a name is that of one block
-pub one_block : {A : Type 0} (c : Chain A) (b i f : ℕ) → ChainOk c → IsNamed c b f → IsNamed c i f → i ≡ b
-one_block c b i f ok x y = let z : Chained i ≡ Chained b = sym (ap c.uses y.1 ∙ ok.name i y.0) ∙ (ap c.uses x.1 ∙ ok.name b x.0) in cc
-
 -- a block that is there has all its places
 pub has_place : {A : Type 0} {c : Chain A} (bs : List (Option (BlockState A))) (b f i : ℕ) (x : BlockState A) → get_or bs f None ≡ Some x → BlockIs c b x.places x.next → i < BLOCK_SLOTS → i < place_count bs f
 has_place bs b f i x is block low = subst (λ y. i < length (places_in y)) (sym is) (subst (λ n. i < n) (sym block.wide) low)
-
--- what the state of a slot answers
-pub state_answers : {A : Type 0} {c : Chain A} (bs : List (Option (BlockState A))) (b f i n : ℕ) (x : BlockState A) → ChainOk c → IsNamed c b f → BlockIs c b x.places x.next → i < BLOCK_SLOTS → (i ≡ LAST → c.readers (item_at b i) ≢ Done)
-    → n ≡ (place_in x i).state → StateAnswers c f i (Answer.Found n)
-state_answers {c = c} bs b f i n x ok named block low unread is j other =
-    (n, refl, subst (λ k. IsState c k i n) (sym (one_block c b j f ok named other)) (subst (λ m. IsState c b i m) (sym is) (block.state i low unread)))

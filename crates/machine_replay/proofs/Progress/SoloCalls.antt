@@ -3,7 +3,7 @@ use Rattle.std.proofs.Common.{◌≡◌, ◌≢◌, ◌∙◌, ℕ, Some, None, 
 use Rattle.machine_replay.specs.{Vocabulary.Kind, Vocabulary.Event, Vocabulary.Told, Vocabulary.Skipped, Vocabulary.Ran, Vocabulary.Running, Played.world_after}
 use Rattle.machine_replay.specs.Progress.{Between, standing, effect_told, BeginsNone, IsAloneIn, IsLeftToIt, NobodyShows, SoloRunsReply}
 use Rattle.machine_steps.specs.{Left.opening_world, World.call_at}
-use Rattle.machine_replay.proofs.{Chain.Stretch.chain_rules, Progress.Standings.Agrees, Progress.Stretch.Rules, Progress.Stretch.reach, Progress.Stretch.first, Progress.Stretch.party-open, Progress.Unhindered.unhindered_calls}
+use Rattle.machine_replay.proofs.{Chain.Kind.chain_rules, Progress.Standings.Agrees, Engine.KindLaws.Rules, Progress.Stretch.reach, Progress.Stretch.first, Progress.Stretch.party-open, Progress.Unhindered.unhindered_calls}
 
 without_effect : {T : Type 0} (t : Told T) → BeginsNone t → effect_told t ≡ None
 without_effect Skipped none = refl
