@@ -9,7 +9,7 @@ use Rattle.queue_laws.specs.Slot.SlotRows as slot
 use Rattle.machine_memory.specs.{declared.calls.Running.Running, declared.types.Event.Event, SharedMemory.MemoryState}
 use Rattle.machine_steps.specs.{Left.opening_world, World.call_at}
 use Rattle.machine_replay.specs.{Book.Open, Played.local_in, Played.world_after, Progress.Standing as CallStanding, Progress.Between, Progress.Undone, Progress.HalfDone, Progress.standing, Replays.CanReplay, Replays.is_too_large}
-use Rattle.machine_replay.proofs.{Chain.Stretch.chain_rules, Ring.Stretch.ring_rules, Slot.Stretch.slot_rules, Progress.Standings.Agrees, Progress.Stretch.Rules, Progress.Stretch.Party, Progress.Stretch.first, Progress.Stretch.reach}
+use Rattle.machine_replay.proofs.{Chain.Kind.chain_rules, Ring.Kind.ring_rules, Slot.Left.slot_rules, Engine.KindLaws.Rules, Progress.Standings.Agrees, Progress.Stretch.Party, Progress.Stretch.first, Progress.Stretch.reach}
 use Rattle.machine_explore.specs.{Waiting.is_half_done, WaitTables.is_half_done_at}
 
 has_some : {X : Type 0} → List X → Bool
