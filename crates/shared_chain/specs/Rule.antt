@@ -7,8 +7,8 @@ use Rattle.queue_laws.specs.Common.Vocabulary.{Effect, BLOCK_SLOTS, WRITE, READ}
 use Rattle.queue_laws.specs.Chain.ChainAnswers.{tail_word, head_word, last_of, shown_of, linked_of, IsState}
 use Rattle.queue_steps.specs.Shares.{entire}
 use Rattle.queue_laws.specs.Chain.ChainCells.{Writer, Free, Writing, Wrote, Reader, Unread, Reading, Done, Before, GivenUp, Use, Unused, Spare, Chained, item_at, LAST}
-use Rattle.mem_blocks.specs.Web.{Block, State, Home, block, Lives, word_of, away, vacant, full}
-use Rattle.mem_blocks.specs.declared.{sizes.TheConstants.END_WORDS, hub.TheConstants.TAIL, hub.TheConstants.PARTIES, hub.TheConstants.HEAD}
+use Rattle.mem_blocks.specs.Web.{Block, State, Home, block, word_of, away, vacant, full}
+use Rattle.mem_blocks.specs.declared.{sizes.TheConstants.END_WORDS, hub.TheConstants.PARTIES}
 use Rattle.shared_parties.specs.{declared.known.CallState.CallState, Known.party, CallStates.idle, CallsAt.CallsAt}
 use Rattle.shared_chain.specs.{declared.ends.ChainEnds.ChainEnds, Spots.spot, ChainCalls.OutChain, ChainCalls.chain_calls}
 
@@ -52,10 +52,10 @@ IsUsed (Chained b) = Unit {0}
 IsUsed _ = ⊥
 
 -- the web's block x is an end of the chain, which lies there, has this word and leads to this block
-pub record EndIs {T : Type 0} (p : Ptr) (word : ℕ) (lead : Option ℕ) (x : Block T) : Type 0 where
+pub record EndIs {T : Type 0} (p : Ptr) (w : ℕ) (lead : Option ℕ) (x : Block T) : Type 0 where
   pub lives : (x.alive ≡ true) × (x.at ≡ p)
   pub words : length x.words ≡ END_WORDS
-  pub word : slice_index_or x.words 0 0 ≡ word
+  pub word : slice_index_or x.words 0 0 ≡ w
   pub next : x.next ≡ lead_of lead
 
 -- the web's words, links and blocks are those of the chain, between these ends

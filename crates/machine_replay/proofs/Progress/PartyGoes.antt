@@ -27,8 +27,8 @@ as_it_is (Some o) = refl
 
 pub party_goes : {T : Type 0} (cap : Option ℕ) (parties : ℕ) (b c : Book T) (e : Event T) (t : Told T) (q : ℕ) → Happens cap parties b e t c → PartyGoes q e t (b.open_call q) (c.open_call q)
 party_goes cap parties b c e Skipped q h = became refl (ap (λ z. z.open_call q) h.1) (skips (b.open_call q))
-party_goes cap parties b c (Begin p k) (Ran None None) q h =
-    let calls = λ j. at_open joined (b.open_call j) in
+party_goes {T} cap parties b c (Begin p k) (Ran None None) q h =
+    let calls : ℕ → Option (Open T) = λ j. at_open joined (b.open_call j) in
     elim (eqb_tells p q) [
       | inl same ↦
           let free : b.open_call q ≡ None = ap b.open_call (sym same.1) ∙ is_none_true (b.open_call p) (and-right (nat_lt p parties) (is_none (b.open_call p)) h.0) in

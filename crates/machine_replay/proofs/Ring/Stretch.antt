@@ -170,7 +170,7 @@ module _ {A : Type 0} (cap : ℕ) where
   tail_is : (s : MemoryState A) (Q : State A) (g : Ring A) → RingHolds cap s Q g → s.tail ≡ tail_of Q.accepted Q.closed
   tail_is s Q g holds = holds.codes.tail ∙ ap (λ q. tail_of q.accepted q.closed) (sym holds.queue_is)
 
-  ring_paces : (ring : IsRing cap) → Paces A (Kind.Bounded cap) (ring_rules ring)
+  ring_paces : (ring : IsRing cap) → Paces A (Kind.Bounded cap) (ring_rules cap ring)
   ring_paces ring = record {
     rank = λ s r. near (far cap s r.local);
     most = 6;
@@ -189,7 +189,7 @@ module _ {A : Type 0} (cap : ℕ) where
 
   pub ring_unhindered : IsRing cap → UnhinderedWithin A (Kind.Bounded cap) 6
   unfolding ring_paces
-  ring_unhindered ring = unhindered A (Kind.Bounded cap) (ring_rules ring) (ring_paces ring) (λ parties w st h p r is nobody. tt)
+  ring_unhindered ring = unhindered A (Kind.Bounded cap) (ring_rules cap ring) (ring_paces ring) (λ parties w st h p r is nobody. tt)
 
 -- a call that holds a slot ends at its next step, but for the arrival of its item
 half_ends : {A : Type 0} {cap : ℕ} {r : Ring A} {who : ℕ} {ms : List (State A)} {was : Bool} {c : Stand A} (ok : Bool) (s : MemoryState A) (r' : Running A) → At cap r who ms was c → c.effects ≢ []
