@@ -1,2 +1,1 @@
-pub mod ReadReplies
 pub mod ReadEvents

@@ -1,8 +1,8 @@
 -- Which queue the argument asks for.
 use Rattle.std.specs.Prelude.{ℕ, List, ◌++◌, codes, true}
-use Rattle.app_text.specs.{KindNames.IsKindName, KindNames.kind_text, KindNames.capacity_of}
+use Rattle.app_text.specs.KindNames.{IsKindName, kind_text, capacity_of}
 use Rattle.history_check.specs.{Legal.in_steps, declared.recorded.Rules.Rules}
-use Rattle.app_check.specs.declared.{asked.Asked.Asked, asked.Asked.Asked as asked}
+use Rattle.app_check.specs.declared.asked.Asked.{Asked, Asked as asked}
 
 abbrev pub asked_text : Asked → List ℕ
 asked_text (asked.InSteps k) = kind_text k

@@ -1,8 +1,7 @@
 -- How the checker may end.
 use Rattle.std.specs.Prelude.{◌≡◌, ◌⊎◌, ℕ, List, [], ◌∷◌, Option, Result, String}
 use Rattle.std.specs.{Io.KnownBytes.Appends, Io.KnownBytes.Keeps, declared.io.Error.Error, declared.vec.IntoIter.IntoIter}
-use Rattle.app_text.specs.{Given.IsAskedBy, Given.MayLackMemory, Streams.IsBegun, Streams.IsInput}
-use Rattle.app_text.specs.declared.faults.{Fault.Fault as fault}
+use Rattle.app_text.specs.{Given.IsAskedBy, Given.MayLackMemory, Streams.IsBegun, Streams.IsInput, declared.faults.Fault.Fault as fault}
 use Rattle.history_check.specs.declared.recorded.{Event.Event, Rules.Rules}
 use Rattle.app_check.specs.{Histories.IsRecording, Histories.IsUnread, Answers.IsAnswer, Answers.answer_status, Answers.stop_status, Asked.IsAsked, Asked.asked_text, Asked.rules_of}
 use Rattle.app_check.specs.declared.{answers.Answer.Answer, asked.Asked.Asked, faults.Stop.Stop, faults.Stop.Stop as stop}

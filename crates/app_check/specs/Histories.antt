@@ -1,9 +1,8 @@
 -- The text of a recorded history: a line an event.
 use Rattle.std.specs.Prelude.{◌≡◌, ◌≢◌, ℕ, ◌+◌, ◌<◌, List, [], ◌∷◌, ◌++◌, codes, length, map, Option, Some, None, slice_get, slice_set, replicate}
 use Rattle.std.specs.{Fmt.decimal, List.AllByRecursion}
-use Rattle.queue_steps.specs.declared.model.Call.{Call}
 use Rattle.app_text.specs.{Calls.call_text, Calls.IsCallOfWord, Replies.reply_text, Lines.lines_of, declared.faults.Fault.Fault as fault}
-use Rattle.history_check.specs.declared.recorded.Event.{Event, Event as event}
+use Rattle.{queue_steps.specs.declared.model.Call.Call, history_check.specs.declared.recorded.Event.Event, history_check.specs.declared.recorded.Event.Event as event}
 use Rattle.app_check.specs.{Replies.IsReplyOf, declared.faults.Stop.Stop, declared.faults.Stop.Stop as stop, declared.reading.TheConstants.MOST_LINES, declared.reading.TheConstants.MOST_PARTIES}
 
 -- the party whose event it is

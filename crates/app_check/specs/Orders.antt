@@ -1,8 +1,7 @@
 -- The text of an order of the moves of calls.
 use Rattle.std.specs.Prelude.{ℕ, ◌+◌, List, [], ◌∷◌, ◌++◌, codes}
 use Rattle.std.specs.Fmt.{decimal}
-use Rattle.history_check.specs.declared.recorded.Move.{Move}
-use Rattle.history_check.specs.declared.recorded.Move.TheVariants as move
+use Rattle.history_check.specs.declared.recorded.Move.{Move, Move as move}
 
 -- how many lines of the history a move takes
 abbrev pub lines_in : Move → ℕ

@@ -12,11 +12,7 @@ ghost use Rattle.queue_steps.specs.declared.errors.ForcePushError.TheVariants as
 ghost use Rattle.queue_steps.specs.Legal.{IsSoundOwned};
 ghost use Rattle.own_cells.specs.OneSlot.OwnSlotCells.{IsIdle, slot_owned};
 ghost use Rattle.own_cells.specs.OneRing.RingOwned.{IsIdle as IsRingIdle, ring_owned};
-ghost use Rattle.own_cells.specs.OneRing.RingMemory.{ring_in};
-ghost use Rattle.own_cells.specs.declared.ring.ring_words.TheConstants.{STAMPS};
-ghost use Rattle.std.specs.Mem.Slots.{slots_items, slots_len, IsFull};
 ghost use Rattle.own_cells.specs.OneChain.OwnChainOwned.{IsIdle as IsOwnChainIdle, own_chain_owned};
-ghost use Rattle.own_cells.specs.OneChain.ChainMemory.{AreHeld, own_chain_in};
 ghost use Rattle.exclusive_queue.specs.QueueText.{exclusive_text};
 ghost use Rattle.call_driver.specs.Apart.{FitsCall, SequentialApart};
 ghost use Rattle.queue_steps.specs.declared.model.Call.TheVariants as call;
@@ -25,11 +21,8 @@ ghost use Rattle.queue_steps.specs.declared.model.Reply.TheVariants as reply;
 use crate::calls::sealed::Sealed;
 use crate::calls::store::Store;
 use crate::text::write_queue;
-use atomic_table::Closed;
 use call_driver::own::drive_in_loop;
-use mem_blocks::chain::Chain;
-use mem_blocks::item::{Item, Place};
-use own_cells::chain::own_chain::{Name, OwnChain};
+use own_cells::chain::own_chain::OwnChain;
 use own_cells::ring::own_ring::OwnRing;
 use own_cells::slot::own_slot::OwnSlot;
 use queue_steps::errors::{ForcePushError, PopError, PushError};
@@ -216,35 +209,23 @@ impl<T, A: Allocator> Exclusive<T, A> {
         }
     }
 
-    /// A queue in the memory of a table that is no longer shared, whose words and slots are those of a ring of this capacity.
-    pub fn of_table(capacity: usize, memory: Closed<Option<T>, A>) -> Self
-        requires full { IsFull memory.words × IsFull memory.slots }
-        requires sized { (slots_len memory.words ≡ capacity + STAMPS) × (slots_len memory.slots ≡ capacity) }
-        requires idle { IsRingIdle (ring_in capacity (slots_items memory.words) (slots_items memory.slots)) }
-        ensures { result ≡ ring_owned (ring_in capacity (slots_items memory.words) (slots_items memory.slots)) }
+    /// A queue of this ring, which no call holds.
+    pub fn of_ring(ring: OwnRing<T, A>) -> Self
+        requires { IsRingIdle ring }
+        ensures { result ≡ ring_owned ring }
     {
         Exclusive {
-            form: Form::Ring(OwnRing { capacity, memory }),
+            form: Form::Ring(ring),
         }
     }
 
-    /// A queue in a chain of blocks that is no longer shared: those from the front's to the one where the next item goes, or none.
-    /// `head` and `tail` are the words of the two positions, `front` and `back` the links to the first and the last block.
-    pub fn of_chain(
-        alloc: A,
-        chain: Chain<Item<T>, A>,
-        head: u64,
-        tail: u64,
-        front: Option<Place<T>>,
-        back: Option<Place<T>>,
-    ) -> Self
-        requires heap { chain.heap ≡ alloc }
-        requires held { AreHeld chain.blocks }
-        requires idle { IsOwnChainIdle (own_chain_in head tail front back chain.blocks) }
-        ensures { result ≡ own_chain_owned (own_chain_in head tail front back chain.blocks) }
+    /// A queue of this chain, which no call holds.
+    pub fn of_chain(chain: OwnChain<T, A>) -> Self
+        requires { IsOwnChainIdle chain }
+        ensures { result ≡ own_chain_owned chain }
     {
         Exclusive {
-            form: Form::Chain(OwnChain::of_chain(alloc, chain, head, tail, front, back)),
+            form: Form::Chain(chain),
         }
     }
 

@@ -1,118 +1,105 @@
 -- What one stage takes, another takes too: a move may be put off until after an event, and a call that does not end need not see its reply.
-use Rattle.std.proofs.Common.{◌≡◌, ◌≢◌, ◌∙◌, ◌⊎◌, inl, inr, ℕ, Bool, true, false, not, Option, Some, None, List, [], ◌∷◌, ◌++◌, refl, ap, sym, subst}
-use Rattle.std.proofs.lemmas.Bool.{cases_eq, eq-eqb, ne_eqb}
+use Rattle.std.proofs.Common.{◌≡◌, ◌≢◌, ◌∙◌, ◌⊎◌, inl, inr, ℕ, suc, zero, Bool, true, false, not, Option, Some, None, List, [], ◌∷◌, ◌++◌, refl, ap, sym, subst, length, take, arith}
+use Rattle.std.proofs.lemmas.{Bool.cases_eq, Bool.eq-eqb, Bool.ne_eqb, List.take_all, List.take-append-le}
 use Rattle.std.specs.Prelude.{slice_get, slice_set, if◌then◌else◌}
-use Rattle.std.proofs.lemmas.List.{set_comm}
-use Rattle.queue_steps.specs.State.{State}
-use Rattle.queue_steps.specs.declared.model.Call.{Call}
-use Rattle.queue_steps.specs.declared.model.Reply.{Reply}
-use Rattle.history_check.specs.declared.recorded.Event.{Event}
-use Rattle.history_check.specs.declared.recorded.Event.TheVariants.{Begin, End}
-use Rattle.history_check.specs.declared.recorded.Move.{Move}
-use Rattle.history_check.specs.declared.recorded.Move.TheVariants as move
-use Rattle.history_check.specs.declared.recorded.Way.{Way}
-use Rattle.history_check.specs.declared.recorded.Way.TheVariants.{Waiting, Halfway, Answered}
-use Rattle.history_check.specs.Legal.{Stage, IsAt, opening, MayRecord, recorded, Makes, Goes, BeginningsAreLegal}
-use Rattle.history_check.specs.Levels.{next_reply, MovesMayWait}
-use Rattle.history_check.proofs.Moves.{set_here, set_other, IsMoreOpen, stage, step_of}
+use Rattle.queue_steps.specs.declared.model.{Call.Call, Reply.Reply}
+use Rattle.history_check.specs.declared.recorded.{Event.Event, Event.TheVariants.Begin, Event.TheVariants.End, Move.Move, Way.Way, Way.TheVariants.Waiting, Way.TheVariants.Answered}
+use Rattle.history_check.specs.Levels.{next_reply, IsExpected, MovesMayWait}
+use Rattle.history_check.specs.Legal.{Stage, IsAt, moved, opening, MayRecord, recorded, Makes, Goes, IsLegal, BeginningsAreLegal}
+use Rattle.history_check.proofs.Moves.{set_here, set_other, set_same, IsAsOpen, as_open, HasReply, with_calls, Step, step_of, is_there, elsewhere, beside}
 
--- a party that is so far in the one stage is no worse off than in the other: it is as far; or it saw the queue open; or it has a reply in the other that never ends its call
-abbrev NoWorse : List Event → ℕ → Option (Option Way) → Option (Option Way) → Type 0
-NoWorse es p x y =
-    (x ≡ y)
-    ⊎ (((c : Call ℕ) × (x ≡ Some (Some (Waiting c true))) × (y ≡ Some (Some (Waiting c false))))
-    ⊎ ((r : Reply ℕ) × (y ≡ Some (Some (Answered r))) × (next_reply p es ≡ None)))
+-- a move between two events goes before moves that go on
+pub made_first : (s t : Stage) (m : Move) (es : List Event) (ms : List Move) → Makes s m t → Goes t es ms → Goes s es (m ∷ ms)
+made_first s t Move.Event es ms makes g = absurd makes
+made_first s t (Move.See p r) es ms makes g = (t, es, (makes, refl), g)
+made_first s t (Move.Act p r) es ms makes g = (t, es, (makes, refl), g)
+made_first s t (Move.Part p r) es ms makes g = (t, es, (makes, refl), g)
+made_first s t (Move.Arrive p) es ms makes g = (t, es, (makes, refl), g)
+made_first s t (Move.Displace p r) es ms makes g = (t, es, (makes, refl), g)
+
+-- what holds at the end, and before an event or a move between two where it holds behind it, holds wherever moves go on
+pub along : (P : Stage → List Event → List Move → Type 0) → ((s : Stage) → P s [] [])
+    → ((s : Stage) (e : Event) (es : List Event) (ms : List Move) → MayRecord s e → Goes (recorded s e) es ms → P (recorded s e) es ms → P s (e ∷ es) (Move.Event ∷ ms))
+    → ((s t : Stage) (m : Move) (es : List Event) (ms : List Move) → Makes s m t → Goes t es ms → ((u : Stage) → Goes u es ms → P u es ms) → P s es (m ∷ ms))
+    → (ms : List Move) (es : List Event) (s : Stage) → Goes s es ms → P s es ms
+along P end event made [] es s g = subst (λ (l : List Event). P s l []) (sym g) (end s)
+along P end event made (Move.Event ∷ ms) [] s (t, fs, never, g) = absurd never
+along P end event made (Move.Event ∷ ms) (e ∷ es) s (t, fs, (may, is, same), g) = let on = rw (is, same) at g in event s e es ms may on (along P end event made ms es (recorded s e) on)
+along P end event made (Move.See p r ∷ ms) es s (t, fs, (makes, same), g) = made s t (Move.See p r) es ms makes (rw same at g) (along P end event made ms es)
+along P end event made (Move.Act p r ∷ ms) es s (t, fs, (makes, same), g) = made s t (Move.Act p r) es ms makes (rw same at g) (along P end event made ms es)
+along P end event made (Move.Part p r ∷ ms) es s (t, fs, (makes, same), g) = made s t (Move.Part p r) es ms makes (rw same at g) (along P end event made ms es)
+along P end event made (Move.Arrive p ∷ ms) es s (t, fs, (makes, same), g) = made s t (Move.Arrive p) es ms makes (rw same at g) (along P end event made ms es)
+along P end event made (Move.Displace p r ∷ ms) es s (t, fs, (makes, same), g) = made s t (Move.Displace p r) es ms makes (rw same at g) (along P end event made ms es)
+
+-- a party is no worse off than one that is at w: it is as far, and saw the queue open where that one did; or that one has a reply that never ends its call
+abbrev NoWorse : List Event → ℕ → Option Way → Option Way → Type 0
+NoWorse es p o None = o ≡ None
+NoWorse es p o (Some w) = IsAsOpen o w ⊎ ((r : Reply ℕ) × (w ≡ Answered r) × (next_reply p es ≡ None))
 
 abbrev AllNoWorse : List Event → List (Option Way) → List (Option Way) → Type 0
-AllNoWorse es xs ys = (p : ℕ) → NoWorse es p (slice_get xs p) (slice_get ys p)
+AllNoWorse es xs ys = (p : ℕ) (w : Option Way) → slice_get ys p ≡ Some w → (o : Option Way) × (slice_get xs p ≡ Some o) × NoWorse es p o w
 
-same_worse : (es fs : List Event) (p : ℕ) (x x' y y' : Option (Option Way)) → x' ≡ x → y' ≡ y → (next_reply p es ≡ None → next_reply p fs ≡ None) → NoWorse es p x y → NoWorse fs p x' y'
-same_worse es fs p x x' y y' ex ey keeps (inl e) = inl (ex ∙ e ∙ sym ey)
-same_worse es fs p x x' y y' ex ey keeps (inr (inl (c, a, b))) = inr (inl (c, ex ∙ a, ey ∙ b))
-same_worse es fs p x x' y y' ex ey keeps (inr (inr (r, b, none))) = inr (inr (r, ey ∙ b, keeps none))
+-- a party is no worse off than itself
+same_way : (es : List Event) (p : ℕ) (w : Option Way) → NoWorse es p w w
+same_way es p None = refl
+same_way es p (Some w) = inl (as_open w)
 
--- one party is as far in both then, and the others where they were
-updated : (es fs : List Event) (q : ℕ) (o : Option Way) (xs ys : List (Option Way)) (x y : Option Way) → slice_get xs q ≡ Some x → slice_get ys q ≡ Some y → ((p : ℕ) → p ≢ q → next_reply p es ≡ None → next_reply p fs ≡ None) → AllNoWorse es xs ys → AllNoWorse fs (slice_set xs q o) (slice_set ys q o)
-updated es fs q o xs ys x y here there keeps worse p =
-    let both : slice_get (slice_set xs q o) q ≡ slice_get (slice_set ys q o) q = set_here xs q x o here ∙ sym (set_here ys q y o there) in
-    elim (cases_eq p q) [
-      | inl same ↦ inl (subst (λ (k : ℕ). slice_get (slice_set xs q o) k ≡ slice_get (slice_set ys q o) k) (sym same) both)
-      | inr ne ↦ same_worse es fs p (slice_get xs p) (slice_get (slice_set xs q o) p) (slice_get ys p) (slice_get (slice_set ys q o) p) (set_other xs q p o ne) (set_other ys q p o ne) (keeps p ne) (worse p)
-    ]
+-- nor than before, where its call still does not end
+fewer : (es fs : List Event) (p : ℕ) (o w : Option Way) → (next_reply p es ≡ None → next_reply p fs ≡ None) → NoWorse es p o w → NoWorse fs p o w
+fewer es fs p o None keeps is = is
+fewer es fs p o (Some w) keeps (inl is) = inl is
+fewer es fs p o (Some w) keeps (inr (r, it, none)) = inr (r, it, keeps none)
 
-more_open : (es : List Event) (q : ℕ) (w : Way) (x y : Option (Option Way)) → y ≡ Some (Some w) → ((r : Reply ℕ) → w ≡ Answered r → ⊥) → NoWorse es q x y → (v : Way) × (x ≡ Some (Some v)) × IsMoreOpen v w
-more_open es q w x y at un (inl e) = (w, e ∙ at, inl refl)
-more_open es q w x y at un (inr (inl (c, a, b))) = (Waiting c true, a, inr (c, refl, (cc)))
-more_open es q w x y at un (inr (inr (r, b, none))) = absurd (un r (cc))
+-- one party is no worse off then, and the others are where they were
+updated : (es fs : List Event) (q : ℕ) (x o w : Option Way) (xs ys : List (Option Way)) → slice_get xs q ≡ Some x → NoWorse fs q o w → ((p : ℕ) → p ≢ q → next_reply p es ≡ None → next_reply p fs ≡ None) → AllNoWorse es xs ys → AllNoWorse fs (slice_set xs q o) (slice_set ys q w)
+updated es fs q x o w xs ys here it keeps worse p v there = elim (cases_eq p q) [
+  | inl same ↦
+      let is : w ≡ v = sym (set_same ys q w v (rw same at there)) in
+      (o, rw same (set_here xs q x o here), rw (same, ← is) it)
+  | inr ne ↦ let h = worse p v (sym (set_other ys q p w ne) ∙ there) in (h.0, set_other xs q p o ne ∙ h.1, fewer es fs p h.0 v (keeps p ne) h.2)
+]
 
--- what is between calls in the one stage is so in the other
-between : (es : List Event) (q : ℕ) (x y : Option (Option Way)) → y ≡ Some None → NoWorse es q x y → x ≡ Some None
-between es q x y at (inl e) = e ∙ at
-between es q x y at (inr (inl (c, a, b))) = absurd (cc)
-between es q x y at (inr (inr (r, b, none))) = absurd (cc)
-
-next_same : (p : ℕ) (r : Reply ℕ) (es : List Event) → next_reply p (End p r ∷ es) ≡ Some r
-next_same p r es = ap (λ (b : Bool). if b then Some r else next_reply p es) (eq-eqb p p refl)
+next_same : (p q : ℕ) (r : Reply ℕ) (es : List Event) → p ≡ q → next_reply p (End q r ∷ es) ≡ Some r
+next_same p q r es same = ap (λ (b : Bool). if b then Some r else next_reply p es) (eq-eqb p q same)
 
 pub next_other : (p q : ℕ) (r : Reply ℕ) (es : List Event) → p ≢ q → next_reply p (End q r ∷ es) ≡ next_reply p es
 next_other p q r es ne = ap (λ (b : Bool). if b then Some r else next_reply p es) (ne_eqb p q ne)
 
-answered : (es : List Event) (q : ℕ) (r : Reply ℕ) (x y : Option (Option Way)) → y ≡ Some (Some (Answered r)) → NoWorse (End q r ∷ es) q x y → x ≡ Some (Some (Answered r))
-answered es q r x y at (inl e) = e ∙ at
-answered es q r x y at (inr (inl (c, a, b))) = absurd (cc)
-answered es q r x y at (inr (inr (r', b, none))) = absurd (let some = next_same q r es in cc)
+-- the moves go on wherever the calls are no worse off
+abbrev GoesOn : Stage → List Event → List Move → Type 0
+GoesOn s es ms = (calls : List (Option Way)) → AllNoWorse es calls s.calls → Goes (with_calls s calls) es ms
 
--- a call's move in the other stage, made in the one
-module _ (a : Bool) (m : Move) (ms : List Move) (es : List Event) (Q : State ℕ) (xs ys : List (Option Way)) (worse : AllNoWorse es xs ys) where
-  carried : (t : Stage) (fs : List Event) → Makes (stage a Q ys) m t → fs ≡ es → Goes t fs ms → (R : State ℕ) × (us vs : List (Option Way)) × Makes (stage a Q xs) m (stage a R us) × AllNoWorse es us vs × Goes (stage a R vs) es ms
-  carried t fs makes same g =
-      let step = step_of (stage a Q ys) t m makes in
-      let q = step.party in
-      let o : Option Way = Some step.new in
-      let more = more_open es q step.old (slice_get xs q) (slice_get ys q) step.at step.unanswered (worse q) in (
-        step.queue,
-        slice_set xs q o,
-        slice_set ys q o,
-        step.again xs more.0 more.1 more.2,
-        updated es es q o xs ys (Some more.0) (Some step.old) more.1 step.at (λ p ne none. none) worse,
-        subst (λ (l : List Event). Goes (stage a step.queue (slice_set ys q o)) l ms) same (subst (λ (u : Stage). Goes u fs ms) step.is g),
-      )
+on_by_event : (s : Stage) (e : Event) (es : List Event) (ms : List Move) → MayRecord s e → GoesOn (recorded s e) es ms → GoesOn s (e ∷ es) (Move.Event ∷ ms)
+on_by_event s (Begin q c) es ms at on xs worse =
+    let o : Option Way = Some (Waiting c (not s.queue.closed)) in
+    let h = worse q None at in
+    let here : slice_get xs q ≡ Some None = h.1 ∙ ap Some h.2 in
+    (recorded (with_calls s xs) (Begin q c), es, (here, refl, refl), on (slice_set xs q o) (updated (Begin q c ∷ es) es q None o o xs s.calls here (same_way es q o) (λ p ne none. none) worse))
+on_by_event s (End q r) es ms at on xs worse =
+    let h = worse q (Some (Answered r)) at in
+    let answered : h.0 ≡ Some (Answered r) = elim h.2 [ inl is ↦ is | inr x ↦ absurd (let some = next_same q q r es refl in cc (some, x.2)) ] in
+    let here : slice_get xs q ≡ Some (Some (Answered r)) = h.1 ∙ ap Some answered in
+    let later = updated (End q r ∷ es) es q (Some (Answered r)) None None xs s.calls here refl (λ p ne none. sym (next_other p q r es ne) ∙ none) worse in
+    (recorded (with_calls s xs) (End q r), es, (here, refl, refl), on (slice_set xs q None) later)
 
-no_worse : (a : Bool) (ms : List Move) (es : List Event) (Q : State ℕ) (xs ys : List (Option Way)) → AllNoWorse es xs ys → Goes (stage a Q ys) es ms → Goes (stage a Q xs) es ms
-no_worse a [] es Q xs ys worse g = g
-no_worse a (move.Event ∷ ms) [] Q xs ys worse (t, fs, never, g) = absurd never
-no_worse a (move.Event ∷ ms) (Begin q c ∷ es) Q xs ys worse (t, fs, (at, is, same), g) =
-    let o : Option Way = Some (Waiting c (not Q.closed)) in
-    let here = between (Begin q c ∷ es) q (slice_get xs q) (slice_get ys q) at (worse q) in
-    let g' : Goes (stage a Q (slice_set ys q o)) es ms = subst (λ (l : List Event). Goes (stage a Q (slice_set ys q o)) l ms) same (subst (λ (u : Stage). Goes u fs ms) is g) in
-    (stage a Q (slice_set xs q o), es, (here, refl, refl), no_worse a ms es Q (slice_set xs q o) (slice_set ys q o) (updated (Begin q c ∷ es) es q o xs ys None None here at (λ p ne none. none) worse) g')
-no_worse a (move.Event ∷ ms) (End q r ∷ es) Q xs ys worse (t, fs, (at, is, same), g) =
-    let here = answered es q r (slice_get xs q) (slice_get ys q) at (worse q) in
-    let g' : Goes (stage a Q (slice_set ys q None)) es ms = subst (λ (l : List Event). Goes (stage a Q (slice_set ys q None)) l ms) same (subst (λ (u : Stage). Goes u fs ms) is g) in
-    (stage a Q (slice_set xs q None), es, (here, refl, refl), no_worse a ms es Q (slice_set xs q None) (slice_set ys q None) (updated (End q r ∷ es) es q None xs ys (Some (Answered r)) (Some (Answered r)) here at (λ p ne none. sym (next_other p q r es ne) ∙ none) worse) g')
-no_worse a (move.See p r ∷ ms) es Q xs ys worse (t, fs, (makes, same), g) =
-    let c = carried a (move.See p r) ms es Q xs ys worse t fs makes same g in (stage a c.0 c.1, es, (c.3, refl), no_worse a ms es c.0 c.1 c.2 c.4 c.5)
-no_worse a (move.Act p r ∷ ms) es Q xs ys worse (t, fs, (makes, same), g) =
-    let c = carried a (move.Act p r) ms es Q xs ys worse t fs makes same g in (stage a c.0 c.1, es, (c.3, refl), no_worse a ms es c.0 c.1 c.2 c.4 c.5)
-no_worse a (move.Part p r ∷ ms) es Q xs ys worse (t, fs, (makes, same), g) =
-    let c = carried a (move.Part p r) ms es Q xs ys worse t fs makes same g in (stage a c.0 c.1, es, (c.3, refl), no_worse a ms es c.0 c.1 c.2 c.4 c.5)
-no_worse a (move.Arrive p ∷ ms) es Q xs ys worse (t, fs, (makes, same), g) =
-    let c = carried a (move.Arrive p) ms es Q xs ys worse t fs makes same g in (stage a c.0 c.1, es, (c.3, refl), no_worse a ms es c.0 c.1 c.2 c.4 c.5)
-no_worse a (move.Displace p r ∷ ms) es Q xs ys worse (t, fs, (makes, same), g) =
-    let c = carried a (move.Displace p r) ms es Q xs ys worse t fs makes same g in (stage a c.0 c.1, es, (c.3, refl), no_worse a ms es c.0 c.1 c.2 c.4 c.5)
+on_by_move : (s t : Stage) (m : Move) (es : List Event) (ms : List Move) → Makes s m t → GoesOn t es ms → GoesOn s es (m ∷ ms)
+on_by_move s t m es ms makes on xs worse =
+    let step = step_of s t m makes in
+    let q = step.party in
+    let o : Option Way = Some step.new in
+    let h = worse q (Some step.old) step.at in
+    let as_far : IsAsOpen h.0 step.old = elim h.2 [ inl is ↦ is | inr x ↦ absurd (step.unanswered x.0 x.1) ] in
+    let later = updated es es q h.0 o o xs s.calls h.1 (same_way es q o) (λ p ne none. none) worse in
+    made_first (with_calls s xs) (moved (with_calls s xs) step.queue q o) m es ms (step.again xs h.0 h.1 as_far) (subst (λ (u : Stage). GoesOn u es ms) step.is on (slice_set xs q o) later)
+
+no_worse : (ms : List Move) (es : List Event) (s : Stage) → Goes s es ms → GoesOn s es ms
+no_worse = along GoesOn (λ s xs worse. refl) (λ s e es ms may g. on_by_event s e es ms may) (λ s t m es ms makes g on. on_by_move s t m es ms makes (on t g))
 
 -- a call that begins before a close saw no less than one that begins after it
-opens : (es : List Event) (p : ℕ) (c : Call ℕ) (b a : Bool) → (b ≡ true → a ≡ true) → NoWorse es p (Some (Some (Waiting c (not b)))) (Some (Some (Waiting c (not a))))
-opens es p c true true keeps = inl refl
-opens es p c false false keeps = inl refl
-opens es p c false true keeps = inr (inl (c, refl, refl))
-opens es p c true false keeps = absurd (let no = keeps refl in cc)
-
-at_one : (es : List Event) (p : ℕ) (ys : List (Option Way)) (w x y : Option Way) → slice_get ys p ≡ Some w → NoWorse es p (Some x) (Some y) → AllNoWorse es (slice_set ys p x) (slice_set ys p y)
-at_one es p ys w x y at worse k = elim (cases_eq k p) [
-  | inl same ↦ subst (λ (k : ℕ). NoWorse es k (slice_get (slice_set ys p x) k) (slice_get (slice_set ys p y) k)) (sym same) (same_worse es es p (Some x) (slice_get (slice_set ys p x) p) (Some y) (slice_get (slice_set ys p y) p) (set_here ys p w x at) (set_here ys p w y at) (λ none. none) worse)
-  | inr ne ↦ inl (set_other ys p k x ne ∙ sym (set_other ys p k y ne))
-]
+opens : (c : Call ℕ) (b a : Bool) → (b ≡ true → a ≡ true) → IsAsOpen (Some (Waiting c (not b))) (Waiting c (not a))
+opens c b true keeps = (not b, refl)
+opens c false false keeps = refl
+opens c true false keeps = let no = keeps refl in absurd (cc)
 
 -- the event may be recorded before the move, and then what takes the rest takes it
 abbrev Delays : Stage → Move → Event → Stage → Type 0
@@ -121,157 +108,81 @@ Delays s m e u = MayRecord u e × ((t : Stage) × Makes (recorded s e) m t × ((
 delayed : (s u : Stage) (m : Move) (e : Event) → MayRecord s e → Makes s m u → Delays s m e u
 delayed s u m (Begin p c) at makes =
     let step = step_of s u m makes in
-    let q = step.party in
-    let o : Option Way = Some step.new in
+    let ne : p ≢ step.party = λ same. cc (same, at, step.at) in
+    let stays : slice_get u.calls p ≡ Some None = elsewhere step p ne ∙ at in
     let x : Option Way = Some (Waiting c (not s.queue.closed)) in
-    let y : Option Way = Some (Waiting c (not step.queue.closed)) in
-    let ys : List (Option Way) = slice_set s.calls q o in
-    let was : slice_get s.calls q ≡ Some (Some step.old) = step.at in
-    let ne : p ≢ q = λ same. absurd (let there : slice_get s.calls q ≡ Some None = subst (λ (k : ℕ). slice_get s.calls k ≡ Some None) same at in cc) in
-    let stays : slice_get ys p ≡ Some None = set_other s.calls q p o ne ∙ at in
-    let there : slice_get (slice_set s.calls p x) q ≡ Some (Some step.old) = set_other s.calls p q x (λ same. ne (sym same)) ∙ was in
-    let worse : (es : List Event) → AllNoWorse es (slice_set ys p x) (slice_set ys p y) = λ es. at_one es p ys None x y stays (opens es p c s.queue.closed step.queue.closed step.closed) in
-    let swap : slice_set (slice_set s.calls p x) q o ≡ slice_set ys p x = set_comm s.calls p q x o ne in
-    let D : Stage → Type 0 = Delays s m (Begin p c) in
-    subst D (sym step.is) (
-      stays,
-      (
-        stage s.at_once step.queue (slice_set (slice_set s.calls p x) q o),
-        step.again (slice_set s.calls p x) step.old there (inl refl),
-        λ es ns g. subst (λ (l : List (Option Way)). Goes (stage s.at_once step.queue l) es ns) (sym swap) (no_worse s.at_once ns es step.queue (slice_set ys p x) (slice_set ys p y) (worse es) g),
-      ),
-    )
+    let y : Option Way = Some (Waiting c (not u.queue.closed)) in
+    let no_less : IsAsOpen x (Waiting c (not u.queue.closed)) = opens c s.queue.closed u.queue.closed (λ shut. ap (λ (v : Stage). v.queue.closed) step.is ∙ step.closed shut) in
+    let worse : (es : List Event) → AllNoWorse es (slice_set u.calls p x) (slice_set u.calls p y) = λ es. updated es es p None x y u.calls u.calls stays (inl no_less) (λ k no none. none) (λ k w at. (w, at, same_way es k w)) in
+    (stays, (moved u u.queue p x, beside step p x ne, λ es ns g. no_worse ns es (moved u u.queue p y) g (slice_set u.calls p x) (worse es)))
 delayed s u m (End p r) at makes =
     let step = step_of s u m makes in
-    let q = step.party in
-    let o : Option Way = Some step.new in
-    let ys : List (Option Way) = slice_set s.calls q o in
-    let was : slice_get s.calls q ≡ Some (Some step.old) = step.at in
-    let ne : p ≢ q = λ same. step.unanswered r (let there : slice_get s.calls q ≡ Some (Some (Answered r)) = subst (λ (k : ℕ). slice_get s.calls k ≡ Some (Some (Answered r))) same at in cc) in
-    let stays : slice_get ys p ≡ Some (Some (Answered r)) = set_other s.calls q p o ne ∙ at in
-    let there : slice_get (slice_set s.calls p None) q ≡ Some (Some step.old) = set_other s.calls p q None (λ same. ne (sym same)) ∙ was in
-    let swap : slice_set (slice_set s.calls p None) q o ≡ slice_set ys p None = set_comm s.calls p q None o ne in
-    let D : Stage → Type 0 = Delays s m (End p r) in
-    subst D (sym step.is) (
-      stays,
-      (
-        stage s.at_once step.queue (slice_set (slice_set s.calls p None) q o),
-        step.again (slice_set s.calls p None) step.old there (inl refl),
-        λ es ns g. subst (λ (l : List (Option Way)). Goes (stage s.at_once step.queue l) es ns) (sym swap) g,
-      ),
-    )
+    let ne : p ≢ step.party = λ same. step.unanswered r (cc (same, at, step.at)) in
+    (elsewhere step p ne ∙ at, (recorded u (End p r), beside step p None ne, λ es ns g. g))
 
-abbrev GoesAfter : Stage → Event → List Event → Type 0
-GoesAfter s e es = (ns : List Move) × Goes (recorded s e) es ns
+-- where the next event may be recorded at once, moves before it may be put off
+abbrev MayWait : Stage → List Event → List Move → Type 0
+MayWait s [] ms = Unit {0}
+MayWait s (e ∷ es) ms = MayRecord s e → (ns : List Move) × Goes (recorded s e) es ns
 
--- where the event may be recorded at once, moves before it may be put off
-pub put_off : (ms : List Move) (e : Event) (es : List Event) (s : Stage) → MayRecord s e → Goes s (e ∷ es) ms → GoesAfter s e es
-put_off [] e es s may g = absurd (let no : e ∷ es ≡ [] = g in cc)
-put_off (move.Event ∷ ms) e es s may (t, fs, (at, is, same), g) = (ms, subst (λ (l : List Event). Goes (recorded s e) l ms) same (subst (λ (u : Stage). Goes u fs ms) is g))
-put_off (move.See p r ∷ ms) e es s may (t, fs, (makes, same), g) =
-    let d = delayed s t (move.See p r) e may makes in let n = put_off ms e es t d.0 (subst (λ (l : List Event). Goes t l ms) same g) in (move.See p r ∷ n.0, (d.1.0, es, (d.1.1, refl), d.1.2 es n.0 n.1))
-put_off (move.Act p r ∷ ms) e es s may (t, fs, (makes, same), g) =
-    let d = delayed s t (move.Act p r) e may makes in let n = put_off ms e es t d.0 (subst (λ (l : List Event). Goes t l ms) same g) in (move.Act p r ∷ n.0, (d.1.0, es, (d.1.1, refl), d.1.2 es n.0 n.1))
-put_off (move.Part p r ∷ ms) e es s may (t, fs, (makes, same), g) =
-    let d = delayed s t (move.Part p r) e may makes in let n = put_off ms e es t d.0 (subst (λ (l : List Event). Goes t l ms) same g) in (move.Part p r ∷ n.0, (d.1.0, es, (d.1.1, refl), d.1.2 es n.0 n.1))
-put_off (move.Arrive p ∷ ms) e es s may (t, fs, (makes, same), g) =
-    let d = delayed s t (move.Arrive p) e may makes in let n = put_off ms e es t d.0 (subst (λ (l : List Event). Goes t l ms) same g) in (move.Arrive p ∷ n.0, (d.1.0, es, (d.1.1, refl), d.1.2 es n.0 n.1))
-put_off (move.Displace p r ∷ ms) e es s may (t, fs, (makes, same), g) =
-    let d = delayed s t (move.Displace p r) e may makes in let n = put_off ms e es t d.0 (subst (λ (l : List Event). Goes t l ms) same g) in (move.Displace p r ∷ n.0, (d.1.0, es, (d.1.1, refl), d.1.2 es n.0 n.1))
-
--- a call that does not end need not see its reply
-pub need_not_see : (s t : Stage) (p : ℕ) (r : Reply ℕ) (es : List Event) (ms : List Move) → Makes s (move.See p r) t → next_reply p es ≡ None → Goes t es ms → Goes s es ms
-need_not_see s t p r es ms (c, b, at, allows, is) none g =
-    let ys : List (Option Way) = slice_set s.calls p (Some (Answered r)) in
-    let here : slice_get ys p ≡ Some (Some (Answered r)) = set_here s.calls p (Some (Waiting c b)) (Some (Answered r)) at in
-    let worse : AllNoWorse es s.calls ys = λ k. elim (cases_eq k p) [
-      | inl same ↦ subst (λ (k : ℕ). NoWorse es k (slice_get s.calls k) (slice_get ys k)) (sym same) (inr (inr (r, here, none)))
-      | inr ne ↦ inl (sym (set_other s.calls p k (Some (Answered r)) ne))
-    ] in
-    no_worse s.at_once ms es s.queue s.calls ys worse (subst (λ (u : Stage). Goes u es ms) is g)
-
--- the party's call has this reply, or will get it
-abbrev pub Gets : Stage → ℕ → Reply ℕ → Type 0
-Gets s p r = IsAt s p (Answered r) ⊎ IsAt s p (Halfway r)
-
-still_gets : (s t : Stage) (m : Move) (p : ℕ) (r : Reply ℕ) → Makes s m t → Gets s p r → Gets t p r
-still_gets s t m p r makes gets =
-    let step = step_of s t m makes in
-    let q = step.party in
-    let o : Option Way = Some step.new in
-    let was : slice_get s.calls q ≡ Some (Some step.old) = step.at in
-    let there : slice_get (slice_set s.calls q o) q ≡ Some o = set_here s.calls q (Some step.old) o was in
-    let P : ℕ → Type 0 = λ k. Gets s k r in
-    let G : Stage → Type 0 = λ u. Gets u p r in
-    subst G (sym step.is) (elim (cases_eq p q) [
-      | inl same ↦ elim (subst P same gets) [
-        | inl at ↦ absurd (step.unanswered r (let is : slice_get s.calls q ≡ Some (Some (Answered r)) = at in cc))
-        | inr at ↦ inl (let is : slice_get s.calls q ≡ Some (Some (Halfway r)) = at in let old : step.old ≡ Halfway r = cc in let new = step.half r old in
-            subst (λ (k : ℕ). slice_get (slice_set s.calls q o) k ≡ Some (Some (Answered r))) (sym same) (there ∙ ap (λ (w : Way). Some (Some w)) new))
-      ]
-      | inr ne ↦ elim gets [
-        | inl at ↦ inl (set_other s.calls q p o ne ∙ at)
-        | inr at ↦ inr (set_other s.calls q p o ne ∙ at)
-      ]
-    ])
-
--- the event is none of the party's, whose call has not ended
-stays_by : (s : Stage) (q p : ℕ) (o : Option Way) (r : Reply ℕ) → p ≢ q → Gets s p r → Gets (stage s.at_once s.queue (slice_set s.calls q o)) p r
-stays_by s q p o r ne (inl at) = inl (set_other s.calls q p o ne ∙ at)
-stays_by s q p o r ne (inr at) = inr (set_other s.calls q p o ne ∙ at)
-
-in_call : (s : Stage) (p q : ℕ) (r : Reply ℕ) → Gets s p r → slice_get s.calls q ≡ Some None → p ≢ q
-in_call s p q r (inl at) none same = absurd (let is : slice_get s.calls q ≡ Some (Some (Answered r)) = subst (λ (k : ℕ). slice_get s.calls k ≡ Some (Some (Answered r))) same at in cc)
-in_call s p q r (inr at) none same = absurd (let is : slice_get s.calls q ≡ Some (Some (Halfway r)) = subst (λ (k : ℕ). slice_get s.calls k ≡ Some (Some (Halfway r))) same at in cc)
-
-one_reply : (s : Stage) (q : ℕ) (r y : Reply ℕ) → Gets s q r → IsAt s q (Answered y) → y ≡ r
-one_reply s q r y (inl at) is = cc
-one_reply s q r y (inr at) is = absurd (cc)
-
--- a call gets the reply of its party's next end
-pub gets_next : (ms : List Move) (es : List Event) (s : Stage) (p : ℕ) (r x : Reply ℕ) → Gets s p r → next_reply p es ≡ Some x → Goes s es ms → x ≡ r
-gets_next [] es s p r x gets next g = absurd (let none : next_reply p [] ≡ Some x = subst (λ (l : List Event). next_reply p l ≡ Some x) g next in cc)
-gets_next (move.Event ∷ ms) [] s p r x gets next (t, fs, never, g) = absurd never
-gets_next (move.Event ∷ ms) (Begin q c ∷ es) s p r x gets next (t, fs, (at, is, same), g) =
-    let g' : Goes (recorded s (Begin q c)) es ms = subst (λ (l : List Event). Goes (recorded s (Begin q c)) l ms) same (subst (λ (u : Stage). Goes u fs ms) is g) in
-    gets_next ms es (recorded s (Begin q c)) p r x (stays_by s q p (Some (Waiting c (not s.queue.closed))) r (in_call s p q r gets at) gets) next g'
-gets_next (move.Event ∷ ms) (End q y ∷ es) s p r x gets next (t, fs, (at, is, same), g) =
-    let g' : Goes (recorded s (End q y)) es ms = subst (λ (l : List Event). Goes (recorded s (End q y)) l ms) same (subst (λ (u : Stage). Goes u fs ms) is g) in
-    elim (cases_eq p q) [
-      | inl it ↦
-          let P : ℕ → Type 0 = λ k. Gets s k r in
-          let N : ℕ → Type 0 = λ k. next_reply k (End q y ∷ es) ≡ Some x in
-          let of_q : next_reply q (End q y ∷ es) ≡ Some x = subst N it next in
-          let first = next_same q y es in
-          let is_y : x ≡ y = cc in
-          is_y ∙ one_reply s q r y (subst P it gets) at
-      | inr ne ↦ gets_next ms es (recorded s (End q y)) p r x (stays_by s q p None r ne gets) (sym (next_other p q y es ne) ∙ next) g'
-    ]
-gets_next (move.See q y ∷ ms) es s p r x gets next (t, fs, (makes, same), g) = gets_next ms es t p r x (still_gets s t (move.See q y) p r makes gets) next (subst (λ (l : List Event). Goes t l ms) same g)
-gets_next (move.Act q y ∷ ms) es s p r x gets next (t, fs, (makes, same), g) = gets_next ms es t p r x (still_gets s t (move.Act q y) p r makes gets) next (subst (λ (l : List Event). Goes t l ms) same g)
-gets_next (move.Part q y ∷ ms) es s p r x gets next (t, fs, (makes, same), g) = gets_next ms es t p r x (still_gets s t (move.Part q y) p r makes gets) next (subst (λ (l : List Event). Goes t l ms) same g)
-gets_next (move.Arrive q ∷ ms) es s p r x gets next (t, fs, (makes, same), g) = gets_next ms es t p r x (still_gets s t (move.Arrive q) p r makes gets) next (subst (λ (l : List Event). Goes t l ms) same g)
-gets_next (move.Displace q y ∷ ms) es s p r x gets next (t, fs, (makes, same), g) = gets_next ms es t p r x (still_gets s t (move.Displace q y) p r makes gets) next (subst (λ (l : List Event). Goes t l ms) same g)
-
--- an order without what takes later events
-cut : (es fs : List Event) (s : Stage) (ms : List Move) → Goes s (es ++ fs) ms → (ns : List Move) × Goes s es ns
-cut [] fs s ms g = ([], refl)
-cut (e ∷ es) fs s [] g = absurd (let no : e ∷ (es ++ fs) ≡ [] = g in cc)
-cut (e ∷ es) fs s (move.Event ∷ ms) (t, gs, (may, is, same), g) =
-    let r = cut es fs t ms (subst (λ (x : List Event). Goes t x ms) same g) in (move.Event ∷ r.0, (t, es, (may, is, refl), r.1))
-cut (e ∷ es) fs s (move.See p y ∷ ms) (t, gs, (makes, same), g) =
-    let r = cut (e ∷ es) fs t ms (subst (λ (x : List Event). Goes t x ms) same g) in (move.See p y ∷ r.0, (t, e ∷ es, (makes, refl), r.1))
-cut (e ∷ es) fs s (move.Act p y ∷ ms) (t, gs, (makes, same), g) =
-    let r = cut (e ∷ es) fs t ms (subst (λ (x : List Event). Goes t x ms) same g) in (move.Act p y ∷ r.0, (t, e ∷ es, (makes, refl), r.1))
-cut (e ∷ es) fs s (move.Part p y ∷ ms) (t, gs, (makes, same), g) =
-    let r = cut (e ∷ es) fs t ms (subst (λ (x : List Event). Goes t x ms) same g) in (move.Part p y ∷ r.0, (t, e ∷ es, (makes, refl), r.1))
-cut (e ∷ es) fs s (move.Arrive p ∷ ms) (t, gs, (makes, same), g) =
-    let r = cut (e ∷ es) fs t ms (subst (λ (x : List Event). Goes t x ms) same g) in (move.Arrive p ∷ r.0, (t, e ∷ es, (makes, refl), r.1))
-cut (e ∷ es) fs s (move.Displace p y ∷ ms) (t, gs, (makes, same), g) =
-    let r = cut (e ∷ es) fs t ms (subst (λ (x : List Event). Goes t x ms) same g) in (move.Displace p y ∷ r.0, (t, e ∷ es, (makes, refl), r.1))
-
-pub beginnings_are_legal : BeginningsAreLegal
-beginnings_are_legal rules parties es fs (ms, g) = cut es fs (opening rules parties) ms g
+put_off : (s t : Stage) (m : Move) (es : List Event) (ms : List Move) → Makes s m t → MayWait t es ms → MayWait s es (m ∷ ms)
+put_off s t m [] ms makes later = tt
+put_off s t m (e ∷ es) ms makes later = λ may. let d = delayed s t m e may makes in let n = later d.0 in (m ∷ n.0, made_first (recorded s e) d.1.0 m es n.0 d.1.1 (d.1.2 es n.0 n.1))
 
 pub moves_may_wait : MovesMayWait
-moves_may_wait s e es ms may g = put_off ms e es s may g
+moves_may_wait s e es ms may g = along MayWait (λ s. tt) (λ s e es ms may g later at. (ms, g)) (λ s t m es ms makes g later. put_off s t m es ms makes (later t g)) ms (e ∷ es) s g may
+
+-- a call that does not end need not see its reply
+pub need_not_see : (s t : Stage) (p : ℕ) (r : Reply ℕ) (es : List Event) (ms : List Move) → Makes s (Move.See p r) t → next_reply p es ≡ None → Goes t es ms → Goes s es ms
+need_not_see s t p r es ms (c, b, at, allows, is) none g =
+    let o : Option Way = Some (Answered r) in
+    no_worse ms es (moved s s.queue p o) (subst (λ (u : Stage). Goes u es ms) is g) s.calls (λ k w there. elim (cases_eq k p) [
+      | inl same ↦
+          let it : w ≡ o = set_same s.calls p o w (rw same at there) in
+          (Some (Waiting c b), rw same at, rw (it, same) (inr (r, refl, none)))
+      | inr ne ↦ (w, sym (set_other s.calls p k o ne) ∙ there, same_way es k w)
+    ])
+
+-- the call of the party has this reply, or will get it
+abbrev pub Gets : Stage → ℕ → Reply ℕ → Type 0
+Gets s p r = (w : Way) × IsAt s p w × HasReply w r
+
+still_gets : {s t : Stage} {m : Move} (step : Step s t m) (p : ℕ) (r : Reply ℕ) → Gets s p r → Gets t p r
+still_gets {s} {t} step p r (w, at, has) = elim (cases_eq p step.party) [
+  | inl same ↦
+      let was : w ≡ step.old = cc (same, at, step.at) in
+      (step.new, subst (λ (k : ℕ). IsAt t k step.new) (sym same) (is_there step), step.keeps r (subst (λ (v : Way). HasReply v r) was has))
+  | inr ne ↦ (w, elsewhere step p ne ∙ at, has)
+]
+
+-- a call gets the reply of its party's next end
+module _ (p : ℕ) (r : Reply ℕ) where
+  abbrev AsExpected : Stage → List Event → List Move → Type 0
+  AsExpected s es ms = Gets s p r → IsExpected (next_reply p es) r
+
+  expected_behind : (s : Stage) (e : Event) (es : List Event) (ms : List Move) → MayRecord s e → AsExpected (recorded s e) es ms → AsExpected s (e ∷ es) (Move.Event ∷ ms)
+  expected_behind s (Begin q c) es ms none later (w, at, has) = later (w, set_other s.calls q p (Some (Waiting c (not s.queue.closed))) (λ same. cc (same, at, none)) ∙ at, has)
+  expected_behind s (End q y) es ms its later (w, at, has) = elim (cases_eq p q) [
+    | inl same ↦
+        let was : w ≡ Answered y = cc (same, at, its) in
+        subst (λ (o : Option (Reply ℕ)). IsExpected o r) (sym (next_same p q y es same)) (subst (λ (v : Way). HasReply v r) was has)
+    | inr ne ↦ subst (λ (o : Option (Reply ℕ)). IsExpected o r) (sym (next_other p q y es ne)) (later (w, set_other s.calls q p None ne ∙ at, has))
+  ]
+
+  pub gets_expected : (ms : List Move) (es : List Event) (s : Stage) → Goes s es ms → AsExpected s es ms
+  gets_expected = along AsExpected (λ s gets. tt) (λ s e es ms may g. expected_behind s e es ms may) (λ s t m es ms makes g later gets. later t g (still_gets (step_of s t m makes) p r gets))
+
+-- some of the moves take the first of the events, however many these are
+abbrev TakesFirst : Stage → List Event → List Move → Type 0
+TakesFirst s es ms = (n : ℕ) → (ns : List Move) × Goes s (take n es) ns
+
+event_first : (s : Stage) (e : Event) (es : List Event) (ms : List Move) → MayRecord s e → TakesFirst (recorded s e) es ms → TakesFirst s (e ∷ es) (Move.Event ∷ ms)
+event_first s e es ms may later zero = ([], refl)
+event_first s e es ms may later (suc n) = let r = later n in (Move.Event ∷ r.0, (recorded s e, take n es, (may, refl, refl), r.1))
+
+pub cut : (ms : List Move) (es : List Event) (s : Stage) → Goes s es ms → TakesFirst s es ms
+cut = along TakesFirst (λ s n. ([], take_all n [] (omega arith))) (λ s e es ms may g. event_first s e es ms may) (λ s t m es ms makes g later n. let r = later t g n in (m ∷ r.0, made_first s t m (take n es) r.0 makes r.1))
+
+pub beginnings_are_legal : BeginningsAreLegal
+beginnings_are_legal rules parties es fs (ms, g) =
+    subst (λ (l : List Event). IsLegal rules parties l) (take-append-le (length es) es fs (omega arith) ∙ take_all (length es) es (omega arith)) (cut ms (es ++ fs) (opening rules parties) g (length es))

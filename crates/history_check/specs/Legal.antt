@@ -1,19 +1,8 @@
 -- When a recorded history is legal: each call has its effects between its beginning and its end, and together they are one history of the queue, in which each reply is right.
 use Rattle.std.specs.Prelude.{◌≡◌, ℕ, Bool, true, false, not, Option, Some, None, List, [], ◌∷◌, slice_get, slice_set, replicate, take, ◌<◌, ◌+◌, ◌++◌}
-use Rattle.queue_steps.specs.State.{State, start}
-use Rattle.queue_steps.specs.Effect.{Fits, made}
-use Rattle.queue_steps.specs.Replies.{Allows, Tells}
-use Rattle.queue_steps.specs.declared.model.Call.{Call}
-use Rattle.queue_steps.specs.declared.model.Reply.{Reply}
-use Rattle.queue_steps.specs.declared.model.Effect.{Effect}
-use Rattle.queue_steps.specs.declared.model.Effect.TheVariants as effect
-use Rattle.history_check.specs.declared.recorded.Event.{Event}
-use Rattle.history_check.specs.declared.recorded.Event.TheVariants.{Begin, End}
-use Rattle.history_check.specs.declared.recorded.Rules.{Rules}
-use Rattle.history_check.specs.declared.recorded.Way.{Way}
-use Rattle.history_check.specs.declared.recorded.Way.TheVariants.{Waiting, Halfway, Answered}
-use Rattle.history_check.specs.declared.recorded.Move.{Move}
-use Rattle.history_check.specs.declared.recorded.Move.TheVariants as move
+use Rattle.queue_steps.specs.{State.State, State.start, Effect.Fits, Effect.made, Replies.Allows, Replies.Tells}
+use Rattle.queue_steps.specs.declared.model.{Call.Call, Reply.Reply, Effect.Effect, Effect.Effect as effect}
+use Rattle.history_check.specs.declared.recorded.{Event.Event, Event.TheVariants.Begin, Event.TheVariants.End, Rules.Rules, Way.Way, Way.TheVariants.Waiting, Way.TheVariants.Halfway, Way.TheVariants.Answered, Move.Move, Move.Move as move}
 
 -- the rules of this project's queue: a displacement takes two steps
 abbrev pub in_steps : Option ℕ → Rules

@@ -1,17 +1,7 @@
 -- How a history is shown not to be legal: from event to event, all stages that an order can be at, until there are none.
 use Rattle.std.specs.Prelude.{◌≡◌, ℕ, Option, Some, None, List, [], ◌∷◌, ◌++◌, Contains, slice_get, length, ◌≤◌, ◌⊎◌, nat_eq, if◌then◌else◌}
-use Rattle.queue_steps.specs.State.{State}
-use Rattle.queue_steps.specs.Effect.{Fits}
-use Rattle.queue_steps.specs.Replies.{Tells}
-use Rattle.queue_steps.specs.declared.model.Call.{Call}
-use Rattle.queue_steps.specs.declared.model.Reply.{Reply}
-use Rattle.queue_steps.specs.declared.model.Effect.{Effect}
-use Rattle.queue_steps.specs.declared.model.Effect.TheVariants as effect
-use Rattle.history_check.specs.declared.recorded.Event.{Event}
-use Rattle.history_check.specs.declared.recorded.Event.TheVariants.{Begin, End}
-use Rattle.history_check.specs.declared.recorded.Move.{Move}
-use Rattle.history_check.specs.declared.recorded.Move.TheVariants as move
-use Rattle.history_check.specs.declared.recorded.Rules.{Rules}
+use Rattle.queue_steps.specs.{State.State, Effect.Fits, Replies.Tells, declared.model.Call.Call, declared.model.Reply.Reply, declared.model.Effect.Effect, declared.model.Effect.Effect as effect}
+use Rattle.history_check.specs.declared.recorded.{Event.Event, Event.TheVariants.Begin, Event.TheVariants.End, Move.Move, Move.Move as move, Rules.Rules}
 use Rattle.history_check.specs.Legal.{Stage, opening, MayRecord, recorded, Makes, Goes, IsLegal}
 
 -- the reply by which the party's next end is recorded

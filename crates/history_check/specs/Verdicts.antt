@@ -1,11 +1,6 @@
 -- What a search finds, and what is decided of a history.
 use Rattle.std.specs.Prelude.{ℕ, ◌≤◌, List, length, take}
-use Rattle.history_check.specs.declared.recorded.Event.{Event}
-use Rattle.history_check.specs.declared.recorded.Rules.{Rules}
-use Rattle.history_check.specs.declared.search.Found.{Found}
-use Rattle.history_check.specs.declared.search.Found.TheVariants as found
-use Rattle.history_check.specs.declared.decide.Verdict.{Verdict}
-use Rattle.history_check.specs.declared.decide.Verdict.TheVariants as verdict
+use Rattle.history_check.specs.declared.{recorded.Event.Event, recorded.Rules.Rules, search.Found.Found, search.Found.Found as found, decide.Verdict.Verdict, decide.Verdict.Verdict as verdict}
 use Rattle.history_check.specs.Legal.{IsOrder, IsLegal, IsShortest}
 
 -- where nothing is found, the history is not legal

@@ -14,17 +14,18 @@ ghost use Rattle.queue_steps.specs.declared.sizes.TheConstants.{LIMIT};
 ghost use Rattle.queue_steps.specs.Words.{position_of};
 ghost use Rattle.queue_steps.specs.ChainWords.{offset_of as spec_offset_of, items_before as spec_items_before};
 ghost use Rattle.own_cells.specs.OneChain.ChainMemory.{block_of as spec_block_of};
+ghost use Rattle.own_cells.specs.OneChain.OwnChainOwned.{IsIdle, own_chain_owned};
 ghost use Rattle.shared_chain.specs.Ending.{LeadsTo, IntoBlock};
 ghost use Rattle.shared_chain.specs.Leftover.{SlotLeft, BlockLeft, BlocksLeft, SameBut, Emptied, is_held, any_held};
 
 use crate::ends::ChainEnds;
 use crate::rule::Chained;
-use exclusive_queue::Exclusive;
 use mem_blocks::chain::Chain;
 use mem_blocks::hub::{HEAD, Hub, TAIL};
 use mem_blocks::item::{Item, Place};
 use mem_blocks::sizes::SLOTS;
 use mem_blocks::web::{Seat, Web};
+use own_cells::chain::own_chain::OwnChain;
 use queue_steps::sizes::{BLOCK_POSITIONS, BLOCK_SLOTS};
 use queue_steps::steps::{READ, WRITE};
 use queue_steps::words::position_of;
@@ -79,13 +80,13 @@ pub(crate) fn end<T, A: Allocator>(
     hub: Hub<Item<T>, A>,
     tail: Place<T>,
     head: Place<T>,
-) -> Exclusive<T, A>
+) -> OwnChain<T, A>
     requires seat { Sits seat web }
     requires heap { (web.heap ≡ alloc) × (hub.heap ≡ alloc) }
     requires ends { (tail.ptr ≡ web.key.tail.ptr) × (head.ptr ≡ web.key.head.ptr) }
     requires hub { InBlock tail.ptr × (hub.at ≡ tail.ptr) × (head.ptr ≡ head_of tail.ptr) }
     requires alone { IsLoneSeat seat.sitter.view }
-    ensures { IsShown result.queue (after None seat.sitter.view.known.seen) × IsWhole (view_of seat.sitter.view.known) }
+    ensures { IsIdle result × IsShown (own_chain_owned result).queue (after None seat.sitter.view.known.seen) × IsWhole (view_of seat.sitter.view.known) }
 {
     let mut chain = seat.finish(web);
     let Rest {
@@ -95,7 +96,7 @@ pub(crate) fn end<T, A: Allocator>(
         back,
     } = take_ends(&alloc, &mut chain, hub, tail, head);
     chain.forget();
-    Exclusive::of_chain(alloc, chain, head, tail, front, back)
+    OwnChain::of_chain(alloc, chain, head, tail, front, back)
 }
 
 /// Drops the items that are left when no party is there any more, and gives the memory back.

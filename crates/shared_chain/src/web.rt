@@ -17,12 +17,12 @@ use crate::ends::ChainEnds;
 use crate::rule::{Chained, Grants, Refusals, Steps, Stores};
 use crate::source::Source;
 use crate::touching::touch;
-use exclusive_queue::Exclusive;
 use mem_blocks::chain::Chain;
 use mem_blocks::hub::{HEAD, Hub, PARTIES, TAIL};
 use mem_blocks::item::{Item, Place};
 use mem_blocks::sizes::SLOTS;
 use mem_blocks::web::{Seat, Web};
+use own_cells::chain::own_chain::OwnChain;
 use queue_steps::model::CallKind;
 use queue_steps::steps::{Answer, Link, Local, Op, READ, Touch, WRITE, Word};
 use shared_parties::call_tag::CallTag;
@@ -266,13 +266,14 @@ impl<T, A: Allocator> ChainWeb<T, A> {
     ghost use Rattle.queue_steps.specs.Parties.{IsWhole};
     ghost use Rattle.shared_parties.specs.Known.{view_of};
     ghost use Rattle.shared_parties.specs.CallStates.{IsLoneSeat};
+    ghost use Rattle.own_cells.specs.OneChain.OwnChainOwned.{IsIdle, own_chain_owned};
 
     /// What is left when the only party ends the queue: a queue with one owner, in the same blocks. It makes no request.
-    pub fn end(self, alloc: A, seat: ChainSeat<T, A>) -> Exclusive<T, A>
+    pub fn end(self, alloc: A, seat: ChainSeat<T, A>) -> OwnChain<T, A>
         requires of { heap_of self ≡ alloc }
         requires sits { SitsAt self seat }
         requires alone { IsLoneSeat seat.sitter.view }
-        ensures { IsShown result.queue (after None seat.sitter.view.known.seen) × IsWhole (view_of seat.sitter.view.known) }
+        ensures { IsIdle result × IsShown (own_chain_owned result).queue (after None seat.sitter.view.known.seen) × IsWhole (view_of seat.sitter.view.known) }
     {
         let ChainWeb {
             web,

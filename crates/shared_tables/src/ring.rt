@@ -9,10 +9,11 @@ ghost use Rattle.queue_steps.specs.Words.{IsRing};
 ghost use Rattle.shared_parties.specs.Known.{party, view_of};
 ghost use Rattle.shared_tables.specs.RingOpening.{first_words};
 ghost use Rattle.shared_parties.specs.CallStates.{idle, IsLoneSeat};
+ghost use Rattle.own_cells.specs.OneRing.RingOwned.{IsIdle, ring_owned};
 
 use crate::table::{SharedTable, Sizes, TableKind, TableSteps};
 use atomic_table::Seat;
-use exclusive_queue::Exclusive;
+use own_cells::ring::own_ring::OwnRing;
 use own_cells::ring::ring_words::{HEAD, STAMPS, TAIL, words_before_stamps};
 use own_cells::ring::vacant::{discard, empty_slots, table_of};
 use queue_steps::sizes::MAX_CAPACITY;
@@ -117,14 +118,17 @@ pub fn open_ring<T, A: Allocator + Clone>(
 pub fn end_ring<T, A: Allocator>(
     ring: SharedTable<T, Rings, A>,
     seat: Seat<Option<T>, CallState<T>>,
-) -> Exclusive<T, A>
+) -> OwnRing<T, A>
     requires table { seat.table_id ≡ ring.table.shared.table_id }
     requires alone { IsLoneSeat seat.me.0 }
-    ensures { IsShown result.queue (after (Some ring.table.shared.table_id.slots) seat.me.0.known.seen) × IsWhole (view_of seat.me.0.known) × (result.blocks ≡ 0) }
+    ensures { IsIdle result × IsShown (ring_owned result).queue (after (Some ring.table.shared.table_id.slots) seat.me.0.known.seen) × IsWhole (view_of seat.me.0.known) }
 {
     let SharedTable { table, slots } = ring;
     let memory = table.close_with(seat);
-    Exclusive::of_table(slots, memory)
+    OwnRing {
+        capacity: slots,
+        memory,
+    }
 }
 
 /// The tail, by a load without a seat, which tells nothing of the history.

@@ -4,8 +4,6 @@
 #[cfg(test)]
 mod asserts;
 #[cfg(test)]
-mod idle;
-#[cfg(test)]
 mod kit;
 #[cfg(test)]
 mod opening;

@@ -1,4 +1,4 @@
-//! Tests of what threads use: channels, ends that sleep, and webs of raw blocks.
+//! Tests of what threads use that knows no queue: eventcounts, lists of wakers, and webs of raw blocks.
 #![tactic(auto)]
 
 #[cfg(test)]
@@ -6,10 +6,6 @@ mod asserts;
 #[cfg(test)]
 mod blocks;
 #[cfg(test)]
-mod channel;
-#[cfg(test)]
 mod host;
-#[cfg(test)]
-mod opening;
 #[cfg(test)]
 mod sleep;

@@ -68,11 +68,13 @@ impl<T, A: Allocator> ConcurrentQueue<T, A> {
             (Form::Slot(slot), SeatPlace::Table(seat)) => {
                 Ok(Exclusive::of_slot(end_slot(slot, seat)))
             }
-            (Form::Ring(ring), SeatPlace::Table(seat)) => Ok(end_ring(ring, seat)),
+            (Form::Ring(ring), SeatPlace::Table(seat)) => {
+                Ok(Exclusive::of_ring(end_ring(ring, seat)))
+            }
             (Form::Chain(queue), SeatPlace::Web(mut rested)) => {
                 let AllocatedChain { alloc, chain } = queue;
                 let seat = chain.wake(&mut rested);
-                Ok(chain.end(alloc, seat))
+                Ok(Exclusive::of_chain(chain.end(alloc, seat)))
             }
             _ => unreachable!(),
         }

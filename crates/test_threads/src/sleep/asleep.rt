@@ -1,12 +1,12 @@
 //! Two threads that take turns, and sleep until the other gives an item: each that is seen asleep before, and as fast as they wake.
 use crate::asserts::is;
 use crate::host::Host;
-use crate::sleep::watched::Watched;
 use event_count::{EventCount, OwesAll, OwesOne};
 use std::sync::Wait;
 use std::sync::atomic::AtomicU64;
 use std::sync::atomic::Ordering::SeqCst;
 use std::thread::join;
+use test_support::watched::Watched;
 
 /// What the thread waits for.
 #[derive(Drop)]

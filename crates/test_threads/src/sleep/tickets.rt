@@ -1,13 +1,13 @@
 //! A notify ends each wait whose ticket is older, and of those that sleep it wakes as many as it is to.
 use crate::asserts::is;
 use crate::host::Host;
-use crate::sleep::watched::Watched;
 use event_count::{EventCount, Look, OwesAll, OwesOne, Patience};
 use std::sync::Wait;
 use std::sync::atomic::AtomicU64;
 use std::sync::atomic::Ordering::SeqCst;
 use std::thread::{join, sleep};
 use std::time::Duration;
+use test_support::watched::Watched;
 
 /// What the threads wait for.
 #[derive(Drop)]

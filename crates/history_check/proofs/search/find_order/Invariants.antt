@@ -1,6 +1,5 @@
 use Rattle.std.proofs.Common.{length}
-use Rattle.history_check.specs.Legal.{IsLegal}
-use Rattle.history_check.specs.Levels.{Expects, Survives}
+use Rattle.history_check.specs.{Legal.IsLegal, Levels.Expects, Levels.Survives}
 use Rattle.history_check.proofs.search.find_order.Given as goal
 
 abbrev pub invariant-loop-event : goal.invariant-loop-event

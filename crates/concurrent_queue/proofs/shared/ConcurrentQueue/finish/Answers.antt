@@ -40,6 +40,9 @@ end_ring-requires-clause-alone g c =
     let b = c.in-Ring-Table in
     is_lone b.seat.me.0 (known_at c.party.inside.place) (sym (ap known_at b.is-1) ∙ c.is_only.ensures.same.2) c.party.invariant.0.0 c.if-not-is_only.ensures.counted
 
+pub of_ring-requires : goal.of_ring-requires
+of_ring-requires g c = c.end_ring.ensures.0
+
 pub wake-seat-requires : goal.wake-seat-requires
 wake-seat-requires g c =
     let b = c.in-Chain-Web in let sits = c.is_only.ensures.same.0 in
@@ -57,6 +60,9 @@ end-requires-clause-alone g c =
     let known = ap (λ m. m.view) c.wake-seat.ensures.seat.1 ∙ (sym (ap known_at b.is-1) ∙ c.is_only.ensures.same.2) in
     is_lone c.wake-seat.result.sitter.view (known_at c.party.inside.place) known c.party.invariant.0.0 c.if-not-is_only.ensures.counted
 
+pub of_chain-requires : goal.of_chain-requires
+of_chain-requires g c = c.end.ensures.0
+
 pub returns-in-Slot-Table : goal.returns-in-Slot-Table
 returns-in-Slot-Table g c =
     let one : c.args.party.queue.cap ≡ Some 1 = search rules in
@@ -70,8 +76,8 @@ returns-in-Ring-Table g c =
     let p = c.party.inside.place in let b = c.in-Ring-Table in let s = b.seat in let slots = b.ring.table.shared.table_id.slots in
     let one : c.args.party.queue.cap ≡ Some slots = search rules in
     let same = sym (ap known_at b.is-1) ∙ c.is_only.ensures.same.2 in
-    let e = c.end_ring.ensures in
-    finishes (Some slots) c.args.party (name_at p) (known_at p) s.me.0 c.end_ring.result c.party.view_is one same c.if-not-is_only.ensures.counted e.0 e.1 (λ _. e.2)
+    let shown : IsShown c.of_ring.result.queue (after (Some slots) s.me.0.known.seen) = subst (λ z. IsShown z.queue (after (Some slots) s.me.0.known.seen)) (sym c.of_ring.ensures) c.end_ring.ensures.1 in
+    finishes (Some slots) c.args.party (name_at p) (known_at p) s.me.0 c.of_ring.result c.party.view_is one same c.if-not-is_only.ensures.counted shown c.end_ring.ensures.2 (λ _. ap (λ z. z.blocks) c.of_ring.ensures)
 
 pub returns-in-Chain-Web : goal.returns-in-Chain-Web
 returns-in-Chain-Web g c =
@@ -79,4 +85,5 @@ returns-in-Chain-Web g c =
     let p = c.party.inside.place in let b = c.in-Chain-Web in let v = c.wake-seat.result.sitter.view in
     let woke : v ≡ b.rested.view = ap (λ m. m.view) c.wake-seat.ensures.seat.1 in
     let same = woke ∙ (sym (ap known_at b.is-1) ∙ c.is_only.ensures.same.2) in
-    finishes None c.args.party (name_at p) (known_at p) v c.end.result c.party.view_is none same c.if-not-is_only.ensures.counted c.end.ensures.0 c.end.ensures.1 (λ some. absurd (some refl))
+    let shown : IsShown c.of_chain.result.queue (after None v.known.seen) = subst (λ z. IsShown z.queue (after None v.known.seen)) (sym c.of_chain.ensures) c.end.ensures.1 in
+    finishes None c.args.party (name_at p) (known_at p) v c.of_chain.result c.party.view_is none same c.if-not-is_only.ensures.counted shown c.end.ensures.2 (λ some. absurd (some refl))

@@ -1,6 +1,5 @@
 use Rattle.std.proofs.Common.{◌≡◌, ℕ, ◌<◌, Some, slice_get}
-use Rattle.history_check.specs.Legal.{Stage as SpecStage}
-use Rattle.history_check.specs.Levels.{Handles, Extends}
+use Rattle.history_check.specs.{Legal.Stage as SpecStage, Levels.Handles, Levels.Extends}
 use Rattle.history_check.proofs.level.Level.pass.Given as goal
 
 abbrev pub invariant-loop-place : goal.invariant-loop-place

@@ -1,8 +1,4 @@
-use Rattle.std.proofs.Common.{subst}
 use Rattle.std.proofs.lemmas.Result.{on_ok_weaker}
-use Rattle.history_check.specs.declared.recorded.Way.{Way}
-use Rattle.history_check.specs.declared.recorded.Way.TheVariants.{Halfway, Answered}
-use Rattle.history_check.specs.Legal.{IsAt}
 use Rattle.history_check.proofs.Spreading.{is_between, half_done, is_answered}
 use Rattle.history_check.proofs.level.Level.spread.Goals as goal
 
@@ -10,14 +6,12 @@ pub returns-in_default-clause-has : goal.returns-in_default-clause-has
 returns-in_default-clause-has g c = is_between c.args.self.now c.args.stage.now c.args.party c.args.reply (rw c.in_default.is at c.way.ensures.none)
 
 pub spread_waiting-requires : goal.spread_waiting-requires
-spread_waiting-requires g c = record { waits = (c.in-Waiting.field-1, subst (λ (w : Way). IsAt c.args.stage.now c.args.party w) c.in-Waiting.is c.in-Some.ensures.some) }
+spread_waiting-requires g c = record { waits = (c.in-Waiting.field-1, rw c.in-Waiting.is at c.in-Some.ensures.some) }
 
 pub returns-in-Halfway-clause-has : goal.returns-in-Halfway-clause-has
 returns-in-Halfway-clause-has g c =
-    let at : IsAt c.args.stage.now c.args.party (Halfway c.in-Halfway.field-0) = subst (λ (w : Way). IsAt c.args.stage.now c.args.party w) c.in-Halfway.is c.in-Some.ensures.some in
-    on_ok_weaker c.follow.result (half_done c.follow.new.self c.args.stage.now c.args.party c.in-Halfway.field-0 c.args.reply at) c.follow.ensures.has
+    let half = rw c.in-Halfway.is at c.in-Some.ensures.some in
+    on_ok_weaker c.follow.result (half_done c.follow.new.self c.args.stage.now c.args.party c.in-Halfway.field-0 c.args.reply half) c.follow.ensures.has
 
 pub returns-in-Answered-clause-has : goal.returns-in-Answered-clause-has
-returns-in-Answered-clause-has g c =
-    let at : IsAt c.args.stage.now c.args.party (Answered c.in-Answered.field-0) = subst (λ (w : Way). IsAt c.args.stage.now c.args.party w) c.in-Answered.is c.in-Some.ensures.some in
-    is_answered c.args.self.now c.args.stage.now c.args.party c.in-Answered.field-0 c.args.reply at
+returns-in-Answered-clause-has g c = is_answered c.args.self.now c.args.stage.now c.args.party c.in-Answered.field-0 c.args.reply (rw c.in-Answered.is at c.in-Some.ensures.some)
