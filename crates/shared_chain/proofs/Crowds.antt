@@ -5,7 +5,7 @@ use lib.ListN.{get_elem?}
 use denote.RawPtr.{Ptr}
 use Rattle.queue_laws.specs.Chain.ChainAnswers.{tail_word, last_of}
 use Rattle.mem_blocks.specs.Web.{Block, State, Sitter, block, worded, word_of, with_word, Allows, CanFork, CanMerge}
-use Rattle.mem_blocks.specs.declared.hub.TheConstants.{TAIL, PARTIES, HEAD}
+use Rattle.mem_blocks.specs.declared.hub.TheConstants.{TAIL, PARTIES}
 use Rattle.shared_parties.specs.{declared.count.Change.Change, declared.known.CallState.CallState, CallStates.Sharing, Parting.Regroups, PartyCount.changed, PartyCount.MayAct, CallsAt.CallsAt}
 use Rattle.shared_parties.proofs.Sharings.{sharing, regrouped}
 use Rattle.shared_chain.specs.{ChainCalls.OutChain, ChainCalls.chain_calls, Rule.EndIs, Rule.IsThere, Rule.Codes, Rule.Rule, Parties.OfView}

@@ -1,5 +1,5 @@
 -- What a step on one slot leaves of the blocks: every other slot, link and block is as it was.
-use Rattle.std.proofs.Common.{ℕ, suc, ◌+◌, ◌/◌, ◌<◌, ◌≡◌, ◌≢◌, ◌∙◌, not, inl, inr, Bool, List, [], ◌∷◌, length, refl, sym, ap, subst, arith, slice_index_or, get_or-set_same, get_or-set_other, length-set}
+use Rattle.std.proofs.Common.{ℕ, suc, ◌+◌, ◌/◌, ◌<◌, ◌≡◌, ◌≢◌, ◌∙◌, inl, inr, Bool, List, [], ◌∷◌, length, refl, sym, ap, subst, arith, slice_index_or, get_or-set_same, get_or-set_other, length-set}
 use Rattle.std.proofs.lemmas.Bool.Decides.{eqb_tells}
 use mathlib.Core.Option.{some, some-injective}
 use mathlib.Core.Option as maybe
@@ -8,7 +8,7 @@ use denote.RawPtr.{Ptr}
 use Rattle.atomic_table.proofs.Lists.{set_here, set_else}
 use Rattle.queue_laws.specs.{Common.Vocabulary.BLOCK_SLOTS, Chain.ChainAnswers.waits_at, Chain.ChainAnswers.is_wrote, Chain.ChainAnswers.is_done, Chain.ChainAnswers.IsState}
 use Rattle.queue_laws.proofs.Chain.{ChainReads.not_given_up, ChainStates.other_slot, ChainStates.other_block, ChainStates.state_same}
-use Rattle.queue_laws.specs.Chain.ChainCells.{Writer, Writing, Reader, Done, Walk, Before, GivenUp, Chain, ChainOk, ItemOk, WalkOk, IsWalked, item_at, LAST}
+use Rattle.queue_laws.specs.Chain.ChainCells.{Writer, Writing, Reader, Done, Walk, Before, GivenUp, Chain, ChainOk, ItemOk, IsWalked, item_at, LAST}
 use Rattle.mem_blocks.specs.Web.{Block, Home, block, worded, homed, gone, with_word, with_home, without, word_of, vacant, AllVacant}
 use Rattle.shared_chain.specs.{ChainCalls.OutChain, Rule.home_of, Rule.plain_state, Rule.BlockIs, Rule.IsThere, Rule.Codes}
 use Rattle.shared_chain.proofs.Frames.Blocks.{SameBlock, there_same, end_as, alive_is, word_here, word_else, home_here, home_else, gone_here, gone_else}

@@ -1,10 +1,10 @@
 -- What the steps on links share: what a step leaves for the next one, which blocks are alive, and what another link of an end or of a block leaves of the blocks.
-use Rattle.std.proofs.Common.{◌<◌, ℕ, ◌+◌, ◌≡◌, ◌≢◌, ◌∙◌, inl, inr, Option, List, [], refl, sym, ap, subst}
+use Rattle.std.proofs.Common.{◌<◌, ℕ, ◌+◌, ◌≡◌, ◌≢◌, inl, inr, Option, List, [], refl, sym, ap, subst}
 use denote.RawPtr.{Ptr}
 use Rattle.queue_laws.specs.Common.{Vocabulary.Op, Vocabulary.Touch, Vocabulary.Local, Vocabulary.Next, Stand.Stand, Operations.op_word}
 use Rattle.queue_laws.specs.Chain.{ChainFacts.IsNamed, ChainAt.At, ChainAnswers.Answers, ChainAfter.left_by, ChainAfter.chain_of, ChainAfter.after_of}
 use Rattle.queue_steps.specs.{State.State, ChainNext.chain_next}
-use Rattle.queue_laws.specs.Chain.ChainCells.{GivenUp, Chained, Chain, ChainOk, Write, Read, reader_of, HoldsOnly, Nothing}
+use Rattle.queue_laws.specs.Chain.ChainCells.{GivenUp, Write, Read, reader_of, HoldsOnly, Nothing}
 use Rattle.mem_blocks.specs.Web.{Block, Sitter, Act, block, Lives, Mays, blocks_after, sitter_after}
 use Rattle.shared_parties.specs.declared.known.CallState.{CallState}
 use Rattle.shared_chain.{specs.Spots.spot, specs.ChainCalls.OutChain, specs.ChainCalls.SlotsAs, specs.ChainCalls.ChainLent, specs.Rule.BlockIs, specs.Rule.Codes, proofs.Frames.Blocks.alive_is}

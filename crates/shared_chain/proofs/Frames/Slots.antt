@@ -1,20 +1,20 @@
 -- Blocks of a web under a chain that changed: the block of a slot that went or came back, the ends, and the slots of a party that holds nothing.
-use Rattle.std.proofs.Common.{ℕ, ◌+◌, ◌<◌, ◌≡◌, ◌≢◌, ◌∙◌, not, inl, inr, Bool, true, false, Option, Some, None, List, [], length, replicate, zero, suc, refl, sym, ap, subst, arith, set, length-set, get_or-set_same}
+use Rattle.std.proofs.Common.{ℕ, ◌+◌, ◌<◌, ◌≡◌, ◌≢◌, ◌∙◌, inl, inr, Bool, Option, Some, None, List, [], length, replicate, zero, suc, refl, sym, ap, subst, arith, set, length-set}
 use Rattle.std.proofs.lemmas.Bool.Decides.{eqb_tells}
 use mathlib.Core.Option.{some}
 use lib.ListN.{get_elem?}
 use denote.RawPtr.{Ptr}
 use Rattle.atomic_table.proofs.Lists.{set_here, set_else}
-use Rattle.queue_laws.specs.Common.{Vocabulary.Op, Vocabulary.Local, Vocabulary.Next, Vocabulary.BLOCK_SLOTS, Vocabulary.WRITE, Vocabulary.READ, Stand.Stand, Operations.op_word}
+use Rattle.queue_laws.specs.Common.{Vocabulary.Op, Vocabulary.Local, Vocabulary.Next, Vocabulary.BLOCK_SLOTS, Stand.Stand, Operations.op_word}
 use Rattle.queue_laws.specs.Chain.{ChainAt.At, ChainAfter.chain_of, ChainAfter.after_of, ChainAfter.left_by, ChainPasses.spare_in}
 use Rattle.queue_steps.specs.{State.State, ChainNext.chain_next}
-use Rattle.queue_laws.specs.Chain.ChainCells.{Writer, Free, Wrote, Reader, Unread, Reading, Done, Chain, Write, Read, reader_of, HoldsOnly, Nothing, item_at}
-use Rattle.queue_laws.specs.Chain.ChainAnswers.{Answers, linked_of, last_of, shown_of, tail_word, head_word, is_wrote, is_done, waits_at}
+use Rattle.queue_laws.specs.Chain.ChainCells.{Reading, Chain, Write, Read, reader_of, HoldsOnly, Nothing}
+use Rattle.queue_laws.specs.Chain.ChainAnswers.{Answers, last_of, shown_of, tail_word, head_word}
 use Rattle.queue_laws.proofs.Chain.ChainGiven.{holds_given}
 use Rattle.mem_blocks.specs.Web.{Block, Home, Sitter, Act, Mays, blocks_after, sitter_after, Lives, block, worded, homed, with_word, vacant, AllVacant}
 use Rattle.mem_blocks.specs.declared.hub.TheConstants.{TAIL, HEAD}
 use Rattle.shared_parties.specs.declared.known.CallState.{CallState}
-use Rattle.shared_chain.specs.{Spots.spot, ChainCalls.OutChain, ChainCalls.HasOut, ChainCalls.ChainLent, Rule.home_of, Rule.plain_state, Rule.lead_of, Rule.IsThere, Rule.Codes}
+use Rattle.shared_chain.specs.{Spots.spot, ChainCalls.OutChain, ChainCalls.HasOut, ChainCalls.ChainLent, Rule.lead_of, Rule.IsThere, Rule.Codes}
 use Rattle.shared_chain.specs.Steps.{fresh_at, carried_by, slot_block, hand_by, HoldsBy, HoldsFor, op_place, word_index, blocks_made, answered, LeadsThere, SlotsFor, BlockStep}
 use Rattle.shared_chain.proofs.Frames.Blocks.{word_here, word_else, end_as, end_worded, home_in, LikeBlock, there_with, codes_left}
 

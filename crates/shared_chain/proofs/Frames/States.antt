@@ -1,13 +1,12 @@
 -- A step on the state of a slot: what it finds there, what it makes of it, and what is left to say of the acts beside it.
-use Rattle.std.proofs.Common.{ℕ, ◌+◌, ◌<◌, ◌≡◌, ◌≢◌, ◌==◌, ◌∙◌, ◌⊎◌, inl, inr, Bool, Option, Ok, Some, None, List, [], ◌∷◌, length, refl, sym, ap, subst, arith, bit_and, bit_or}
-use Rattle.std.proofs.lemmas.{Bool.lt-ltb, Bool.le-ltb, Nat.and_or_apart}
+use Rattle.std.proofs.Common.{ℕ, ◌+◌, ◌<◌, ◌≡◌, ◌≢◌, ◌∙◌, inl, inr, Bool, Option, Ok, Some, None, List, [], ◌∷◌, length, refl, sym, ap, subst, arith, bit_or}
 use denote.RawPtr.{Ptr}
 use Rattle.queue_laws.specs.Common.{Puts.put, Stand.Stand, Stand.stand, Operations.op_word}
-use Rattle.queue_laws.specs.Chain.{ChainTransitions.walk_after, ChainFacts.IsNamed, ChainAt.At, ChainAt.Only, ChainAnswers.StateAnswers, ChainAnswers.IsState, ChainAnswers.Answers, ChainAfter.chain_of, ChainAfter.after_of, ChainAfter.left_by}
+use Rattle.queue_laws.specs.Chain.{ChainTransitions.walk_after, ChainFacts.IsNamed, ChainAt.At, ChainAt.Only, ChainAnswers.IsState, ChainAnswers.Answers, ChainAfter.chain_of, ChainAfter.after_of, ChainAfter.left_by}
 use Rattle.queue_laws.proofs.{Common.Puts.put_other, Chain.ChainWalk.behind_slot, Chain.ChainStates.state_answers}
 use Rattle.queue_laws.specs.Common.Vocabulary.{Call, Reply, Effect, Word, Op, Touch, Answer, Local, Next, BLOCK_SLOTS}
-use Rattle.queue_steps.specs.{State.State, declared.steps.chain.ChainLocal.ChainLocal as chain, ChainNext.chain_next, ChainNext.walks, ChainNext.walks_on}
-use Rattle.queue_laws.specs.Chain.ChainCells.{Reading, Done, Walk, Walker, GivenUp, Chained, Chain, ChainOk, Part, Write, Read, Passed, HoldsOnly, reader_of, item_at, LAST}
+use Rattle.queue_steps.specs.{State.State, ChainNext.chain_next, ChainNext.walks, ChainNext.walks_on}
+use Rattle.queue_laws.specs.Chain.ChainCells.{Reading, Done, Walk, Walker, GivenUp, Chain, ChainOk, Part, Write, Read, Passed, HoldsOnly, reader_of, item_at, LAST}
 use Rattle.mem_blocks.specs.Web.{Block, Sitter, Act, lifts, block, Lives, word_of, with_word, without, AllVacant, acted, May, Mays, blocks_after, sitter_acted, sitter_after}
 use Rattle.shared_parties.specs.declared.known.CallState.{CallState}
 use Rattle.shared_chain.specs.{Spots.spot, ChainCalls.OutChain, ChainCalls.HasOut, ChainCalls.ChainLent, Rule.Codes, Steps.BlockStep, Steps.SlotsFor, Steps.HoldsFor, Steps.op_place, Steps.word_index, Steps.blocks_made, Steps.answered, Steps.LeadsThere}

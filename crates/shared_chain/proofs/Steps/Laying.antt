@@ -10,7 +10,7 @@ use Rattle.queue_laws.specs.Common.Puts.{put}
 use Rattle.queue_laws.specs.Chain.{ChainFacts.open_tail_of, ChainFacts.SawTail, ChainFacts.Claimed, ChainAt.Either, ChainAt.installing, ChainAt.laying, ChainAfter.if_installed}
 use Rattle.queue_laws.specs.Chain.ChainAnswers.{tail_place, last_of, shown_of, linked_of, is_wrote, is_done, waits_at, IsState}
 use Rattle.queue_laws.proofs.{Common.Puts.put_ok, Common.Puts.put_same, Common.Puts.put_other, Chain.ChainTransitions.item_free, Chain.ChainTransitions.no_block, Chain.ChainTransitions.no_front, Chain.ChainStates.unwalked}
-use Rattle.queue_laws.specs.Chain.ChainCells.{Free, Unread, Done, Mover, Laying, Opening, Passer, LinkState, Linking, Linked, Shown, Showing, Seen, Walk, Before, GivenUp, Unused, Spare, Chained, Chain, BlocksOk, LinkOk, ShownOk, WalkOk, item_at, LAST, ChainOk, Write, Tail, HoldsOnly, Nothing}
+use Rattle.queue_laws.specs.Chain.ChainCells.{Free, Unread, Done, Mover, Laying, Opening, Passer, LinkState, Linking, Linked, Shown, Showing, Seen, Before, GivenUp, Unused, Spare, Chained, Chain, BlocksOk, LinkOk, ShownOk, item_at, LAST, ChainOk, Write, Tail, HoldsOnly, Nothing}
 use Rattle.queue_laws.specs.Chain.ChainTransitions as moves
 use Rattle.mem_blocks.specs.Web.{Block, Home, Sitter, Act, lays, block, linked, vacant, with_next, if_unset, Mays, blocks_after, sitter_after}
 use Rattle.shared_parties.specs.declared.known.CallState.{CallState}

@@ -1,5 +1,5 @@
 -- The stores of links to blocks that are laid, and of the head's word past a block's end.
-use Rattle.std.proofs.Common.{ℕ, ◌+◌, ◌*◌, ◌/◌, ◌%◌, ◌<◌, ◌≡◌, ◌≢◌, ◌∙◌, inl, inr, Bool, true, false, if◌then◌else◌, Option, Some, None, List, [], refl, sym, ap, subst, arith, length-set, get_or-set_same}
+use Rattle.std.proofs.Common.{ℕ, ◌+◌, ◌*◌, ◌/◌, ◌%◌, ◌<◌, ◌≡◌, ◌≢◌, ◌∙◌, inl, inr, Bool, true, false, if◌then◌else◌, Option, Some, None, List, [], refl, sym, ap, subst, arith, length-set}
 use Rattle.std.proofs.lemmas.Bool.Decides.{eqb_tells}
 use denote.RawPtr.{Ptr}
 use Rattle.queue_laws.specs.Common.Vocabulary.{Word, Link, Op, Touch, Local, PushKind, BLOCK_SLOTS, TAIL_STEP, WRITE}
@@ -7,11 +7,11 @@ use Rattle.queue_steps.specs.{declared.steps.chain.ChainLocal.ChainLocal as chai
 use Rattle.queue_laws.proofs.{Common.Puts.put_same, Common.Puts.put_other, Common.Tails.position_tail, Chain.ChainReads.passer_sees, Chain.ChainReads.not_given_up, Chain.ChainStates.unread_item}
 use Rattle.queue_laws.specs.Chain.{ChainFacts.place, ChainFacts.head_of, ChainFacts.open_tail_of, ChainFacts.IsNamed, ChainFacts.SawTail, ChainFacts.Claimed, ChainFacts.Got, ChainTransitions.displayed, ChainTransitions.chained, ChainTransitions.passed, ChainTransitions.entered}
 use Rattle.queue_laws.specs.Chain.{ChainAt.Only, ChainAt.Either, ChainAt.IsBehind, ChainAt.IsFurther, ChainAt.showing, ChainAt.chaining, ChainAt.passing, ChainAt.entering, ChainAnswers.head_place, ChainAnswers.head_word, ChainAnswers.shown_of, ChainAnswers.linked_of}
-use Rattle.queue_laws.specs.Chain.ChainCells.{Writer, Writing, Reader, Done, Passer, Stands, Passing, Entering, Linking, Linked, Shown, Showing, Seen, ItemOk, FrontOk, ShownOk, ChainOk, Write, Read, Head, Next, First, HoldsOnly}
-use Rattle.mem_blocks.specs.Web.{Block, Sitter, block, linked, worded, with_word, with_next}
+use Rattle.queue_laws.specs.Chain.ChainCells.{Passer, Stands, Passing, Entering, Linking, Linked, Shown, Showing, Seen, FrontOk, ShownOk, ChainOk, Write, Read, Head, Next, First, HoldsOnly}
+use Rattle.mem_blocks.specs.Web.{Block, Sitter, block, linked, with_word, with_next}
 use Rattle.shared_parties.specs.declared.known.CallState.{CallState}
 use Rattle.shared_chain.specs.{Spots.spot, ChainCalls.OutChain, ChainCalls.SlotsAs, ChainCalls.ChainLent, Rule.lead_of, Rule.IsThere, Rule.Codes, Steps.HoldsBy, Steps.BlockStep}
-use Rattle.shared_chain.proofs.Frames.{Blocks.word_here, Blocks.word_else, Blocks.next_here, Blocks.next_else, Blocks.there_same, Blocks.end_as, Blocks.end_linked, Slots.head_worded, Links.goes_on, Links.step_by, Links.named_alive}
+use Rattle.shared_chain.proofs.Frames.{Blocks.next_here, Blocks.next_else, Blocks.there_same, Blocks.end_as, Blocks.end_linked, Slots.head_worded, Links.goes_on, Links.step_by, Links.named_alive}
 
 -- the head's word behind a block
 next_head : (n : ℕ) (more further : Bool) → (n + 1) % BLOCK_SLOTS ≡ 0 → (position_of (head_of n more) + 2) * 2 + (if further then 1 else 0) ≡ tail_of (head_place (n + 1) Stands) further

@@ -1,13 +1,13 @@
 -- The steps that load the word of the tail or that of the head: they change no block, and their parties hold nothing.
-use Rattle.std.proofs.Common.{ℕ, ◌≡◌, ◌≤◌, inl, inr, false, Option, Some, None, List, refl, ap}
+use Rattle.std.proofs.Common.{ℕ, ◌≡◌, inl, inr, Option, Some, None, List, refl, ap}
 use Rattle.std.proofs.lemmas.Bool.Decides.{eqb_tells}
 use denote.RawPtr.{Ptr}
 use Rattle.queue_laws.specs.Common.Vocabulary.{Call, Effect, Word, Op, Touch, Answer, Local, PushKind, BLOCK_SLOTS, Look}
-use Rattle.queue_steps.specs.{State.State, Looks.IsCount, declared.steps.chain.ChainLocal.ChainLocal as chain, Words.IsWord, Words.position_of, ChainWords.block_at, ChainWords.offset_of, ChainWords.items_before}
+use Rattle.queue_steps.specs.{State.State, declared.steps.chain.ChainLocal.ChainLocal as chain, Words.position_of, ChainWords.block_at, ChainWords.offset_of}
 use Rattle.queue_steps.specs.ChainNext.{chain_next, chain_tail_found, chain_pop_tail_found, chain_head_found}
-use Rattle.queue_laws.{specs.Common.Moments.SeenIn, specs.Common.Moments.HeadWas, specs.Common.Stand.stand, proofs.Chain.ChainPush.tail_ways}
-use Rattle.queue_laws.specs.Chain.{ChainCells.HoldsOnly, ChainCells.Nothing, ChainFacts.head_of, ChainFacts.HasSpare, ChainFacts.HeadIs, ChainFacts.HeadBlockRead, ChainFacts.SawEmpty, ChainAnswers.Answers, ChainPasses.spare_in, ChainAfter.chain_of, ChainAfter.after_of}
-use Rattle.queue_laws.specs.Chain.ChainAt.{At, push_tail, pop_head, pop_tail, count_tail, count_head, count_again, empty_head, empty_tail, closed_tail}
+use Rattle.queue_laws.{specs.Common.Stand.stand, proofs.Chain.ChainPush.tail_ways}
+use Rattle.queue_laws.specs.Chain.{ChainCells.HoldsOnly, ChainCells.Nothing, ChainAnswers.Answers, ChainPasses.spare_in, ChainAfter.chain_of, ChainAfter.after_of}
+use Rattle.queue_laws.specs.Chain.ChainAt.{At}
 use Rattle.mem_blocks.specs.Web.{Block, Sitter, Lives, word_of}
 use Rattle.shared_parties.specs.declared.known.CallState.{CallState}
 use Rattle.shared_chain.specs.{ChainCalls.OutChain, ChainCalls.ChainLent, Rule.Codes, Steps.HoldsBy, Steps.word_place, Steps.word_index, Steps.BlockStep}

@@ -1,6 +1,6 @@
 -- The read of an item: its slot goes back vacant. Where the walk waits for the slot its reader walks on, and the reader of the last slot begins the walk.
 use Rattle.std.proofs.Common.{ℕ, ◌+◌, ◌/◌, ◌%◌, ◌<◌, ◌≡◌, ◌≢◌, ◌==◌, ◌∙◌, not, inl, inr, Bool, true, false, if◌then◌else◌, Option, Ok, Some, None, List, length, refl, sym, ap, subst, arith, bit_and, bit_or, get_or}
-use Rattle.std.proofs.lemmas.{Bool.Decides.eqb_tells, Nat.and_or_self}
+use Rattle.std.proofs.lemmas.{Bool.Decides.eqb_tells}
 use mathlib.Core.Option.{some}
 use lib.ListN.{get_elem?}
 use denote.RawPtr.{Ptr}
@@ -9,7 +9,7 @@ use Rattle.queue_laws.specs.Chain.{ChainTransitions.reads, ChainTransitions.walk
 use Rattle.queue_laws.proofs.{Common.Puts.put_same, Common.Puts.put_other, Chain.ChainReads.own_item, Chain.ChainRead.waits_is, Chain.ChainAnswers.head_offset, Chain.ChainHolds.after_read, Chain.ChainHolds.after_read_on, Chain.ChainStates.unwalked, Chain.ChainStates.state_read}
 use Rattle.queue_laws.specs.Common.Vocabulary.{Reply, Word, Op, Touch, Local, Next, BLOCK_SLOTS, WRITE, READ, DESTROY}
 use Rattle.queue_steps.specs.{State.State, ChainWords.offset_of, ChainNext.at, ChainNext.ends, ChainNext.walks_on, declared.steps.chain.ChainLocal.ChainLocal as chain}
-use Rattle.queue_laws.specs.Chain.ChainCells.{Wrote, Reader, Reading, Done, Walk, Before, Walker, Waits, GivenUp, ChainOk, WalkOk, Read, Passed, HoldsOnly, Nothing, reader_of, item_at, LAST}
+use Rattle.queue_laws.specs.Chain.ChainCells.{Wrote, Reading, Done, Walk, Before, Walker, Waits, GivenUp, ChainOk, WalkOk, Read, Passed, HoldsOnly, Nothing, reader_of, item_at, LAST}
 use Rattle.mem_blocks.specs.Web.{Block, Sitter, gives, block, Lives, word_of, with_word, with_home, vacant, May, sitter_acted}
 use Rattle.shared_parties.specs.{declared.known.CallState.CallState, Calling.touched_list}
 use Rattle.shared_chain.specs.{Spots.spot, ChainCalls.OutChain, Rule.home_of, Rule.plain_state, Rule.BlockIs, Rule.Codes, Steps.BlockStep, Steps.HoldsBy, Steps.carried_by}

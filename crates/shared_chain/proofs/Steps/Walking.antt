@@ -1,14 +1,14 @@
 -- The walk over a passed block: a load of a slot's state, and the mark that leaves the walk to the slot's reader. The last step takes the block out.
 use Rattle.std.proofs.Common.{ℕ, ◌+◌, ◌<◌, ◌≡◌, ◌≢◌, ◌==◌, ◌∙◌, not, inl, inr, Bool, true, false, if◌then◌else◌, Option, Ok, None, List, [], length, refl, sym, ap, subst, arith, bit_and, bit_or}
-use Rattle.std.proofs.lemmas.{Bool.Decides.eqb_tells, Nat.and_or_self}
+use Rattle.std.proofs.lemmas.{Bool.Decides.eqb_tells}
 use mathlib.Core.Option.{some}
 use lib.ListN.{get_elem?}
 use denote.RawPtr.{Ptr}
-use Rattle.queue_laws.specs.Common.{Puts.put, Vocabulary.Reply, Vocabulary.Word, Vocabulary.Op, Vocabulary.Touch, Vocabulary.Local, Vocabulary.WRITE, Vocabulary.READ, Vocabulary.DESTROY}
-use Rattle.queue_laws.specs.Chain.{ChainTransitions.walked, ChainTransitions.walk_after, ChainFacts.IsNamed, ChainAt.Only, ChainAt.walking, ChainAt.destroying, ChainAnswers.IsState, ChainAnswers.is_wrote, ChainAnswers.is_done, ChainAnswers.waits_at}
+use Rattle.queue_laws.specs.Common.{Puts.put, Vocabulary.Reply, Vocabulary.Word, Vocabulary.Op, Vocabulary.Touch, Vocabulary.Local, Vocabulary.READ, Vocabulary.DESTROY}
+use Rattle.queue_laws.specs.Chain.{ChainTransitions.walked, ChainTransitions.walk_after, ChainFacts.IsNamed, ChainAt.Only, ChainAt.walking, ChainAt.destroying, ChainAnswers.IsState, ChainAnswers.is_done, ChainAnswers.waits_at}
 use Rattle.queue_laws.proofs.{Common.Puts.put_same, Common.Puts.put_other, Chain.ChainAnswers.done_is, Chain.ChainHolds.after_walk_on, Chain.ChainStates.state_done, Chain.ChainStates.state_waits, Chain.ChainStates.state_passed}
 use Rattle.queue_steps.specs.{State.State, ChainNext.at, ChainNext.ends, ChainNext.walks_on, declared.steps.chain.ChainLocal.ChainLocal as chain}
-use Rattle.queue_laws.specs.Chain.ChainCells.{Reader, Reading, Done, Walk, Before, Walker, Waits, GivenUp, Chain, ChainOk, WalkOk, IsWalked, Read, Passed, HoldsOnly, reader_of, item_at, LAST}
+use Rattle.queue_laws.specs.Chain.ChainCells.{Reader, Reading, Done, Walk, Before, Walker, Waits, GivenUp, ChainOk, WalkOk, IsWalked, Read, Passed, HoldsOnly, reader_of, item_at, LAST}
 use Rattle.mem_blocks.specs.Web.{Block, Sitter, block, Lives, word_of, with_word, without, vacant}
 use Rattle.shared_parties.specs.declared.known.CallState.{CallState}
 use Rattle.shared_chain.specs.{Spots.spot, ChainCalls.OutChain, ChainCalls.ChainLent, Rule.home_of, Rule.BlockIs, Rule.Codes, Steps.BlockStep, Steps.HoldsBy}

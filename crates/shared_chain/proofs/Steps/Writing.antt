@@ -1,14 +1,13 @@
 -- The write of an item: its slot goes back full.
-use Rattle.std.proofs.Common.{ℕ, zero, suc, ◌+◌, ◌/◌, ◌%◌, ◌<◌, ◌≡◌, ◌≢◌, ◌==◌, ◌∙◌, not, Bool, true, false, Option, Some, None, List, [], replicate, length, refl, sym, ap, subst, arith, bit_or, get_or}
-use Rattle.std.proofs.lemmas.Nat.{and_or_self}
+use Rattle.std.proofs.Common.{ℕ, ◌+◌, ◌/◌, ◌%◌, ◌<◌, ◌≡◌, ◌≢◌, ◌∙◌, Bool, true, false, Option, Some, None, List, [], length, refl, sym, ap, subst, arith, bit_or, get_or}
 use mathlib.Core.Option.{some}
 use denote.RawPtr.{Ptr}
 use Rattle.queue_laws.specs.{Common.Puts.put, Chain.ChainTransitions.written, Chain.ChainFacts.open_tail_of, Chain.ChainFacts.Claimed, Chain.ChainFacts.HasSpare, Chain.ChainAt.Only, Chain.ChainAt.writing, Chain.ChainAnswers.IsState, Chain.ChainAnswers.is_wrote}
 use Rattle.queue_laws.proofs.{Common.Puts.put_same, Common.Puts.put_other, Chain.ChainReads.own_item, Chain.ChainHolds.after_write, Chain.ChainStates.unread_item, Chain.ChainStates.state_written}
-use Rattle.queue_laws.specs.Common.Vocabulary.{Word, Op, Touch, Local, Next, PushKind, BLOCK_SLOTS, WRITE, READ, DESTROY}
+use Rattle.queue_laws.specs.Common.Vocabulary.{Word, Op, Touch, Local, Next, PushKind, BLOCK_SLOTS, WRITE}
 use Rattle.queue_steps.specs.{State.State, RingNext.pushed_reply, ChainWords.offset_of, declared.steps.chain.ChainLocal.ChainLocal as chain}
-use Rattle.queue_laws.specs.Chain.ChainCells.{Writing, Wrote, Reader, Unread, Reading, Done, GivenUp, ChainOk, ItemOk, Write, HoldsOnly, Nothing, item_at}
-use Rattle.mem_blocks.specs.Web.{Block, Sitter, gives, block, Lives, word_of, with_word, with_home, vacant, full, AllVacant, sitter_acted}
+use Rattle.queue_laws.specs.Chain.ChainCells.{Writing, Wrote, Reader, Unread, Reading, Done, GivenUp, ChainOk, Write, HoldsOnly, Nothing, item_at}
+use Rattle.mem_blocks.specs.Web.{Block, Sitter, gives, block, Lives, word_of, with_word, with_home, full, sitter_acted}
 use Rattle.shared_parties.specs.{declared.known.CallState.CallState, Calling.touched_list}
 use Rattle.shared_chain.specs.{Spots.spot, ChainCalls.OutChain, Rule.home_of, Rule.plain_state, Rule.BlockIs, Rule.Codes, Steps.BlockStep, Steps.HoldsBy, Steps.HoldsFor, Steps.fresh_at, Steps.carried_by}
 use Rattle.shared_chain.proofs.Frames.{Blocks.alive_is, Slots.all_vacant, States.state_is, States.Leaves, States.acts_first, States.or_step, States.none_out, States.idles}
