@@ -78,5 +78,5 @@ module _ (k : Kind) (rules : Rules ℕ k) (tells : HalfTold k rules) (parties : 
 pub half_told : (k : Kind) (parties q : ℕ) (past : List (Event ℕ)) → CanReplay k → is_too_large k ≡ false → is_half_done (standing k parties q past) ≡ is_half_done_at (local_in (call_at (world_after k (opening_world k parties) past) q))
 half_told kind.Single parties q past can small = half_by kind.Single (slot_rules ℕ) (λ busy s Q g p r o f. slot_half f.here) parties q past
 half_told (kind.Bounded n) parties q past can small =
-    half_by (kind.Bounded n) (ring_rules {A = ℕ} n (can, ltb-false MAX_CAPACITY n small)) (λ busy s Q g p r o f. ring_half f.here) parties q past
+    half_by (kind.Bounded n) (ring_rules n (can, ltb-false MAX_CAPACITY n small)) (λ busy s Q g p r o f. ring_half f.here) parties q past
 half_told kind.Unbounded parties q past can small = half_by kind.Unbounded (chain_rules ℕ) (λ busy s Q g p r o f. chain_half f.here) parties q past

@@ -27,7 +27,7 @@ rests k rules parties q past none =
 
 rules_of : (k : Kind) → CanReplay k → is_too_large k ≡ false → Rules ℕ k
 rules_of kind.Single can small = slot_rules ℕ
-rules_of (kind.Bounded n) can small = ring_rules {A = ℕ} n (can, ltb-false MAX_CAPACITY n small)
+rules_of (kind.Bounded n) can small = ring_rules n (can, ltb-false MAX_CAPACITY n small)
 rules_of kind.Unbounded can small = chain_rules ℕ
 
 -- events of party 0 leave the others between calls
