@@ -1,11 +1,11 @@
 -- The shared memory at each step of a pop on a chain up to the wait for its item, and at the steps that only look.
-use Rattle.std.proofs.Common.{ℕ, ◌+◌, ◌*◌, ◌/◌, ◌<◌, ◌≤◌, ◌≡◌, ◌≢◌, ◌==◌, ◌∙◌, ◌⊎◌, inl, inr, Bool, true, false, if◌then◌else◌, Option, IsSome, List, refl, sym, ap, subst, arith, None}
+use Rattle.std.proofs.Common.{ℕ, ◌+◌, ◌*◌, ◌/◌, ◌<◌, ◌≤◌, ◌≡◌, ◌≢◌, ◌==◌, ◌∙◌, ◌⊎◌, inl, inr, Bool, true, false, if◌then◌else◌, IsSome, List, refl, sym, ap, subst, arith}
 use Rattle.std.proofs.lemmas.Bool.Decides.{eqb_tells}
-use Rattle.machine_replay.specs.Vocabulary.{Answer, BLOCK_SLOTS, TAIL_STEP, Look}
-use Rattle.queue_steps.specs.{State.State, Looks.IsCount, Words.IsWord, Words.position_of, ChainWords.offset_of, ChainWords.items_before, ChainNext.chain_next, declared.steps.chain.ChainLocal.ChainLocal as chain}
-use Rattle.queue_laws.specs.{Common.Moments.HeadWas, Common.Moments.SeenIn, Chain.ChainAnswers.head_word, Chain.ChainAnswers.linked_of, Chain.ChainAnswers.IsState, Chain.ChainTransitions.taken, Chain.ChainAfter.taken_if, Chain.ChainAfter.if_taken}
-use Rattle.queue_laws.specs.Chain.ChainFacts.{place, head_of, HeadIs, IsNamed, HeadBlockIs, HeadBlockRead, IsMore, Got, SawEmpty}
-use Rattle.queue_laws.specs.Chain.ChainCells.{Writer, Writing, Wrote, Reader, Reading, Done, Stands as Rested, Passing, Entering, GivenUp, Chain, FrontOk, ChainOk, Read, Head, HoldsOnly, Nothing, item_at, Free, ItemOk}
+use Rattle.machine_replay.specs.Vocabulary.{Answer, BLOCK_SLOTS, TAIL_STEP}
+use Rattle.queue_steps.specs.{State.State, ChainWords.offset_of}
+use Rattle.queue_laws.specs.{Chain.ChainAnswers.head_word, Chain.ChainAnswers.linked_of, Chain.ChainAnswers.IsState, Chain.ChainTransitions.taken, Chain.ChainAfter.taken_if, Chain.ChainAfter.if_taken}
+use Rattle.queue_laws.specs.Chain.ChainFacts.{place, head_of, HeadIs, IsNamed, HeadBlockIs, IsMore, Got}
+use Rattle.queue_laws.specs.Chain.ChainCells.{Writer, Writing, Wrote, Reader, Reading, Done, Stands as Rested, Passing, GivenUp, Chain, FrontOk, ChainOk, Read, Head, HoldsOnly, Nothing, item_at, Free, ItemOk}
 use prog.Atomic.{either}
 use Rattle.machine_memory.specs.{Blocks.block_of, Blocks.behind, Blocks.behind_in, Blocks.state_of, SharedMemory.MemoryState}
 use Rattle.machine_replay.proofs.Chain.{Names.Codes, Blocks.state_is, Gives.block_at, Gives.has_place, Coded.CodesShared, Coded.Coded, Coded.coded_by, CodesPop.codes_taken, CodesPop.codes_passed}

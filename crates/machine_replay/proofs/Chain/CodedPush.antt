@@ -1,9 +1,9 @@
 -- The shared memory at each step of a push on a chain.
-use Rattle.std.proofs.Common.{ℕ, ◌+◌, ◌/◌, ◌%◌, ◌<◌, ◌≤◌, ◌≡◌, ◌≢◌, ◌==◌, ◌^◌, ◌∙◌, ◌⊎◌, inl, inr, zero, suc, Bool, true, false, if◌then◌else◌, Option, Some, None, IsSome, List, length, refl, sym, ap, subst, arith, get_or, bit_or}
+use Rattle.std.proofs.Common.{ℕ, ◌+◌, ◌/◌, ◌%◌, ◌<◌, ◌≡◌, ◌≢◌, ◌==◌, ◌^◌, ◌∙◌, ◌⊎◌, inl, inr, zero, suc, Bool, true, false, if◌then◌else◌, Option, Some, None, IsSome, List, length, refl, sym, ap, subst, arith, get_or, bit_or}
 use Rattle.std.proofs.lemmas.{List.length-set, Bool.Decides.eqb_tells}
-use Rattle.machine_replay.specs.Vocabulary.{Answer, Next, PushKind, LIMIT, BLOCK_SLOTS, TAIL_STEP, WRITE}
-use Rattle.queue_steps.specs.{State.State, ChainWords.offset_of, ChainNext.chain_next, ChainNext.chain_tail_found, declared.steps.chain.ChainLocal.ChainLocal as chain}
-use Rattle.queue_laws.specs.Chain.ChainCells.{Done, Rests, Laying, Opening, Linking, Showing, Spare, Chain, ChainOk, Write, Tail, Next as Behind, First, HoldsOnly, Nothing, item_at}
+use Rattle.machine_replay.specs.Vocabulary.{Answer, Next, PushKind, BLOCK_SLOTS, TAIL_STEP, WRITE}
+use Rattle.queue_steps.specs.{State.State, ChainWords.offset_of, ChainNext.chain_next, declared.steps.chain.ChainLocal.ChainLocal as chain}
+use Rattle.queue_laws.specs.Chain.ChainCells.{Done, Rests, Laying, Opening, Linking, Spare, Chain, ChainOk, Write, Tail, Next as Behind, HoldsOnly, Nothing, item_at}
 use Rattle.queue_laws.specs.Chain.{ChainAnswers.tail_word, ChainAnswers.last_of, ChainAnswers.is_done, ChainAnswers.IsState, ChainAfter.left_by, ChainAfter.if_installed, ChainAfter.claimed_if, ChainAfter.if_claimed, ChainTransitions.appended}
 use Rattle.queue_laws.specs.Chain.ChainFacts.{open_tail_of, IsNamed, TailBlockIs, HasSpare, SawTail, Claimed}
 use Rattle.queue_laws.proofs.Chain.{ChainAnswers.tail_small, ChainAnswers.same_tail, ChainRight.Gives, ChainReads.not_given_up, ChainStates.unread_item, ChainStates.state_answers}

@@ -1,8 +1,8 @@
 -- The shared memory at each step of a pop on a chain that reads its item or walks over a passed block.
-use Rattle.std.proofs.Common.{ℕ, ◌+◌, ◌/◌, ◌%◌, ◌<◌, ◌≡◌, ◌≢◌, ◌==◌, ◌∙◌, ◌⊎◌, inl, inr, Bool, true, false, if◌then◌else◌, Option, Some, None, List, length, refl, sym, ap, subst, arith, get_or, bit_or}
+use Rattle.std.proofs.Common.{ℕ, ◌+◌, ◌/◌, ◌%◌, ◌<◌, ◌≡◌, ◌≢◌, ◌==◌, ◌∙◌, inl, inr, Bool, true, false, if◌then◌else◌, Option, Some, None, List, length, refl, sym, ap, subst, arith, get_or, bit_or}
 use Rattle.std.proofs.{lemmas.List.length-set, lemmas.Bool.ne_eqb, Common.not, Common.Ok, Common.bit_and, Common.get_or-set_other}
 use Rattle.machine_replay.specs.Vocabulary.{Reply, Word, Op, Touch, Answer, Next, BLOCK_SLOTS, READ, DESTROY}
-use Rattle.queue_steps.specs.{State.State, ChainWords.offset_of, ChainNext.at, ChainNext.walks, ChainNext.walks_on, declared.steps.chain.ChainLocal.ChainLocal as chain}
+use Rattle.queue_steps.specs.{State.State, ChainWords.offset_of, ChainNext.at, ChainNext.walks_on, declared.steps.chain.ChainLocal.ChainLocal as chain}
 use Rattle.queue_laws.specs.Chain.ChainCells.{Wrote, Reading, Done, Walker, Waits, GivenUp, Chain, ChainOk, Read, Passed, HoldsOnly, item_at, LAST, Walk, Before, Chained, WalkOk}
 use Rattle.queue_laws.specs.Chain.{ChainFacts.head_of, ChainFacts.IsNamed, ChainFacts.Got, ChainAfter.left_by, ChainTransitions.walk_after, ChainTransitions.reads, ChainTransitions.walked, ChainAnswers.is_done, ChainAnswers.waits_at, ChainAnswers.IsState, ChainAnswers.StateAnswers}
 use Rattle.queue_laws.specs.Chain.ChainAt.{Only, IsLast, reading, beginning, walking, destroying}

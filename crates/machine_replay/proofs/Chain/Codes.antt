@@ -1,5 +1,5 @@
 -- How a block of the machine stands for a block of a chain, and that it goes on doing so.
-use Rattle.std.proofs.Common.{ℕ, ◌+◌, ◌<◌, ◌≡◌, ◌≢◌, not, ◌∙◌, inl, inr, if◌then◌else◌, Option, Some, None, List, length, refl, sym, ap, subst, arith, get_or, set, get_or-set_same, get_or-set_other}
+use Rattle.std.proofs.Common.{ℕ, ◌+◌, ◌<◌, ◌≡◌, ◌≢◌, ◌∙◌, inl, inr, if◌then◌else◌, Option, Some, None, List, length, refl, sym, ap, subst, arith, get_or, set, get_or-set_same, get_or-set_other}
 use Rattle.std.proofs.lemmas.{List.length-set, Bool.Decides.eqb_tells}
 use Rattle.machine_replay.specs.Vocabulary.{BLOCK_SLOTS}
 use Rattle.queue_laws.specs.Chain.ChainCells.{Writer, Free, Writing, Wrote, Reader, Done, Chain, item_at, LAST}

@@ -4,7 +4,7 @@ use Rattle.std.proofs.lemmas.Bool.Decides.{eqb_tells}
 use Rattle.machine_replay.specs.Vocabulary.{BLOCK_SLOTS, WRITE}
 use Rattle.queue_laws.specs.{Common.Puts.put, Chain.ChainTransitions.chained, Chain.ChainTransitions.written, Chain.ChainFacts.IsNamed, Chain.ChainAnswers.linked_of, Chain.ChainAnswers.is_wrote, Chain.ChainAnswers.is_done}
 use Rattle.queue_laws.proofs.{Common.Puts.put_other, Common.Puts.put_same, Chain.ChainStates.other_block, Chain.ChainStates.other_slot, Chain.ChainStates.unread_item, Chain.ChainStates.state_written}
-use Rattle.queue_laws.specs.Chain.ChainCells.{Writer, Writing, Wrote, Reader, Done, LinkState, Linked, Walk, GivenUp, Chained, Chain, ItemOk, ChainOk, item_at}
+use Rattle.queue_laws.specs.Chain.ChainCells.{Writer, Writing, Wrote, Reader, Done, LinkState, Linked, Walk, GivenUp, Chained, Chain, ChainOk, item_at}
 use Rattle.machine_memory.specs.Blocks.{BlockState, blank}
 use Rattle.machine_replay.proofs.Chain.{Codes.BlockIs, Codes.wrote_in, Codes.lies, Codes.block_put, Codes.block_same, Names.NameIs, Names.HeldIs, Names.Codes, Names.SameBlock, Names.Changed, Names.name_kept, Names.one_name}
 

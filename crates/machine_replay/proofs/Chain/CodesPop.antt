@@ -1,5 +1,5 @@
 -- The steps of pops that move the head leave the machine standing for the chain after them.
-use Rattle.std.proofs.Common.{ℕ, ◌+◌, ◌*◌, ◌%◌, ◌≡◌, ◌≢◌, ◌∙◌, ◌⊎◌, inl, inr, Bool, true, false, if◌then◌else◌, Option, Some, None, List, refl, sym, ap, subst, arith, get_or}
+use Rattle.std.proofs.Common.{ℕ, ◌+◌, ◌*◌, ◌%◌, ◌≡◌, ◌≢◌, ◌∙◌, ◌⊎◌, inl, inr, Bool, true, false, if◌then◌else◌, Option, Some, List, refl, sym, ap, subst, arith}
 use Rattle.machine_replay.specs.Vocabulary.{BLOCK_SLOTS, TAIL_STEP}
 use Rattle.queue_steps.specs.Words.{tail_of, position_of}
 use Rattle.queue_laws.proofs.{Common.Puts.put_ok, Common.Tails.position_tail, Chain.ChainReads.passer_sees}

@@ -1,9 +1,8 @@
 -- The steps that read an item or walk over a passed block, and the block that is given up with a reply, leave the machine standing for the chain after them.
-use Rattle.std.proofs.Common.{ℕ, ◌+◌, ◌/◌, ◌<◌, ◌≡◌, ◌≢◌, ◌∙◌, ◌⊎◌, inl, inr, false, Option, Some, None, List, refl, sym, ap, subst, arith, get_or, set, bit_or}
-use Rattle.std.proofs.lemmas.Bool.Decides.{eqb_tells}
+use Rattle.std.proofs.Common.{ℕ, ◌/◌, ◌<◌, ◌≡◌, ◌≢◌, ◌∙◌, ◌⊎◌, inl, inr, Option, Some, None, List, refl, sym, ap, subst, arith, get_or, set, bit_or}
 use Rattle.machine_replay.specs.Vocabulary.{BLOCK_SLOTS, READ}
 use Rattle.queue_laws.specs.{Common.Puts.put, Chain.ChainFacts.IsNamed, Chain.ChainAnswers.is_done, Chain.ChainAnswers.waits_at, Chain.ChainAnswers.IsState}
-use Rattle.queue_laws.specs.Chain.ChainTransitions.{reads, walked, walk_after, given_up, lost_of}
+use Rattle.queue_laws.specs.Chain.ChainTransitions.{reads, walked, given_up, lost_of}
 use Rattle.queue_laws.proofs.{Common.Puts.put_ok, Common.Puts.put_other, Common.Puts.put_same, Chain.ChainStates.other_block, Chain.ChainStates.other_slot, Chain.ChainStates.state_read}
 use Rattle.queue_laws.specs.Chain.ChainCells.{Done, Walk, GivenUp, Unused, Spare, Chained, Chain, ChainOk, item_at, LAST}
 use Rattle.machine_memory.specs.{declared.blocks.BlockPlace.BlockPlace, Blocks.BlockState, Blocks.blank}

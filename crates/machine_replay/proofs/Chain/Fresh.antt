@@ -2,7 +2,7 @@
 use Rattle.std.proofs.Common.{ℕ, ◌+◌, ◌*◌, ◌≤◌, ◌≡◌, ◌≢◌, not, ◌∙◌, inl, inr, zero, suc, Some, None, refl, sym, ap, subst, arith}
 use Rattle.std.proofs.lemmas.List.{get_or-replicate, length-replicate}
 use Rattle.machine_replay.{specs.Vocabulary.BLOCK_SLOTS, proofs.Chain.Codes.BlockIs, proofs.Chain.Codes.lies}
-use Rattle.queue_laws.specs.Chain.ChainCells.{Free, Unread, Done, Mover, Rests, LinkState, Linked, Walk, Before, GivenUp, Chain, BlocksOk, LinkOk, WalkOk, ChainOk, item_at, LAST}
+use Rattle.queue_laws.specs.Chain.ChainCells.{Free, Unread, Done, Mover, Rests, LinkState, Linked, Before, GivenUp, Chain, BlocksOk, LinkOk, ChainOk, item_at, LAST}
 use Rattle.queue_laws.proofs.Chain.{ChainTransitions.item_free, ChainStates.unwalked}
 use Rattle.queue_laws.specs.Chain.ChainAnswers.{last_of, linked_of, is_wrote, is_done, waits_at, IsState}
 use Rattle.machine_memory.specs.Blocks.{blank, fresh_block}

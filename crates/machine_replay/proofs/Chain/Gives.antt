@@ -1,12 +1,12 @@
 -- A block that is there, and one that is given up with a reply.
-use Rattle.std.proofs.Common.{ℕ, ◌<◌, ◌≡◌, ◌≢◌, ◌∙◌, inl, inr, Option, Some, None, List, length, refl, sym, ap, subst, arith, get_or, set, get_or-set_same, get_or-set_other}
+use Rattle.std.proofs.Common.{ℕ, ◌<◌, ◌≡◌, ◌≢◌, ◌∙◌, inl, inr, Option, Some, None, List, length, sym, ap, subst, arith, get_or, set, get_or-set_same, get_or-set_other}
 use Rattle.std.proofs.lemmas.{List.get_or_past, List.length-set, Bool.Decides.eqb_tells, Bool.cases_lt}
-use Rattle.machine_replay.specs.Vocabulary.{Answer, Next, BLOCK_SLOTS}
-use Rattle.queue_laws.specs.Chain.{ChainCells.Done, ChainCells.GivenUp, ChainCells.Chained, ChainCells.Chain, ChainCells.ChainOk, ChainCells.item_at, ChainCells.LAST, ChainFacts.IsNamed, ChainAnswers.IsState, ChainAnswers.StateAnswers, ChainAfter.left_by}
+use Rattle.machine_replay.specs.Vocabulary.{Next, BLOCK_SLOTS}
+use Rattle.queue_laws.specs.Chain.{ChainCells.GivenUp, ChainCells.Chain, ChainCells.ChainOk, ChainFacts.IsNamed, ChainAfter.left_by}
 use Rattle.queue_laws.proofs.Chain.ChainRight.{Gives}
 use Rattle.machine_memory.specs.Blocks.{BlockState, fresh_block, without, places_in, place_count}
 use Rattle.machine_steps.specs.Steps.{spare_in}
-use Rattle.machine_replay.proofs.Chain.{Codes.BlockIs, Names.NameIs, Names.HeldIs, Names.Codes, Names.alive_of, Names.name_of, CodesWalk.codes_given_spare, CodesWalk.codes_given_block, Blocks.there, Blocks.changed_set, Blocks.place_in}
+use Rattle.machine_replay.proofs.Chain.{Codes.BlockIs, Names.NameIs, Names.HeldIs, Names.Codes, Names.alive_of, Names.name_of, CodesWalk.codes_given_spare, CodesWalk.codes_given_block, Blocks.there, Blocks.changed_set}
 
 -- what stands under the name of the chain's block b
 held_of : {A : Type 0} {c : Chain A} {head tail : ℕ} {front last : Option ℕ} {blocks : List (Option (BlockState A))} (b f : ℕ) → ChainOk c → IsNamed c b f → Codes c head tail front last blocks → HeldIs c b (get_or blocks f None)

@@ -1,10 +1,9 @@
 -- A party in a call that has had an effect of some kind, from that step on. Nothing here knows a kind of queue.
-use Rattle.std.proofs.Common.{◌≡◌, ◌∙◌, ℕ, ◌+◌, ◌<◌, ◌≤◌, ◌&&◌, nat_lt, Bool, true, false, cond, Option, Some, None, is_none, List, [], ◌∷◌, ◌++◌, length, get_or-set_same, refl, sym, ap, subst, arith, inl, inr}
+use Rattle.std.proofs.Common.{◌≡◌, ◌∙◌, ℕ, ◌+◌, ◌<◌, ◌≤◌, ◌&&◌, Bool, true, false, cond, Option, Some, None, List, [], ◌∷◌, ◌++◌, length, get_or-set_same, refl, sym, ap, subst, arith, inl, inr}
 use Rattle.std.proofs.lemmas.Bool.{ltb-true, Decides.eqb_tells}
-use Rattle.queue_laws.proofs.Common.Tests.{is_none_true}
 use Rattle.queue_steps.specs.State.{State}
-use Rattle.machine_replay.specs.Vocabulary.{Reply, Effect, Kind, Local, Event, Told, EffectKind, Begin, Step, Skipped, Ran, Running}
-use Rattle.machine_replay.specs.Book.{Book, Open, Happens, Steps, Moves, kind_of, at_open, put, joined, watched, begun, after_own}
+use Rattle.machine_replay.specs.Vocabulary.{Effect, Kind, Local, Event, Told, EffectKind, Begin, Step, Ran, Running}
+use Rattle.machine_replay.specs.Book.{Book, Open, Happens, Moves, kind_of, at_open, watched, after_own}
 use Rattle.machine_replay.specs.{Conforms.capacity_of, Conforms.party_of, Progress.reply_told, Within.is_step_of}
 use Rattle.machine_steps.specs.{Machine.event_of, Steps.CanStep, Steps.step_of, Steps.start_of, World.World, World.call_at}
 use Rattle.machine_memory.specs.SharedMemory.{MemoryState}

@@ -1,10 +1,9 @@
 -- Where a party stands, as the book of a run has it.
-use Rattle.std.proofs.Common.{◌≡◌, ◌≢◌, ◌∙◌, ℕ, ◌==◌, nat_lt, true, false, if◌then◌else◌, Option, Some, None, is_none, List, [], ◌∷◌, ◌++◌, refl, sym, ap, inl, inr}
+use Rattle.std.proofs.Common.{◌≡◌, ◌≢◌, ◌∙◌, ℕ, ◌==◌, true, false, if◌then◌else◌, Option, Some, None, List, [], ◌∷◌, ◌++◌, refl, sym, ap, inl, inr}
 use Rattle.std.proofs.lemmas.Bool.Decides.{eqb_tells}
-use Rattle.queue_laws.proofs.Common.Tests.{is_none_true}
 use Rattle.queue_steps.specs.State.{State}
-use Rattle.machine_replay.specs.Vocabulary.{Reply, Effect, Event, Told, EffectKind, Begin, Step, Skipped, Ran}
-use Rattle.machine_replay.specs.Book.{Book, Open, Happens, Steps, Moves, at_open, put, joined, watched, begun, after_own}
+use Rattle.machine_replay.specs.Vocabulary.{Effect, Event, Told, EffectKind, Skipped, Ran}
+use Rattle.machine_replay.specs.Book.{Book, Open, Happens, Moves, at_open, begun}
 use Rattle.machine_replay.specs.{Conforms.party_of, Progress.Standing, Progress.Between, Progress.Undone, Progress.HalfDone, Progress.stands_after, Progress.stands_then, Progress.effect_told, Progress.reply_told}
 use Rattle.machine_replay.proofs.Progress.PartyGoes.{PartyGoes, skips, beside, begins, replies, goes_on, ends, party_goes}
 

@@ -1,13 +1,13 @@
 -- A stretch of a run in which nobody hinders a call: each of its steps brings it nearer to its reply, and no other step takes it back. Nothing here knows a kind of queue.
 use Rattle.std.proofs.Common.{◌≡◌, ◌≢◌, ◌∙◌, ◌⊎◌, ℕ, ◌+◌, ◌<◌, ◌≤◌, ◌==◌, ◌&&◌, nat_lt, Bool, true, false, cond, if◌then◌else◌, Option, Some, None, is_none, List, [], ◌∷◌, length, set, get_or-set_same, get_or-set_other, count_by, refl, sym, ap, subst, arith, inl, inr}
 use Rattle.std.proofs.lemmas.{List.length-replicate, Bool.ltb-true, List.Sums.sum_by-append, Bool.Decides.eqb_tells}
-use Rattle.queue_steps.specs.State.{State, start}
+use Rattle.queue_steps.specs.State.{State}
 use Rattle.machine_replay.specs.Vocabulary.{Call, Reply, Kind, Event, Told, Begin, Step, Skipped, Ran, Running}
 use Rattle.machine_replay.specs.{Book.Book, Book.Open, Book.Happens, Book.opening, Conforms.capacity_of, Conforms.party_of, Played.told_of, Played.world_after, Within.is_step_of}
-use Rattle.machine_memory.{specs.Opening.opening_shared, specs.SharedMemory.MemoryState, proofs.Busy.nobody_calls, proofs.Busy.none_are_busy}
+use Rattle.machine_memory.{specs.SharedMemory.MemoryState, proofs.Busy.nobody_calls, proofs.Busy.none_are_busy}
 use Rattle.machine_steps.specs.{Left.opening_world, Machine.event_of, Steps.CanStep, Steps.step_of, Steps.start_of, World.World, World.call_at, World.can_begin, World.began, World.stepped_if}
 use Rattle.machine_replay.proofs.Engine.Events as engine
-use Rattle.machine_replay.proofs.{Engine.KindLaws.LawsOf, Engine.KindLaws.SimulatesOf, Engine.KindLaws.Rules, Progress.Standings.Agrees, Progress.Standings.agrees-next, Progress.Standings.in_call-next, Progress.Standings.not_half-next}
+use Rattle.machine_replay.proofs.{Engine.KindLaws.SimulatesOf, Engine.KindLaws.Rules, Progress.Standings.Agrees, Progress.Standings.agrees-next, Progress.Standings.in_call-next, Progress.Standings.not_half-next}
 use Rattle.machine_replay.specs.Progress.{Standing, Between, Undone, HalfDone, stands_after, stands_by, stands_then, effect_told, reply_told, IsLeftToIt, NobodyShows, IsSilent, HalfDoneTakesNone, UnhinderedWithin, NeverWaits}
 
 -- another party took this step, before which it had had no effect, and which had none

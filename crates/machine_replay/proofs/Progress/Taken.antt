@@ -1,10 +1,9 @@
 -- A call that has taken replies soon, while no other call is between its append and its reply. Nothing here knows a kind of queue.
-use Rattle.std.proofs.Common.{◌≡◌, ◌≢◌, ◌∙◌, ℕ, ◌<◌, ◌≤◌, ◌==◌, nat_lt, if◌then◌else◌, Bool, true, false, Option, Some, None, is_none, List, [], ◌∷◌, count_by, refl, sym, ap, subst, arith, inl, inr}
+use Rattle.std.proofs.Common.{◌≡◌, ◌≢◌, ◌∙◌, ℕ, ◌<◌, ◌≤◌, ◌==◌, if◌then◌else◌, Bool, true, false, Option, Some, None, List, [], ◌∷◌, count_by, refl, sym, ap, subst, arith, inl, inr}
 use Rattle.std.proofs.lemmas.Bool.Decides.{eqb_tells}
-use Rattle.queue_laws.proofs.Common.Tests.{is_none_true}
 use Rattle.queue_steps.specs.State.{State}
-use Rattle.machine_replay.specs.Vocabulary.{Reply, Effect, Kind, Local, Event, Told, EffectKind, Begin, Step, Skipped, Ran, Running}
-use Rattle.machine_replay.specs.Book.{Book, Open, Happens, Steps, Moves, at_open, put, joined, watched, begun, after_own}
+use Rattle.machine_replay.specs.Vocabulary.{Effect, Kind, Local, Event, Told, EffectKind, Step, Skipped, Ran, Running}
+use Rattle.machine_replay.specs.Book.{Book, Open, Happens, Moves, at_open, begun}
 use Rattle.machine_replay.{specs.Conforms.capacity_of, specs.Conforms.party_of, specs.Played.told_of, specs.Played.world_after, specs.Within.is_step_of, proofs.Progress.Stretch.count-cons}
 use Rattle.machine_steps.specs.{Left.opening_world, Machine.event_of, Steps.CanStep, Steps.step_of, Steps.start_of, World.World, World.call_at}
 use Rattle.machine_memory.specs.SharedMemory.{MemoryState}

@@ -3,10 +3,10 @@ use Rattle.std.proofs.Common.{ℕ, ◌+◌, ◌%◌, ◌<◌, ◌≤◌, ◌≡�
 use Rattle.std.proofs.{Math.Nat.min-eq_left, Math.Nat.min-eq_right, lemmas.Bool.ne_eqb, lemmas.Bool.Decides.eqb_tells, lemmas.Option.none-some}
 use Rattle.queue_steps.specs.{State.State, RingNext.lap_found, RingNext.loads, RingNext.push_stamp_found, Words.IsRing, Words.position_of, Words.is_shut, Words.slot_at, Words.stamp_filled, Words.stamp_free, Words.tail_of, Next.next_of}
 use Rattle.machine_replay.specs.Vocabulary.{Call, Effect, Kind, Word, Op, Touch, Local, Next, PushKind, RingLocal, TAIL_STEP, Running}
-use Rattle.queue_laws.specs.{Common.Effects.with_effect, Common.Stand.Stand, Ring.RingOpening.opening_ring, Ring.RingWords.Codes, Ring.RingWords.stamp_in}
+use Rattle.queue_laws.specs.{Common.Effects.with_effect, Common.Stand.Stand, Ring.RingWords.Codes, Ring.RingWords.stamp_in}
 use Rattle.queue_laws.proofs.{Common.Ranks.either_small, Common.Tails.position_tail, Common.Tails.shut_tail, Ring.RingStart.holds_none, Ring.RingStepOk.NextOk, Ring.RingStepOk.IsQuiet, Ring.RingRanks.rank, Ring.RingRanks.rank_some, Ring.RingSlots.nobody, Ring.RingTransitions.in_ring}
 use Rattle.queue_laws.proofs.Ring.RingStep.{step_good}
-use Rattle.machine_replay.proofs.{Engine.StandOf.running_of, Engine.Plain.plain-step, Ring.Coded.part, Ring.Coded.same_step, Ring.Laws.RingHolds, Ring.Laws.RingIdle, Ring.Laws.RingFits, Ring.Laws.ring_steps, Ring.Opening.ring_opens, Ring.Opening.ring_all_idle, Progress.Appended.HasAppend}
+use Rattle.machine_replay.proofs.{Engine.StandOf.running_of, Engine.Plain.plain-step, Ring.Coded.part, Ring.Coded.same_step, Ring.Laws.RingHolds, Ring.Laws.RingIdle, Ring.Laws.RingFits, Progress.Appended.HasAppend}
 use Rattle.machine_replay.proofs.Ring.Kind.{ring_rules}
 use Rattle.machine_replay.proofs.Progress.{Appended.appends_reply-next, Taken.HasTake, Taken.takes_reply-next, Stretch.Paces, Stretch.unhindered, Stretch.never_waits, Stretch.waits_take_none}
 use Rattle.queue_laws.specs.Ring.RingShared as ring

@@ -1,10 +1,10 @@
 -- One slot: a call that nobody hinders replies by its third step.
-use Rattle.std.proofs.Common.{ℕ, ◌==◌, if◌then◌else◌, ◌<◌, ◌≡◌, ◌≢◌, ◌∙◌, Bool, true, false, Option, Some, None, List, [], ◌∷◌, refl, sym, ap, subst, arith}
+use Rattle.std.proofs.Common.{ℕ, ◌<◌, ◌≡◌, ◌≢◌, ◌∙◌, Bool, true, false, Option, Some, List, [], ◌∷◌, refl, sym, ap, subst}
 use Rattle.std.proofs.lemmas.Option.{none-some}
 use Rattle.queue_steps.specs.{State.State, Next.next_of, declared.steps.slot.SlotLocal.TheVariants.Pushed, declared.steps.slot.SlotLocal.TheVariants.Forced, declared.steps.slot.SlotLocal.TheVariants.Popped}
 use Rattle.machine_replay.specs.{Vocabulary.Kind, Vocabulary.Local, Vocabulary.Next, Vocabulary.Running, Book.Open, Progress.AppendsReplyWithin, Progress.TakesReplyWithin, Progress.HalfDoneTakesNone, Progress.UnhinderedWithin, Progress.NeverWaits}
 use Rattle.queue_laws.specs.{Common.Stand.Stand, Slot.SlotHolder.SlotHolder, Slot.SlotHolder.Nobody, Slot.SlotHolder.Taking, Slot.SlotHolder.LockHolder, Slot.SlotHolder.Idle}
-use Rattle.machine_replay.proofs.{Engine.StandOf.running_of, Slot.Coded.one_slot, Slot.Coded.same_step, Slot.Coded.shared_same, Slot.Laws.SlotHolds, Slot.Laws.FitsIn, Slot.Laws.slot_engine, Progress.Appended.HasAppend, Progress.Appended.appends_reply-next, Progress.Taken.HasTake}
+use Rattle.machine_replay.proofs.{Engine.StandOf.running_of, Slot.Coded.one_slot, Slot.Coded.same_step, Slot.Coded.shared_same, Slot.Laws.SlotHolds, Slot.Laws.FitsIn, Progress.Appended.HasAppend, Progress.Appended.appends_reply-next, Progress.Taken.HasTake}
 use Rattle.machine_replay.proofs.Slot.Left.{slot_rules}
 use Rattle.machine_replay.proofs.Progress.{Taken.takes_reply-next, Stretch.Paces, Stretch.unhindered, Stretch.never_waits, Stretch.waits_take_none}
 use Rattle.queue_laws.specs.Slot.SlotShared as slot
