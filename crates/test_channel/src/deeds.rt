@@ -3,7 +3,6 @@ ghost use Rattle.counted_channel.specs.Channel.{IsEndOf};
 
 use crate::asserts::is;
 use crate::host::Host;
-use crate::opening::one_more;
 use channel_handle::{Handle, PopError, PushError, Receiver, Sender};
 use counted_channel::{Channel, ChannelEnd};
 use std::alloc::AllocGlobal;
@@ -34,8 +33,10 @@ impl AnyEnd {
     /// One more end of its side. Asserts that there is one.
     pub(crate) fn another(&mut self, rt: &impl Abort) -> AnyEnd {
         match self {
-            AnyEnd::Sends(sender) => AnyEnd::Sends(one_more(rt, sender)),
-            AnyEnd::Receives(receiver) => AnyEnd::Receives(one_more(rt, receiver)),
+            AnyEnd::Sends(sender) => AnyEnd::Sends(sender.split().expect(rt, "one more sender")),
+            AnyEnd::Receives(receiver) => {
+                AnyEnd::Receives(receiver.split().expect(rt, "one more receiver"))
+            }
         }
     }
 

@@ -1,9 +1,7 @@
 //! Channels as the tests open them, whose ends are values of their own.
 ghost use Rattle.channel_handle.specs.Ends.{IsPair};
-ghost use Rattle.counted_channel.specs.Channel.{EndParts};
 
-use channel_handle::{Handle, Receiver, Sender, bounded, unbounded};
-use counted_channel::ChannelEnd;
+use channel_handle::{Receiver, Sender, bounded, unbounded};
 use mem_blocks::null_testable::NullTestable;
 use std::process::Abort;
 
@@ -23,19 +21,5 @@ pub fn opened_surely<T: Drop, A: NullTestable + Clone>(
     match opened {
         Ok(ends) => ends,
         Err(_) => panic!(rt; "no memory"),
-    }
-}
-
-/// One more end of this one. Asserts that there is one.
-pub fn one_more<E, T, A>(rt: &impl Abort, end: &mut Handle<E, T, A>) -> Handle<E, T, A>
-where
-    E: ChannelEnd<T>,
-    T: Drop,
-    A: NullTestable,
-    ensures { EndParts end.old end.new result }
-{
-    match end.split() {
-        Ok(other) => other,
-        Err(_) => panic!(rt; "no second end"),
     }
 }
