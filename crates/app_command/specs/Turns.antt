@@ -1,7 +1,7 @@
 -- What the lines of a replay ask of the parties, turn by turn, and what is printed of it. A turn is what one line asks of one party, with the number of that line.
 use Rattle.std.specs.Prelude.{ℕ, ◌+◌, true, false, Option, Some, None, List, [], ◌∷◌, ◌++◌, map, replicate, codes}
 use Rattle.std.specs.Fmt.{decimal}
-use Rattle.queue_steps.specs.declared.{sizes.TheConstants.SOLO_STEPS, model.Reply.Reply}
+use Rattle.queue_steps.specs.declared.{sizes.TheConstants.STEPS_ALONE, model.Reply.Reply}
 use Rattle.machine_memory.specs.declared.types.{Event.Event, Event.TheVariants.Begin, Event.TheVariants.Step, EffectKind.EffectKind, Told.Told, Told.TheVariants.Skipped, Told.TheVariants.Ran}
 use Rattle.app_text.specs.{Replies.reply_text, declared.actions.Action.Action, declared.actions.Action.Action as action, declared.actions.ReplayLine.ReplayLine, Effects.effect_text}
 use Rattle.app_command.specs.declared.turns.Turn.{Turn}
@@ -18,7 +18,7 @@ event_of l = event_by l.party l.action
 
 -- how often it makes it happen
 abbrev pub turn_count : Action → ℕ
-turn_count action.Run = SOLO_STEPS
+turn_count action.Run = STEPS_ALONE
 turn_count _ = 1
 
 -- the turns of these lines, of which the first has the number n

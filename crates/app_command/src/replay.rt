@@ -1,6 +1,6 @@
 //! A replay: calls and single steps of several parties, what each did, and the items that are left.
 ghost use Rattle.std.specs.Prelude.{◌≡◌, [], ◌∷◌, ◌++◌, replicate, IfOk, OnOk, MatchResult, string_bytes};
-ghost use Rattle.queue_steps.specs.declared.sizes.TheConstants.{SOLO_STEPS};
+ghost use Rattle.queue_steps.specs.declared.sizes.TheConstants.{STEPS_ALONE};
 ghost use Rattle.machine_replay.specs.MachineRuns.{IsSomeMachineRun};
 ghost use Rattle.app_text.specs.Actions.{replay_line_text, IsReplayLine};
 ghost use Rattle.app_text.specs.KindNames.{IsKindName};
@@ -22,7 +22,7 @@ use app_text::replies::ReplyText;
 use app_text::streams::{read_input, write_output};
 use machine_replay::machine_run::MachineRun;
 use machine_replay::types::{Peak, Told};
-use queue_steps::sizes::SOLO_STEPS;
+use queue_steps::sizes::STEPS_ALONE;
 use std::alloc::{AllocError, Allocator};
 use std::io::{Read, Write};
 
@@ -124,7 +124,7 @@ fn take_line<A: Allocator + Copy, B: Allocator>(
     }
 }
 
-// Gives a party as many turns as a solo call can need. Those behind the end of its call would be skipped without a word, so they are not made.
+// Gives a party as many turns as a call alone can need. Those behind the end of its call would be skipped without a word, so they are not made.
 fn take_run<A: Allocator + Copy, B: Allocator>(
     alloc: A,
     run: &mut MachineRun<u64, A>,
@@ -133,9 +133,9 @@ fn take_run<A: Allocator + Copy, B: Allocator>(
 ) -> Result<(), AllocError>
     requires comes { IsSomeMachineRun run.old }
     requires action { turn.said.action ≡ Run }
-    ensures { OnOk result (Takes (replicate SOLO_STEPS turn) run.old (string_bytes text.old) run.new (string_bytes text.new)) }
+    ensures { OnOk result (Takes (replicate STEPS_ALONE turn) run.old (string_bytes text.old) run.new (string_bytes text.new)) }
 {
-    for _ in 0..SOLO_STEPS {
+    for _ in 0..STEPS_ALONE {
         if !run.is_in_call(turn.said.party as usize) {
             return Ok(());
         }

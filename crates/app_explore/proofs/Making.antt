@@ -1,7 +1,7 @@
 -- The lines of a schedule make its moves.
 use Rattle.std.proofs.Common.{◌≡◌, ℕ, zero, suc, ◌+◌, ◌-◌, ◌<◌, ◌≤◌, nat_lt, Bool, true, false, cond, List, [], ◌∷◌, take, drop, refl, sym, ap, subst, arith}
 use Rattle.std.proofs.lemmas.{Bool.eqb-true, Bool.ltb-true, Bool.ltb-false, List.take-append-drop}
-use Rattle.queue_steps.specs.declared.sizes.TheConstants.{SOLO_STEPS}
+use Rattle.queue_steps.specs.declared.sizes.TheConstants.{STEPS_ALONE}
 use Rattle.machine_memory.specs.declared.types.Event.{Event, TheVariants.Begin, TheVariants.Step}
 use Rattle.app_text.specs.declared.actions.{Action.Action as action, ReplayLine.ReplayLine}
 use Rattle.machine_explore.specs.Traces.{Seen}
@@ -46,13 +46,13 @@ row_is k p n (t ∷ ts) is some = by_step (is_step_of p t.event) (ends_call t.to
     by_step true false a b h more = row_more k p n t ts (step_is p t.event a) b (more h)
     by_step false e a b h more = absurd (omega (arith, h, some))
 
-run_bounds : (n : ℕ) → is_run n ≡ true → (2 ≤ n) × (n ≤ SOLO_STEPS)
-run_bounds n run = by_tests (nat_lt n 2) (nat_lt n (SOLO_STEPS + 1)) refl refl run
+run_bounds : (n : ℕ) → is_run n ≡ true → (2 ≤ n) × (n ≤ STEPS_ALONE)
+run_bounds n run = by_tests (nat_lt n 2) (nat_lt n (STEPS_ALONE + 1)) refl refl run
   where
-    by_tests : (a b : Bool) → nat_lt n 2 ≡ a → nat_lt n (SOLO_STEPS + 1) ≡ b → cond a false b ≡ true → (2 ≤ n) × (n ≤ SOLO_STEPS)
+    by_tests : (a b : Bool) → nat_lt n 2 ≡ a → nat_lt n (STEPS_ALONE + 1) ≡ b → cond a false b ≡ true → (2 ≤ n) × (n ≤ STEPS_ALONE)
     by_tests true b e f h = cc (h)
     by_tests false false e f h = cc (h)
-    by_tests false true e f h = let two = ltb-false n 2 e in let below = ltb-true n (SOLO_STEPS + 1) f in (two, omega (arith, below))
+    by_tests false true e f h = let two = ltb-false n 2 e in let below = ltb-true n (STEPS_ALONE + 1) f in (two, omega (arith, below))
 
 plain_makes : (e : Event ℕ) (t : Seen) → t.event ≡ e → Makes (plain_line e).party (plain_line e).action (t ∷ [])
 plain_makes (Begin p c) t is = ap (λ e. e ∷ []) is

@@ -3,7 +3,7 @@ use Rattle.std.proofs.Common.{◌≡◌, ◌∙◌, ℕ, zero, suc, ◌+◌, ◌
 use Rattle.std.proofs.lemmas.{Bool.ltb-true, Bool.ltb-false, List.at_drop_all, List.at_drop_more, List.length-drop}
 use Rattle.std.specs.Fmt.{decimal}
 use Rattle.app_text.specs.{Actions.action_text, Actions.replay_line_text, declared.actions.Action.Action as action, declared.actions.ReplayLine.ReplayLine}
-use Rattle.queue_steps.specs.declared.sizes.TheConstants.{SOLO_STEPS}
+use Rattle.queue_steps.specs.declared.sizes.TheConstants.{STEPS_ALONE}
 use Rattle.machine_explore.specs.Traces.{Seen}
 use Rattle.app_explore.specs.Schedules.{ends_call, party_of, plain_line, is_step_of, row_length, is_run, first_line, more_moves, lines_text, move_lines}
 
@@ -22,22 +22,22 @@ moves_behind zero (t ∷ ts) = refl
 moves_behind (suc k) [] = refl
 moves_behind (suc k) (t ∷ ts) = moves_behind k ts
 
-run_is : (n : ℕ) → 2 ≤ n → n ≤ SOLO_STEPS → is_run n ≡ true
-run_is n two most = by_tests (nat_lt n 2) (nat_lt n (SOLO_STEPS + 1)) refl refl
+run_is : (n : ℕ) → 2 ≤ n → n ≤ STEPS_ALONE → is_run n ≡ true
+run_is n two most = by_tests (nat_lt n 2) (nat_lt n (STEPS_ALONE + 1)) refl refl
   where
-    by_tests : (a b : Bool) → nat_lt n 2 ≡ a → nat_lt n (SOLO_STEPS + 1) ≡ b → cond a false b ≡ true
+    by_tests : (a b : Bool) → nat_lt n 2 ≡ a → nat_lt n (STEPS_ALONE + 1) ≡ b → cond a false b ≡ true
     by_tests true b e f = let below = ltb-true n 2 e in absurd (omega (arith, below, two))
     by_tests false true e f = refl
-    by_tests false false e f = let above = ltb-false n (SOLO_STEPS + 1) f in absurd (omega (arith, above, most))
+    by_tests false false e f = let above = ltb-false n (STEPS_ALONE + 1) f in absurd (omega (arith, above, most))
 
-plain_is : (n : ℕ) → (n < 2) ⊎ (SOLO_STEPS < n) → is_run n ≡ false
-plain_is n other = by_tests (nat_lt n 2) (nat_lt n (SOLO_STEPS + 1)) refl refl other
+plain_is : (n : ℕ) → (n < 2) ⊎ (STEPS_ALONE < n) → is_run n ≡ false
+plain_is n other = by_tests (nat_lt n 2) (nat_lt n (STEPS_ALONE + 1)) refl refl other
   where
-    by_tests : (a b : Bool) → nat_lt n 2 ≡ a → nat_lt n (SOLO_STEPS + 1) ≡ b → (n < 2) ⊎ (SOLO_STEPS < n) → cond a false b ≡ false
+    by_tests : (a b : Bool) → nat_lt n 2 ≡ a → nat_lt n (STEPS_ALONE + 1) ≡ b → (n < 2) ⊎ (STEPS_ALONE < n) → cond a false b ≡ false
     by_tests true b e f h = refl
     by_tests false false e f h = refl
     by_tests false true e f (inl short) = let two = ltb-false n 2 e in absurd (omega (arith, two, short))
-    by_tests false true e f (inr long) = let below = ltb-true n (SOLO_STEPS + 1) f in absurd (omega (arith, below, long))
+    by_tests false true e f (inr long) = let below = ltb-true n (STEPS_ALONE + 1) f in absurd (omega (arith, below, long))
 
 drop_behind : {X : Type 0} (n : ℕ) (x : X) (xs : List X) → 0 < n → drop (n - 1) xs ≡ drop n (x ∷ xs)
 drop_behind zero x xs some = absurd (omega (arith, some))
@@ -48,7 +48,7 @@ abbrev pub IsFirst : List Seen → ReplayLine → ℕ → Type 0
 IsFirst moves line n = (0 < n) × (n ≤ length moves) × (move_lines 0 moves ≡ line ∷ move_lines 0 (drop n moves))
 
 -- a row that ends a call
-pub first_is_run : (moves : List Seen) (t : Seen) (n : ℕ) → 0 < length moves → t ≡ get_or moves 0 t → n ≡ row_length 0 (party_of t.event) moves → 2 ≤ n → n ≤ SOLO_STEPS → IsFirst moves (record { party = party_of t.event; action = action.Run }) n
+pub first_is_run : (moves : List Seen) (t : Seen) (n : ℕ) → 0 < length moves → t ≡ get_or moves 0 t → n ≡ row_length 0 (party_of t.event) moves → 2 ≤ n → n ≤ STEPS_ALONE → IsFirst moves (record { party = party_of t.event; action = action.Run }) n
 first_is_run [] t n some is row two most = absurd (omega (arith, some))
 first_is_run (s ∷ ss) t n some is row two most = subst {A = Seen} (λ u. n ≡ row_length 0 (party_of u.event) (s ∷ ss) → IsFirst (s ∷ ss) (record { party = party_of u.event; action = action.Run }) n) (sym is) here row
   where
@@ -63,7 +63,7 @@ first_is_run (s ∷ ss) t n some is row two most = subst {A = Seen} (λ u. n ≡
         (omega (arith, two), omega (arith, within, length_is), subst {A = ℕ} (λ m. first_line s.event m ∷ move_lines (more_moves m) ss ≡ record { party = party_of s.event; action = action.Run } ∷ move_lines 0 (drop n (s ∷ ss))) length_is lines)
 
 -- any other move
-pub first_is_plain : (moves : List Seen) (t : Seen) (n : ℕ) → 0 < length moves → t ≡ get_or moves 0 t → n ≡ row_length 0 (party_of t.event) moves → (n < 2) ⊎ (SOLO_STEPS < n) → IsFirst moves (plain_line t.event) 1
+pub first_is_plain : (moves : List Seen) (t : Seen) (n : ℕ) → 0 < length moves → t ≡ get_or moves 0 t → n ≡ row_length 0 (party_of t.event) moves → (n < 2) ⊎ (STEPS_ALONE < n) → IsFirst moves (plain_line t.event) 1
 first_is_plain [] t n some is row other = absurd (omega (arith, some))
 first_is_plain (s ∷ ss) t n some is row other = subst {A = Seen} (λ u. n ≡ row_length 0 (party_of u.event) (s ∷ ss) → IsFirst (s ∷ ss) (plain_line u.event) 1) (sym is) here row
   where

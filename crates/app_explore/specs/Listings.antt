@@ -23,8 +23,8 @@ pub record IsListOf (texts : List (List ℕ)) (text : List ℕ) : Type 0 where
   pub tails : List Tail
   pub counted : length tails ≡ length texts
   pub total : Option ℕ
-  pub lone : ℕ
-  pub text_is : text ≡ outcome_lines 1 texts (map tail_line tails) ++ last_text (length texts) total lone (without_order tails)
+  pub alone : ℕ
+  pub text_is : text ≡ outcome_lines 1 texts (map tail_line tails) ++ last_text (length texts) total alone (without_order tails)
 
 -- the text has a line for each outcome of the program, and for no other, and a last line
 pub record IsListing (k : Kind) (refuses : Bool) (before : List (Call ℕ)) (calls : List (List (Call ℕ))) (text : List ℕ) : Type 0 where

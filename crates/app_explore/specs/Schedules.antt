@@ -1,6 +1,6 @@
 -- The lines of a replay that make a schedule happen.
 use Rattle.std.specs.Prelude.{◌≡◌, ◌≤◌, map, replicate, ℕ, zero, suc, ◌+◌, ◌-◌, ◌==◌, Some, nat_lt, if◌then◌else◌, Bool, true, false, List, [], ◌∷◌, ◌++◌, flat_map}
-use Rattle.queue_steps.specs.declared.{sizes.TheConstants.SOLO_STEPS, model.Call.Call}
+use Rattle.queue_steps.specs.declared.{sizes.TheConstants.STEPS_ALONE, model.Call.Call}
 use Rattle.machine_memory.specs.declared.types.{Event.Event, Event.TheVariants.Begin, Event.TheVariants.Step, Told.Told, Told.TheVariants.Ran}
 pub use Rattle.machine_replay.specs.Conforms.{party_of}
 use Rattle.app_text.specs.{Actions.replay_line_text, declared.actions.Action.Action, declared.actions.Action.Action as action, declared.actions.ReplayLine.ReplayLine}
@@ -37,7 +37,7 @@ plain_line (Step p false) = record { party = p; action = action.Refuse }
 
 -- two steps or more that end a call, and no more than a run takes
 abbrev pub is_run : ℕ → Bool
-is_run n = if nat_lt n 2 then false else nat_lt n (SOLO_STEPS + 1)
+is_run n = if nat_lt n 2 then false else nat_lt n (STEPS_ALONE + 1)
 
 -- the first line of moves, which begin with this event and with a row of this length
 abbrev pub first_line : Event ℕ → ℕ → ReplayLine
@@ -69,7 +69,7 @@ abbrev pub Makes : ℕ → Action → List Seen → Type 0
 Makes p (action.Call c) moves = map (λ t. t.event) moves ≡ Begin p c ∷ []
 Makes p action.Step moves = map (λ t. t.event) moves ≡ Step p true ∷ []
 Makes p action.Refuse moves = map (λ t. t.event) moves ≡ Step p false ∷ []
-Makes p action.Run moves = (n : ℕ) × (2 ≤ n) × (n ≤ SOLO_STEPS) × IsRow p n moves
+Makes p action.Run moves = (n : ℕ) × (2 ≤ n) × (n ≤ STEPS_ALONE) × IsRow p n moves
 
 -- the lines make these moves, one line after another
 abbrev pub MakeAll : List ReplayLine → List Seen → Type 0

@@ -57,8 +57,11 @@ schedule_word None = codes " schedules"
 abbrev pub schedules_text : Option ℕ → List ℕ
 schedules_text count = count_text count ++ schedule_word count
 
-abbrev pub others_text : ℕ → ℕ → List ℕ
-others_text lone unordered = codes ", longest lone call " ++ decimal lone ++ codes ", " ++ decimal unordered ++ codes " with order none" ++ 10 ∷ []
+abbrev pub alone_text : ℕ → List ℕ
+alone_text alone = codes ", most steps alone " ++ decimal alone
+
+abbrev pub unordered_text : ℕ → List ℕ
+unordered_text count = codes ", " ++ decimal count ++ codes " with order none" ++ 10 ∷ []
 
 abbrev pub last_text : ℕ → Option ℕ → ℕ → ℕ → List ℕ
-last_text outcomes schedules lone unordered = outcomes_text outcomes ++ schedules_text schedules ++ others_text lone unordered
+last_text outcomes schedules alone unordered = outcomes_text outcomes ++ schedules_text schedules ++ alone_text alone ++ unordered_text unordered

@@ -26,7 +26,7 @@ use std::alloc::{AllocError, Allocator};
 struct OutcomeList<A: Allocator> {
     outcomes: Vec<Listed<ShownOutcome<A>, A>, A>,
     schedules: ScheduleCount,
-    lone: u64,
+    alone: u64,
 }
 
 /// The line of each outcome, sorted by their bytes, and the line of all.
@@ -158,12 +158,12 @@ fn outcome_list<A: Allocator + Copy>(
     let Report {
         outcomes,
         schedules,
-        lone,
+        alone,
     } = explore(alloc, problem)?;
     Ok(OutcomeList {
         outcomes: sorted_by_text(alloc, outcomes)?,
         schedules,
-        lone,
+        alone,
     })
 }
 
@@ -176,7 +176,7 @@ fn write_list<A: Allocator + Copy>(alloc: A, list: &OutcomeList<A>) -> Result<St
     let totals = Totals {
         outcomes: list.outcomes.len(),
         schedules: list.schedules,
-        lone: list.lone,
+        alone: list.alone,
         unordered: count_without_order(&list.outcomes),
     };
     write_last(totals, &mut text)?;

@@ -8,7 +8,7 @@ use app_text::calls::ShownCall;
 use machine_explore::trace::TraceEntry;
 use machine_replay::types::{Event, Told};
 use queue_steps::model::Call;
-use queue_steps::sizes::SOLO_STEPS;
+use queue_steps::sizes::STEPS_ALONE;
 use std::alloc::{AllocError, Allocator};
 
 /// Appends the lines of a schedule: each of the calls before the parties begin is begun by party 0 and run to its end, and then
@@ -61,7 +61,7 @@ fn first_line<B: Allocator>(moves: &[TraceEntry<B>]) -> Option<(ReplayLine, usiz
     let event = first.event();
     let party = party_of(event);
     let count = row_length(party, moves);
-    if count >= 2 && count as u64 <= SOLO_STEPS {
+    if count >= 2 && count as u64 <= STEPS_ALONE {
         return Some((line_of(party, Action::Run), count));
     }
     Some((plain_line(event), 1))

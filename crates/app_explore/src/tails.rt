@@ -1,6 +1,6 @@
 //! What is told of an outcome behind its text, and of all outcomes.
 ghost use Rattle.std.specs.Prelude.{◌≡◌, ◌++◌, OnOk, flat_map, string_bytes};
-ghost use Rattle.app_explore.specs.Tails.{count_text, figure_tail, items_in, last_text, order_text, others_text, outcomes_text, schedule_word, schedules_text, tail_line, with_space};
+ghost use Rattle.app_explore.specs.Tails.{alone_text, count_text, figure_tail, items_in, last_text, order_text, outcomes_text, schedule_word, schedules_text, tail_line, unordered_text, with_space};
 
 use machine_explore::search::counts::ScheduleCount;
 use machine_explore::search::figures::Figure;
@@ -26,8 +26,8 @@ pub(crate) struct Totals {
     pub outcomes: usize,
     /// How many schedules lead to them.
     pub schedules: ScheduleCount,
-    /// The most steps that a lone call takes.
-    pub lone: u64,
+    /// The most steps that a call alone takes.
+    pub alone: u64,
     /// How many of them no order of whole calls has.
     pub unordered: usize,
 }
@@ -37,31 +37,32 @@ pub(crate) fn write_last<A: Allocator>(
     totals: Totals,
     text: &mut String<A>,
 ) -> Result<(), AllocError>
-    ensures { OnOk result (string_bytes text.new ≡ string_bytes text.old ++ last_text totals.outcomes totals.schedules totals.lone totals.unordered) }
+    ensures { OnOk result (string_bytes text.new ≡ string_bytes text.old ++ last_text totals.outcomes totals.schedules totals.alone totals.unordered) }
 {
     let Totals {
         outcomes,
         schedules,
-        lone,
+        alone,
         unordered,
     } = totals;
     write_outcomes(outcomes, text)?;
     write_schedules(schedules, text)?;
-    write_others(lone, unordered, text)
+    write_alone(alone, text)?;
+    write_unordered(unordered, text)
 }
 
-// Appends the most steps of a lone call, and how many outcomes no order of whole calls has.
-fn write_others<A: Allocator>(
-    lone: u64,
-    unordered: usize,
-    text: &mut String<A>,
-) -> Result<(), AllocError>
-    ensures { OnOk result (string_bytes text.new ≡ string_bytes text.old ++ others_text lone unordered) }
+// Appends the most steps that a call alone takes.
+fn write_alone<A: Allocator>(alone: u64, text: &mut String<A>) -> Result<(), AllocError>
+    ensures { OnOk result (string_bytes text.new ≡ string_bytes text.old ++ alone_text alone) }
 {
-    writeln!(
-        text,
-        ", longest lone call {lone}, {unordered} with order none"
-    )
+    write!(text, ", most steps alone {alone}")
+}
+
+// Appends how many outcomes no order of whole calls has.
+fn write_unordered<A: Allocator>(unordered: usize, text: &mut String<A>) -> Result<(), AllocError>
+    ensures { OnOk result (string_bytes text.new ≡ string_bytes text.old ++ unordered_text unordered) }
+{
+    writeln!(text, ", {unordered} with order none")
 }
 
 // Appends how many outcomes there are.

@@ -17,7 +17,7 @@ pub enum Action {
     Step,
     /// It takes one step, and a request for a block is refused.
     Refuse,
-    /// It takes as many steps as a solo call can need, and requests are granted.
+    /// It takes as many steps as a call alone can need, and requests are granted.
     Run,
 }
 

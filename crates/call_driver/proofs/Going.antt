@@ -1,6 +1,6 @@
 -- How a call that is on its way goes on.
 use Rattle.std.proofs.Common.{◌≡◌, ℕ, zero, suc, ◌+◌, ◌-◌, ◌<◌, Option, Some, refl, arith, sym, ap, subst, ◌∙◌}
-use Rattle.queue_steps.specs.declared.{sizes.TheConstants.SOLO_STEPS, sizes.TheConstants.WAIT_FREE_STEPS, model.Call.Call, model.Reply.Reply}
+use Rattle.queue_steps.specs.declared.{sizes.TheConstants.STEPS_ALONE, sizes.TheConstants.WAIT_FREE_STEPS, model.Call.Call, model.Reply.Reply}
 use Rattle.queue_steps.specs.declared.steps.types.{Kind.Kind, Answer.Answer, Answer.Answer as answer, Next.Next, Next.Next as next, Op.Op, Touch.Touch, Local.Local}
 use Rattle.queue_steps.specs.{Next.CanNext, Next.next_of, Next.first_local, WaitFree.EndsBefore, WaitFree.EndsWaitFree, Kinds.call_kind, Kinds.call_value, Kinds.filled}
 use Rattle.call_driver.specs.{Leads.MayGive, Leads.Gave, Leads.Leads, Leads.GoesOn, Leads.Begins, OnWay.OnWay, OnWay.Before, OnWay.Stood, declared.site.Site.Ghosts, declared.progress.Progress.Progress}
@@ -33,7 +33,7 @@ module _ {O M T B S K : Type 0} (m : Ghosts O M T B S K) where
 
   -- a call that begins
   pub first-step : (k : Kind) (call : Call Unit) (site : M) (seat : S) (c : Call T) (local : Local B) (n : ℕ)
-      → k ≡ m.kind_of site seat → local ≡ first_local call → call ≡ call_kind c → suc n ≡ SOLO_STEPS
+      → k ≡ m.kind_of site seat → local ≡ first_local call → call ≡ call_kind c → suc n ≡ STEPS_ALONE
       → Begins m.can m.does m.spares m.gives m.stands m.ended (m.kind_of site seat) site seat c
       → OnWay m n k call site seat c (record { local = local; answer = answer.Start }) (call_value c) seat
   first-step k call site seat c local n is_kind is_local is_call all h =

@@ -1,6 +1,6 @@
 -- A call that is run by one owner on some cells: it ends within so many steps, whatever the operations answer.
 use Rattle.std.specs.Prelude.{ℕ, zero, suc, Option, Some, None}
-use Rattle.queue_steps.specs.declared.{sizes.TheConstants.SOLO_STEPS, model.Call.Call, model.Reply.Reply, steps.types.Kind.Kind, steps.types.Answer.Answer, steps.types.Answer.Answer as answer, steps.types.Next.Next, steps.types.Next.Next as next, steps.types.Op.Op, steps.types.Touch.Touch}
+use Rattle.queue_steps.specs.declared.{sizes.TheConstants.STEPS_ALONE, model.Call.Call, model.Reply.Reply, steps.types.Kind.Kind, steps.types.Answer.Answer, steps.types.Answer.Answer as answer, steps.types.Next.Next, steps.types.Next.Next as next, steps.types.Op.Op, steps.types.Touch.Touch}
 use Rattle.queue_steps.specs.{Next.CanNext, Next.next_of, Next.first_local, Kinds.call_kind, Kinds.call_value, Sequential.Owned}
 use Rattle.call_driver.specs.Apart.{AnswersApart}
 
@@ -36,4 +36,4 @@ module _ {T B M : Type 0} (can_touch : M → Touch → Op B → Type 0) (touches
   abbrev pub EndsRight : (M → Type 0) → (M → Owned T) → Kind → Call T → M → Type 0
   EndsRight idle owned k c cells =
       CanNext k (first_local {B = B} (call_kind c)) answer.Start
-      × EndsIn can_touch touches can_perform performs SOLO_STEPS k (next_of k (first_local (call_kind c)) answer.Start) cells (call_value c) (Answered can_release releases idle owned c cells)
+      × EndsIn can_touch touches can_perform performs STEPS_ALONE k (next_of k (first_local (call_kind c)) answer.Start) cells (call_value c) (Answered can_release releases idle owned c cells)

@@ -1,6 +1,6 @@
 -- A call that is on its way: each of its steps may be done, and whatever the step answers, the call goes on or ends right.
 use Rattle.std.specs.Prelude.{◌≡◌, ℕ, suc, Option, Some, None}
-use Rattle.queue_steps.specs.{declared.sizes.TheConstants.SOLO_STEPS, declared.model.Call.Call, declared.model.Reply.Reply, Next.CanNext, Next.next_of, Next.first_local, Kinds.call_kind, Kinds.call_value, Kinds.filled}
+use Rattle.queue_steps.specs.{declared.sizes.TheConstants.STEPS_ALONE, declared.model.Call.Call, declared.model.Reply.Reply, Next.CanNext, Next.next_of, Next.first_local, Kinds.call_kind, Kinds.call_value, Kinds.filled}
 use Rattle.queue_steps.specs.declared.steps.types.{Kind.Kind, Answer.Answer, Answer.Answer as answer, Next.Next, Next.Next as next, Op.Op, Touch.Touch, Local.Local}
 
 -- the block that a reply hands out may be given up
@@ -29,4 +29,4 @@ module _ {T B M S : Type 0} (can : M → S → Call Unit → Local B → Touch �
 
   -- a call that begins leads on, and its steps are no more than a call takes that runs alone
   abbrev pub Begins : Kind → M → S → Call T → Type 0
-  Begins k m s c = (n : ℕ) → suc n ≡ SOLO_STEPS → GoesOn n k m s c (first_local (call_kind c)) answer.Start s (call_value c)
+  Begins k m s c = (n : ℕ) → suc n ≡ STEPS_ALONE → GoesOn n k m s c (first_local (call_kind c)) answer.Start s (call_value c)

@@ -3,7 +3,7 @@
 //! A call takes fast steps first, which stand one after another. Any other step leaves for the slow path: on a chain the steps of a block's end, and then a loop.
 ghost use Rattle.std.specs.Prelude.{◌≡◌, ℕ, suc, true};
 ghost use Rattle.queue_steps.specs.declared.model.Call.{Call as SpecCall};
-ghost use Rattle.queue_steps.specs.declared.sizes.TheConstants.{SOLO_STEPS};
+ghost use Rattle.queue_steps.specs.declared.sizes.TheConstants.{STEPS_ALONE};
 ghost use Rattle.queue_steps.specs.Kinds.{call_kind, call_value};
 ghost use Rattle.queue_steps.specs.WaitFree.{is_wait_free};
 ghost use Rattle.call_driver.specs.Apart.{IsCall, FitsCall};
@@ -30,7 +30,7 @@ pub fn begin<M: Site>(
 ) -> (Kind, Progress<M::Block>)
     requires { M.rests site.now seat.now }
     ensures kind { M.Steps.has_kind result.0 }
-    ensures begun { (whole : SpecCall M.Item) (n : ℕ) → call ≡ call_kind whole → suc n ≡ SOLO_STEPS → OnWay M.Site n result.0 call site.now seat.now whole result.1 (call_value whole) seat.now }
+    ensures begun { (whole : SpecCall M.Item) (n : ℕ) → call ≡ call_kind whole → suc n ≡ STEPS_ALONE → OnWay M.Site n result.0 call site.now seat.now whole result.1 (call_value whole) seat.now }
 {
     let kind = M::kind(site, seat);
     let local: Local<M::Block> = queue_steps::steps::start(kind, call);

@@ -10,9 +10,9 @@ use crate::driver::{drive as drive_at, drive_in_loop as drive_in_loop_at};
 use crate::fast::Usual;
 use crate::gate::Open;
 use crate::retry::{OverBlocks, Within};
-use crate::site::{Site, SoloSite};
+use crate::site::{AloneSite, Site};
 use queue_steps::model::{Call, CallKind, Reply, ReplyKind};
-use queue_steps::sizes::SOLO_STEPS;
+use queue_steps::sizes::STEPS_ALONE;
 use queue_steps::steps::{Answer, Kind, KindSteps, Local, Next, Op, Touch};
 use std::marker::PhantomData;
 
@@ -89,11 +89,11 @@ impl<C: OwnCells> Site for Own<C> {
     }
 }
 
-impl<C: OwnCells> SoloSite for Own<C> {
+impl<C: OwnCells> AloneSite for Own<C> {
     ghost ends = { λ _ first c l a cells x stands. stands.1 };
 }
 
-/// Runs a call to its end, which comes within the steps that a solo call takes at most. `W` tells a caller's calls apart, so that each has steps of its own.
+/// Runs a call to its end, which comes within the steps that a call alone takes at most. `W` tells a caller's calls apart, so that each has steps of its own.
 ///
 /// The place of the value that the call carries is lent, and then holds what it ends with: as a part of the reply it would be copied at each way out of a step.
 #[inline(always)]
@@ -139,7 +139,7 @@ pub fn observe<C: OwnCells>(cells: &C, call: CallKind) -> ReplyKind
     let kind = cells.kind();
     let mut local: Local<C::Block> = queue_steps::steps::start(kind, call);
     let mut answer: Answer<C::Block> = Answer::Start;
-    for _ in 0..SOLO_STEPS {
+    for _ in 0..STEPS_ALONE {
         let todo = C::Steps::next(kind, local, answer);
         match todo {
             Next::Reply(reply, _) => return reply,

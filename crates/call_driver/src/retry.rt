@@ -6,10 +6,10 @@ ghost use Rattle.call_driver.specs.OnWay.{IsUnderWay, CanEnd, TakesStep, EndsRig
 use crate::fast::pass_block_end;
 use crate::gate::Gate;
 use crate::progress::Progress;
-use crate::site::{Site, SoloSite};
+use crate::site::{AloneSite, Site};
 use crate::steps::{any_step, walking_step};
 use queue_steps::model::{CallKind, ReplyKind};
-use queue_steps::sizes::{BLOCK_SLOTS, SOLO_STEPS};
+use queue_steps::sizes::{BLOCK_SLOTS, STEPS_ALONE};
 use queue_steps::steps::{Kind, KindSteps, blocks};
 use std::ops::ControlFlow;
 
@@ -124,7 +124,7 @@ impl<M: Site, E: End<M> + Drop> End<M> for OverBlocks<E> {
 #[derive(Drop)]
 pub struct Within;
 
-impl<M: SoloSite> End<M> for Within {
+impl<M: AloneSite> End<M> for Within {
     fn finish<G: Gate>(
         self,
         site: &M::Shared,
@@ -140,7 +140,7 @@ impl<M: SoloSite> End<M> for Within {
         ensures { EndsRightly M.Site kind call site.now progress carried.old seat.old carried.new seat.new result }
     {
         let mut progress = progress;
-        for _ in 0..SOLO_STEPS {
+        for _ in 0..STEPS_ALONE {
             match retry::<M, G>(site, gate, kind, call, seat, progress, carried) {
                 ControlFlow::Break(reply) => return reply,
                 ControlFlow::Continue(after) => progress = after,

@@ -90,7 +90,7 @@ pub trait Site {
 }
 
 /// A site where nobody else does steps: each call ends within a number of steps.
-pub trait SoloSite: Site {
+pub trait AloneSite: Site {
     /// No call ends before no step.
     ghost ends: { (m : Self.Shared) (first : Self.Seat) (c : SpecCall Self.Item) (l : SpecLocal Self.Block) (a : SpecAnswer Self.Block) (s : Self.Seat) (x : Option Self.Item) → Self.stands zero m first c l a s x → ⊥ };
 }

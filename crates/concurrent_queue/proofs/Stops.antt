@@ -1,7 +1,7 @@
 -- A call of a party at a table that stands before one of its steps: how it comes to stand there, and how it is taken up.
 use Rattle.std.proofs.Common.{◌≡◌, ◌-◌, ℕ, [], Option, refl, sym, ap, subst, ◌∙◌}
 use Rattle.atomic_table.specs.{Seated.TableId, declared.shared.Seat.Seat}
-use Rattle.queue_steps.specs.{declared.model.Call.Call, declared.model.Reply.Reply, declared.sizes.TheConstants.SOLO_STEPS, declared.steps.types.Kind.Kind, Kinds.call_kind, Next.next_of, Parties.IsView}
+use Rattle.queue_steps.specs.{declared.model.Call.Call, declared.model.Reply.Reply, declared.sizes.TheConstants.STEPS_ALONE, declared.steps.types.Kind.Kind, Kinds.call_kind, Next.next_of, Parties.IsView}
 use Rattle.shared_parties.specs.{declared.known.CallState.CallState, declared.known.InCall.InCall, declared.known.Work.Work as work, Calling.cap_of, CallsAt.begun_at, Quitting.its_call, CallStates.idle, Known.party}
 use Rattle.shared_tables.specs.{AtTable.TableSeat, AtTable.Ended, Seats.view_at, TableRule.TableOf, Laws.TableLeads.site_goes_on}
 use Rattle.shared_tables.specs.TableTurns.{After, NoBlock, NoGift, TableCan, TableDoes, TableEnded, TableStands}
@@ -92,7 +92,7 @@ module _ {T M : Type 0} (K : ℕ → TableOf T) (m : M) (table : M → TableId) 
       GoesOn {M = M} {S = Seat (Option T) (CallState T)} (λ m s. TableCan K (table m) (s.table_id, s.me)) (λ m s k l u o x a q. TableDoes K (table m) (s.table_id, s.me) k l u o x a (q.table_id, q.me))
       (λ m s. NoBlock (table m) (s.table_id, s.me)) (λ m s b q. NoGift (table m) (s.table_id, s.me) b (q.table_id, q.me))
       (λ n m s c l a q. TableStands K n (table m) (s.table_id, s.me) c l a (q.table_id, q.me)) (λ m s c r q. TableEnded K (table m) (s.table_id, s.me) c r (q.table_id, q.me))
-      (SOLO_STEPS - 1) k m first c l.progress.local l.progress.answer s l.carried
+      (STEPS_ALONE - 1) k m first c l.progress.local l.progress.answer s l.carried
 
   -- a call that stands there goes on as one that has left its fast steps
   pub resumes : (s : Seat (Option T) (CallState T)) (l : Left T ℕ) (v : Begun T) → StopsHere K (table m) s l v
@@ -105,5 +105,5 @@ module _ {T M : Type 0} (K : ℕ → TableOf T) (m : M) (table : M → TableId) 
         ap (λ (z : TableId). party_view (at_table z) first.me.0) h.0,
         (h.1.kind, h.1.call),
         subst (λ (k : Kind). LeadsOn k first c l s) (sym h.1.kind)
-            (site_goes_on K table (λ (p : Seat (Option T) (CallState T)). (p.table_id, p.me)) (SOLO_STEPS - 1) m first c l.progress.local l.progress.answer s l.carried (taken_up K t SOLO_STEPS s l v h)),
+            (site_goes_on K table (λ (p : Seat (Option T) (CallState T)). (p.table_id, p.me)) (STEPS_ALONE - 1) m first c l.progress.local l.progress.answer s l.carried (taken_up K t STEPS_ALONE s l v h)),
       )

@@ -1,7 +1,7 @@
 -- A call of a party of a shared chain that stands before one of its steps: how it comes to stand there, and how it is taken up.
 use Rattle.std.proofs.Common.{◌≡◌, ◌-◌, ℕ, true, None, Option, refl, sym, ap, subst, ◌∙◌}
 use Rattle.mem_blocks.specs.{Web.Sitter, Web.sitter, declared.block.BlockPtr.BlockPtr as Link, declared.web.Rested.Rested}
-use Rattle.queue_steps.specs.{declared.model.Call.Call, declared.model.Reply.Reply, declared.sizes.TheConstants.SOLO_STEPS, declared.steps.types.Kind.Kind, declared.steps.types.Kind.Kind as queue, Kinds.call_kind, Next.next_of, Parties.IsView, Parties.SharedCall}
+use Rattle.queue_steps.specs.{declared.model.Call.Call, declared.model.Reply.Reply, declared.sizes.TheConstants.STEPS_ALONE, declared.steps.types.Kind.Kind, declared.steps.types.Kind.Kind as queue, Kinds.call_kind, Next.next_of, Parties.IsView, Parties.SharedCall}
 use Rattle.shared_parties.specs.{declared.known.CallState.CallState, declared.known.InCall.InCall, declared.known.Work.Work as work, Called.call_of_work, Called.nothing_called, CallsAt.begun_at, Quitting.its_call, CallStates.idle, CallStates.IsResting, CallStates.HasAll, Known.party, Known.view_of}
 use Rattle.shared_chain.specs.{Names.link_of, Names.next_map, Turning.SitsAt, Turning.ChainCan, Turning.ChainDoes, Turning.ChainStands, Turning.ChainEnded, declared.web.ChainWeb.ChainWeb}
 use Rattle.shared_chain.specs.Steps as chain
@@ -92,7 +92,7 @@ module _ {T A Q : Type 0} (here : AllocatedChain T A) where
   LeadsOn k first c l s =
       GoesOn {M = AllocatedChain T A} {S = Asking T A Q} (λ m s. ChainCan m.chain s.seat) (λ m s k l u o x a q. ChainDoes s.seat k l u o x a q.seat) (λ m s. ChainSpares m.chain s.seat) (λ m s b q. ChainGives m.chain s.seat b q.seat)
       (λ n m s c l a q. ChainOnWay n m.chain s.seat c l a q.seat) (λ m s c r q. ChainEnded m.chain s.seat c r q.seat)
-      (SOLO_STEPS - 1) k here first c l.progress.local l.progress.answer s l.carried
+      (STEPS_ALONE - 1) k here first c l.progress.local l.progress.answer s l.carried
 
   -- a call that stands there goes on as one that has left its fast steps
   pub resumes_in : (s : Asking T A Q) (l : Left T (Link T)) (v : Begun T) → StopsInside here.chain s l v
@@ -107,5 +107,5 @@ module _ {T A Q : Type 0} (here : AllocatedChain T A) where
         refl,
         (h.1.kind, h.1.call),
         subst (λ (k : Kind). LeadsOn k first c.call l s) (sym h.1.kind)
-            (site_goes_on (λ (m : AllocatedChain T A). m.chain) (λ (p : Asking T A Q). p.seat) (SOLO_STEPS - 1) here first c.call l.progress.local l.progress.answer s l.carried (taken_up_in here.chain s l v h)),
+            (site_goes_on (λ (m : AllocatedChain T A). m.chain) (λ (p : Asking T A Q). p.seat) (STEPS_ALONE - 1) here first c.call l.progress.local l.progress.answer s l.carried (taken_up_in here.chain s l v h)),
       )

@@ -8,7 +8,7 @@ use Rattle.queue_steps.specs.Shares.{Share, entire, nothing, half, plus, IsEntir
 use Rattle.queue_steps.proofs.ShareLaws.{part_weight, weight_halves, weight_none}
 use Rattle.counted_channel.specs.declared.counting.{Side.Side, SeatCounts.SeatCounts, TheConstants.MAX_ENDS}
 use Rattle.counted_channel.specs.Counting.{side, nobody, both, at_side, side_at, stake_at, halved, two_seats, both_sides, first_sender, first_receiver, SideKept, Table, Seated, IsCounted, IsEndSeat, Added, Subtracted}
-use Rattle.counted_channel.proofs.OneSide.{total_at, ends, extra, stake, heft, changes, stays, divides, unites, few, solo}
+use Rattle.counted_channel.proofs.OneSide.{total_at, ends, extra, stake, heft, changes, stays, divides, unites, few, alone}
 
 up : (n : ℕ) → n ≤ 2 * MAX_ENDS → (n + 1) % 2 ^ 64 ≡ n + 1
 up n low = mod-eq_of_lt (let g : n + 1 < 2 ^ 64 = omega arith in g)
@@ -75,7 +75,7 @@ one_there s c i id v x lt at is =
     let own = total_at (heft (side_at i) k.depth) s.views id v at in let most = k.one in
     let part : IsPart (stake (side_at i) v) = part_weight k.depth (stake (side_at i) v) (k.shallow id v at) (omega (arith, own, most)) in
     subst (λ (p : Side). (word_at i s ≤ 2 * MAX_ENDS) × (p.ends + p.extra ≤ word_at i s) × (IsEntire p.stake → word_at i s ≡ p.ends + p.extra) × IsPart p.stake) was
-    (few (side_at i) (word_at i s) s.views k, omega (arith, e, f, k.counted), solo (side_at i) (word_at i s) id s.views v k at, part)
+    (few (side_at i) (word_at i s) s.views k, omega (arith, e, f, k.counted), alone (side_at i) (word_at i s) id s.views v k at, part)
 
 -- two descriptions of one seat
 same_sides : (i : ℕ) (v : SeatCounts) (x y : Side) → v ≡ at_side i x → v ≡ at_side i y → x ≡ y

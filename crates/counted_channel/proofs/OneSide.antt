@@ -33,12 +33,12 @@ module _ (f : SeatCounts → ℕ) where
     total_none [] h z = refl
     total_none (x ∷ xs) h z = omega (arith, h 0 x refl (omega arith), total_none xs (λ j v e. h (suc j) v e) (omega arith))
 
-    total_solo : (l : List SeatCounts) (i : ℕ) (a : SeatCounts) → get_elem? l i ≡ some a → ((j : ℕ) (v : SeatCounts) → get_elem? l j ≡ some v → g v ≡ 0 → f v ≡ 0) → total g l ≤ g a → total f l ≡ f a
-    total_solo [] i a e h all = absurd (some-ne-none a (sym e))
-    total_solo (x ∷ xs) zero a e h all =
+    total_alone : (l : List SeatCounts) (i : ℕ) (a : SeatCounts) → get_elem? l i ≡ some a → ((j : ℕ) (v : SeatCounts) → get_elem? l j ≡ some v → g v ≡ 0 → f v ≡ 0) → total g l ≤ g a → total f l ≡ f a
+    total_alone [] i a e h all = absurd (some-ne-none a (sym e))
+    total_alone (x ∷ xs) zero a e h all =
         let p = ap f (some-injective x a e) in let q = ap g (some-injective x a e) in omega (arith, total_none xs (λ j v e. h (suc j) v e) (omega arith))
-    total_solo (x ∷ xs) (suc i) a e h all =
-        let n = total_there xs i a e in omega (arith, h 0 x refl (omega arith), total_solo xs i a e (λ j v e. h (suc j) v e) (omega arith))
+    total_alone (x ∷ xs) (suc i) a e h all =
+        let n = total_there xs i a e in omega (arith, h 0 x refl (omega arith), total_alone xs i a e (λ j v e. h (suc j) v e) (omega arith))
       where
         total_there : (l : List SeatCounts) (i : ℕ) (a : SeatCounts) → get_elem? l i ≡ some a → g a ≤ total g l
         total_there [] i a e = absurd (some-ne-none a (sym e))
@@ -170,12 +170,12 @@ module _ (of : SeatCounts → Side) where
   few n vs k = let m = total_most extra ends vs k.extra in omega (arith, m, k.counted, k.limited)
 
   -- who has all of the stakes is the only one that counts
-  pub solo : (n id : ℕ) (vs : List SeatCounts) (v : SeatCounts) → SideKept of n vs → get_elem? vs id ≡ some v → IsEntire (stake v) → n ≡ ends v + extra v
-  solo n id vs v k at all =
+  pub alone : (n id : ℕ) (vs : List SeatCounts) (v : SeatCounts) → SideKept of n vs → get_elem? vs id ≡ some v → IsEntire (stake v) → n ≡ ends v + extra v
+  alone n id vs v k at all =
       let full : heft k.depth v ≡ 2 ^ k.depth = weight_entire k.depth (stake v) (k.shallow id v at) all in
       let most : total (heft k.depth) vs ≤ heft k.depth v = let l = k.one in omega (arith, full, l) in
-      let e = total_solo ends (heft k.depth) vs id v at (λ j u there nil. poor j u there nil) most in
-      let x = total_solo extra (heft k.depth) vs id v at (λ j u there nil. let p = poor j u there nil in let l = k.extra j u there in omega (arith, p, l)) most in
+      let e = total_alone ends (heft k.depth) vs id v at (λ j u there nil. poor j u there nil) most in
+      let x = total_alone extra (heft k.depth) vs id v at (λ j u there nil. let p = poor j u there nil in let l = k.extra j u there in omega (arith, p, l)) most in
       let c = k.counted in omega (arith, e, x, c)
     where
       poor : (j : ℕ) (u : SeatCounts) → get_elem? vs j ≡ some u → heft k.depth u ≡ 0 → ends u ≡ 0

@@ -1,5 +1,5 @@
 pub mod Counts
-pub mod Told
+pub mod Relying
 pub mod Telling
 pub mod Heed
 pub mod HeedSteps

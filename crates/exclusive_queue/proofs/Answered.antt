@@ -52,6 +52,6 @@ sequential-answered P R c x (inr s) = absurd s.0
 
 -- the kind of the reply tells the call
 pub apart-answered : {T : Type 0} (P R : Owned T) (c : Call T) (r : Reply Unit) (y : Option T) → AnswersApart P c r y R → call_of_reply r ≡ call_kind c
-apart-answered P R c r y told =
-    let kept : call_of_reply told.0 ≡ call_of_reply r = subst (λ it. AnswersCall it (call_of_reply r)) told.1 (filled-keeps r y) in
-    sym kept ∙ sequential-answered P R c told.0 told.2
+apart-answered P R c r y outcome =
+    let kept : call_of_reply outcome.0 ≡ call_of_reply r = subst (λ it. AnswersCall it (call_of_reply r)) outcome.1 (filled-keeps r y) in
+    sym kept ∙ sequential-answered P R c outcome.0 outcome.2

@@ -9,7 +9,7 @@ use Rattle.queue_laws.specs.Slot.SlotRows as slot
 use Rattle.machine_memory.specs.{declared.calls.Running.Running, declared.types.Event.Event, SharedMemory.MemoryState}
 use Rattle.machine_steps.specs.{Left.opening_world, World.call_at}
 use Rattle.machine_replay.specs.{Book.Open, Played.local_in, Played.world_after, Progress.Standing as CallStanding, Progress.Between, Progress.Undone, Progress.HalfDone, Progress.standing, Replays.CanReplay, Replays.is_too_large}
-use Rattle.machine_replay.proofs.{Chain.Stretch.chain_rules, Ring.Stretch.ring_rules, Slot.Stretch.slot_rules, Progress.Standings.Agrees, Progress.Stretch.Rules, Progress.Stretch.Party, Progress.Stretch.first, Progress.Stretch.reach}
+use Rattle.machine_replay.proofs.{Chain.Kind.chain_rules, Ring.Kind.ring_rules, Slot.Left.slot_rules, Engine.KindLaws.Rules, Progress.Standings.Agrees, Progress.Stretch.Party, Progress.Stretch.first, Progress.Stretch.reach}
 use Rattle.machine_explore.specs.{Waiting.is_half_done, WaitTables.is_half_done_at}
 
 has_some : {X : Type 0} → List X → Bool
@@ -78,5 +78,5 @@ module _ (k : Kind) (rules : Rules ℕ k) (tells : HalfTold k rules) (parties : 
 pub half_told : (k : Kind) (parties q : ℕ) (past : List (Event ℕ)) → CanReplay k → is_too_large k ≡ false → is_half_done (standing k parties q past) ≡ is_half_done_at (local_in (call_at (world_after k (opening_world k parties) past) q))
 half_told kind.Single parties q past can small = half_by kind.Single (slot_rules ℕ) (λ busy s Q g p r o f. slot_half f.here) parties q past
 half_told (kind.Bounded n) parties q past can small =
-    half_by (kind.Bounded n) (ring_rules {A = ℕ} n (can, ltb-false MAX_CAPACITY n small)) (λ busy s Q g p r o f. ring_half f.here) parties q past
+    half_by (kind.Bounded n) (ring_rules n (can, ltb-false MAX_CAPACITY n small)) (λ busy s Q g p r o f. ring_half f.here) parties q past
 half_told kind.Unbounded parties q past can small = half_by kind.Unbounded (chain_rules ℕ) (λ busy s Q g p r o f. chain_half f.here) parties q past

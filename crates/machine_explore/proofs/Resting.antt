@@ -6,7 +6,7 @@ use Rattle.queue_steps.specs.declared.{model.Call.Call, sizes.TheConstants.MAX_C
 use Rattle.machine_memory.specs.declared.types.{Event.Event, Told.Told}
 use Rattle.machine_steps.specs.{Left.opening_world, Steps.start_of, Steps.step_of, World.call_at}
 use Rattle.machine_replay.specs.{Book.Open, Conforms.party_of, Played.told_of, Played.world_after, Progress.Standing as CallStanding, Progress.Between, Progress.Undone, Progress.HalfDone, Progress.standing, Progress.stands_by, Progress.stands_then, Replays.CanReplay, Replays.is_too_large}
-use Rattle.machine_replay.proofs.{Chain.Stretch.chain_rules, Ring.Stretch.ring_rules, Slot.Stretch.slot_rules, Progress.Standings.Agrees, Progress.Stretch.Rules, Progress.Stretch.call-there, Progress.Stretch.first, Progress.Stretch.reach}
+use Rattle.machine_replay.proofs.{Chain.Kind.chain_rules, Ring.Kind.ring_rules, Slot.Left.slot_rules, Engine.KindLaws.Rules, Progress.Standings.Agrees, Progress.Stretch.call-there, Progress.Stretch.first, Progress.Stretch.reach}
 use Rattle.machine_explore.{specs.Explored.IsPreparing, specs.Positions.Standing, specs.Starts.IsStart, proofs.Showing.told_by-length, proofs.Starting.told_by-append}
 
 -- an event of another party
@@ -27,7 +27,7 @@ rests k rules parties q past none =
 
 rules_of : (k : Kind) → CanReplay k → is_too_large k ≡ false → Rules ℕ k
 rules_of kind.Single can small = slot_rules ℕ
-rules_of (kind.Bounded n) can small = ring_rules {A = ℕ} n (can, ltb-false MAX_CAPACITY n small)
+rules_of (kind.Bounded n) can small = ring_rules n (can, ltb-false MAX_CAPACITY n small)
 rules_of kind.Unbounded can small = chain_rules ℕ
 
 -- events of party 0 leave the others between calls

@@ -1,7 +1,7 @@
 -- A party that goes round is in a call, and each of its steps is silent.
 use Rattle.std.proofs.Common.{◌≡◌, ◌≢◌, ◌∙◌, ℕ, zero, suc, ◌+◌, ◌<◌, ◌≤◌, ◌⊎◌, false, true, Option, None, List, ◌∷◌, length, sym, ap, subst, inl, inr, arith}
 use Rattle.std.specs.Prelude.{replicate}
-use Rattle.queue_steps.specs.declared.{sizes.TheConstants.SOLO_STEPS, steps.types.Kind.Kind, steps.types.Local.Local}
+use Rattle.queue_steps.specs.declared.{sizes.TheConstants.STEPS_ALONE, steps.types.Kind.Kind, steps.types.Local.Local}
 use Rattle.machine_memory.specs.{declared.calls.Running.Running, declared.types.Event.Event, declared.types.Event.TheVariants.Step, declared.types.Told.Told, declared.types.Told.TheVariants.Ran, declared.types.Told.TheVariants.Skipped, SharedMemory.MemoryState}
 use Rattle.machine_steps.specs.{Machine.event_of, Steps.start_of, Steps.step_of, World.World, World.call_at}
 use Rattle.machine_replay.specs.Played.{local_in, told_of, world_after}
@@ -57,7 +57,7 @@ away_by k w p n later here there on here_is there_is apart away =
 not_back : (k : Kind) (w : World (MemoryState ℕ) (Running ℕ)) (p n : ℕ) → IsAway k w p n → (r : GoesRound k w p) → r.steps ≤ n → ⊥
 not_back k w p n away r few = away r.steps r.some few (ap (λ x. local_in (call_at x p)) (sym r.back))
 
-pub never_back : (k : Kind) (w : World (MemoryState ℕ) (Running ℕ)) (p n : ℕ) → IsAway k w p n → SOLO_STEPS ≤ n → GoesRound k w p → ⊥
+pub never_back : (k : Kind) (w : World (MemoryState ℕ) (Running ℕ)) (p n : ℕ) → IsAway k w p n → STEPS_ALONE ≤ n → GoesRound k w p → ⊥
 never_back k w p n away all r = let few = r.few in not_back k w p n away r (omega (arith, few, all))
 
 -- nor does it go on with one where its next step is not silent

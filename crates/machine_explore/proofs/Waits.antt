@@ -1,7 +1,7 @@
 -- When a party waits for another, from what is seen of a schedule.
 use Rattle.std.proofs.Common.{◌≡◌, ◌∙◌, ℕ, ◌+◌, ◌<◌, Bool, true, None, List, [], ◌∷◌, ◌++◌, length, take, refl, sym, ap, arith}
 use Rattle.std.{specs.Prelude.replicate, specs.Prelude.slice_index_or, proofs.lemmas.List.replicate_more, proofs.lemmas.List.take_more}
-use Rattle.queue_steps.specs.declared.{model.Call.Call, sizes.TheConstants.SOLO_STEPS, steps.types.Kind.Kind}
+use Rattle.queue_steps.specs.declared.{model.Call.Call, sizes.TheConstants.STEPS_ALONE, steps.types.Kind.Kind}
 use Rattle.machine_memory.specs.{declared.calls.Running.Running, declared.types.Event.Event, declared.types.Event.TheVariants.Step, declared.types.Told.Told, declared.types.Told.TheVariants.Ran, SharedMemory.MemoryState}
 use Rattle.machine_steps.specs.{Machine.event_of, Steps.start_of, Steps.step_of, World.World}
 use Rattle.machine_replay.specs.{Played.told_of, Played.world_after, Progress.Standing as CallStanding, Progress.Between, Progress.standing, Progress.stands_by, Progress.stands_then, Replays.CanReplay}
@@ -56,5 +56,5 @@ on_more k w p n s later t on told quiet leads =
     }
 
 -- and back
-pub round : (s later : Standing) (p n : ℕ) → n < SOLO_STEPS → IsOn s.kind s.world p (n + 1) later → later ≡ s → GoesRound s.kind s.world p
+pub round : (s later : Standing) (p n : ℕ) → n < STEPS_ALONE → IsOn s.kind s.world p (n + 1) later → later ≡ s → GoesRound s.kind s.world p
 round s later p n few on same = record { steps = n + 1; some = omega arith; few = omega (arith, few); silent = on.silent; back = sym on.world ∙ ap (λ (x : Standing). x.world) same }

@@ -1,17 +1,17 @@
 -- When a party waits for another at the end of a schedule.
 use Rattle.std.specs.Prelude.{◌≡◌, ◌≢◌, ◌⊎◌, ℕ, ◌-◌, ◌<◌, ◌≤◌, ◌==◌, Bool, true, false, Option, Some, None, List, [], ◌∷◌, ◌++◌, length, map, replicate, slice_get, Contains}
-use Rattle.queue_steps.specs.declared.{model.Call.Call, sizes.TheConstants.SOLO_STEPS, steps.ring.RingLocal.RingLocal as ring, steps.chain.ChainLocal.ChainLocal as chain, steps.types.Kind.Kind, steps.types.Local.Local, steps.types.Local.Local as local}
+use Rattle.queue_steps.specs.declared.{model.Call.Call, sizes.TheConstants.STEPS_ALONE, steps.ring.RingLocal.RingLocal as ring, steps.chain.ChainLocal.ChainLocal as chain, steps.types.Kind.Kind, steps.types.Local.Local, steps.types.Local.Local as local}
 use Rattle.machine_memory.specs.{declared.calls.Running.Running, declared.types.Event.TheVariants.Step, declared.types.Told.TheVariants.Ran, Places.label_text, SharedMemory.MemoryState}
 use Rattle.machine_steps.specs.{Machine.event_of, World.World, World.call_at}
 use Rattle.machine_replay.specs.{Played.local_in, Played.told_of, Played.world_after, Progress.Standing as CallStanding, Progress.HalfDone, Progress.standing, Progress.stands_then}
 use Rattle.machine_explore.specs.{declared.schedule.Move.Move, declared.waiting.Side.Side, declared.waiting.Wait.Wait, Positions.Standing, Positions.calls_of, Positions.progress_of, Traces.IsWayOf, Traces.Seen}
 
 -- The party goes round: so many steps of its call, taken now and by it alone, have no effect and get no reply, and then all is as it is now. So alone it would go round for ever.
--- Rounds of more steps than a lone call may have are not looked for.
+-- Rounds of more steps than a call alone may have are not looked for.
 pub record GoesRound (k : Kind) (w : World (MemoryState ℕ) (Running ℕ)) (p : ℕ) : Type 0 where
   pub steps : ℕ
   pub some : 0 < steps
-  pub few : steps ≤ SOLO_STEPS
+  pub few : steps ≤ STEPS_ALONE
   pub silent : told_of k w (replicate steps (Step p true)) ≡ replicate steps (Ran None None)
   pub back : world_after k w (replicate steps (Step p true)) ≡ w
 

@@ -13,7 +13,7 @@ use crate::program::Program;
 use crate::waiting::{Side, Wait, is_first, is_quiet, side_of};
 use machine_memory::places::label;
 use machine_replay::types::Event;
-use queue_steps::sizes::SOLO_STEPS;
+use queue_steps::sizes::STEPS_ALONE;
 use queue_steps::steps::{ChainLocal, Kind, Local, RingLocal, SlotLocal};
 use std::alloc::{AllocError, Allocator};
 
@@ -190,7 +190,7 @@ fn may_go_round<A: Allocator + Copy>(
 {
     let here = position.local(party);
     let mut later = position.fork(alloc)?;
-    for _ in 0..SOLO_STEPS {
+    for _ in 0..STEPS_ALONE {
         let told = later.take(alloc, party, Event::Step(party, true))?;
         if !is_quiet(told) {
             return Ok(false);

@@ -25,8 +25,8 @@ pub struct Report<A: Allocator> {
     pub outcomes: Vec<ShownOutcome<A>, A>,
     /// How many schedules there are. Nothing shows that.
     pub schedules: ScheduleCount,
-    /// The most steps that a lone call takes. Nothing shows that.
-    pub lone: u64,
+    /// The most steps that a call alone takes. Nothing shows that.
+    pub alone: u64,
 }
 
 /// Every outcome of the problem's program, each with a schedule that shows it, and no other.
@@ -62,7 +62,7 @@ pub fn show<A: Allocator + Copy>(
         table,
         outcomes,
         schedules,
-        lone,
+        alone,
     } = findings;
     let outcomes = show_outcomes(alloc, problem, outcomes)?;
     if !check(
@@ -78,7 +78,7 @@ pub fn show<A: Allocator + Copy>(
     Ok(Report {
         outcomes,
         schedules,
-        lone,
+        alone,
     })
 }
 

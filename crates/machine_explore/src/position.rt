@@ -19,7 +19,7 @@ use crate::sequence::Sequence;
 use machine_replay::machine_run::MachineRun;
 use machine_replay::types::{Event, Handled, Told};
 use queue_steps::model::Call;
-use queue_steps::sizes::SOLO_STEPS;
+use queue_steps::sizes::STEPS_ALONE;
 use queue_steps::steps::{Kind, Local};
 use std::alloc::{AllocError, Allocator};
 use std::hash::{FoldHasher, Hasher};
@@ -323,7 +323,7 @@ fn make_alone<A: Allocator + Copy>(
     let Told::Ran(_, _) = handle(alloc, run, Event::Begin(0, call))? else {
         return Ok(false);
     };
-    for _ in 0..SOLO_STEPS {
+    for _ in 0..STEPS_ALONE {
         if !run.is_in_call(0) {
             return Ok(true);
         }

@@ -11,7 +11,7 @@ use crate::schedule::Move;
 use crate::trace::{TraceEntry, go};
 use machine_replay::types::{Event, Told};
 use queue_steps::model::Call;
-use queue_steps::sizes::SOLO_STEPS;
+use queue_steps::sizes::STEPS_ALONE;
 use queue_steps::steps::{ChainLocal, Kind, Local, RingLocal};
 use std::alloc::{AllocError, Allocator};
 
@@ -116,7 +116,7 @@ fn goes_round<A: Allocator + Copy>(
     ensures { IfOk result (λ yes. yes ≡ true → GoesRound position.now.kind position.now.world party) }
 {
     let mut later = position.fork(alloc)?;
-    for _ in 0..SOLO_STEPS {
+    for _ in 0..STEPS_ALONE {
         let told = later.take(alloc, party, Event::Step(party, true))?;
         if !is_quiet(told) {
             return Ok(false);

@@ -1,5 +1,4 @@
 pub mod Codes
-pub mod Bits
 pub mod Names
 pub mod Fresh
 pub mod CodesPush

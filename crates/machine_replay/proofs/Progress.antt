@@ -1,6 +1,7 @@
 pub mod FewSteps
-pub mod Solo
-pub mod SoloRun
+pub mod Alone
+pub mod PartyGoes
+pub mod AloneRun
 pub mod Standings
 pub mod Stretch
 pub mod Had
@@ -9,4 +10,4 @@ pub mod Taken
 pub mod Beside
 pub mod LenWaits
 pub mod Unhindered
-pub mod SoloCalls
+pub mod AloneCalls

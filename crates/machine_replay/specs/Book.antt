@@ -1,7 +1,7 @@
 -- What a reader of a run keeps, and what an event may do to it.
 use Rattle.std.specs.Prelude.{◌≡◌, ℕ, ◌+◌, ◌-◌, ◌<◌, ◌==◌, ◌&&◌, ◌||◌, nat_lt, Bool, true, false, not, if◌then◌else◌, Option, Some, None, is_some, is_none, List, [], ◌∷◌, ◌++◌}
 use Rattle.std.specs.List.{Any}
-use Rattle.machine_replay.specs.Vocabulary.{Call, Reply, Effect, SOLO_STEPS, WAIT_FREE_STEPS, Event, Told, EffectKind, Begin, Step, Skipped, Ran}
+use Rattle.machine_replay.specs.Vocabulary.{Call, Reply, Effect, STEPS_ALONE, WAIT_FREE_STEPS, Event, Told, EffectKind, Begin, Step, Skipped, Ran}
 use Rattle.queue_steps.specs.{State.State, State.start, Effect.Fits, Effect.made, Replies.IsRightAt, Replies.Tells}
 pub use Rattle.queue_steps.specs.Replies.{Allows}
 pub use Rattle.queue_steps.specs.Looks.{is_wait_free, has_steps}
@@ -94,7 +94,7 @@ IsBegun {T} c es = (r : Reply T) × (more : List (Effect T)) × Tells c r (es ++
 -- the call goes on after its step: not after so many steps alone, nor after its second step if it is wait-free
 pub record Stays {T : Type 0} (o : Open T) : Type 0 where
   pub is_begun : IsBegun o.call o.effects
-  pub solo : o.alone < SOLO_STEPS
+  pub alone : o.alone < STEPS_ALONE
   pub wait_free : is_wait_free o.call ≡ true → o.steps < WAIT_FREE_STEPS
 
 -- the call goes on, or ends with the reply

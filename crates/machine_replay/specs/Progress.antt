@@ -88,12 +88,12 @@ IsAloneIn p (e ∷ es) [] = Unit {0}
 IsAloneIn p (e ∷ es) (t ∷ ts) = (party_of e ≡ p → reply_told t ≡ None) × (party_of e ≢ p → BeginsNone t) × IsAloneIn p es ts
 
 -- a party that is in a call, while every other is between calls, and comes to be in none, takes fewer steps than this before it gets a reply
-abbrev pub SoloWithin : Type 0 → Kind → ℕ → Type 0
-SoloWithin T k most = (parties p : ℕ) (past stretch : List (Event T)) → standing k parties p past ≢ Between → ((q : ℕ) → q ≢ p → standing k parties q past ≡ Between)
+abbrev pub AloneWithin : Type 0 → Kind → ℕ → Type 0
+AloneWithin T k most = (parties p : ℕ) (past stretch : List (Event T)) → standing k parties p past ≢ Between → ((q : ℕ) → q ≢ p → standing k parties q past ≡ Between)
     → IsAloneIn p stretch (told_of k (world_after k (opening_world k parties) past) stretch) → count_by (is_step_of p) stretch < most
 
-abbrev pub SoloRunsReply : Type 0 → Type 0
-SoloRunsReply T = (k : Kind) → CanReplay k → is_too_large k ≡ false → SoloWithin T k (unhindered_steps k)
+abbrev pub RunsAloneReply : Type 0 → Type 0
+RunsAloneReply T = (k : Kind) → CanReplay k → is_too_large k ≡ false → AloneWithin T k (unhindered_steps k)
 
 -- no step of a half-done call is without an effect and without its reply
 abbrev pub NeverWaits : Type 0 → Kind → Type 0

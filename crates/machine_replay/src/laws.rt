@@ -3,10 +3,10 @@ ghost use Rattle.machine_replay.specs.Meaning.{ConformingHasHistory};
 ghost use Rattle.machine_replay.specs.AtOnce.{RunsDisplaceAtOnce};
 ghost use Rattle.machine_replay.specs.OneOwner.{OnePartyIsOneOwner};
 ghost use Rattle.machine_replay.specs.PeakTold.{PeakIsOfTheRun};
-ghost use Rattle.machine_replay.specs.Progress.{AppendsReply, HalfDoneNeverWaits, SilenceIsShort, SoloRunsReply, TakesReply, UnhinderedCallsReply};
+ghost use Rattle.machine_replay.specs.Progress.{AppendsReply, HalfDoneNeverWaits, SilenceIsShort, RunsAloneReply, TakesReply, UnhinderedCallsReply};
 ghost use Rattle.machine_replay.specs.Skips.{SkippedIsExact};
 ghost use Rattle.machine_replay.specs.Waits.{CallsWait, LenWaitsForNobody};
-ghost use Rattle.machine_replay.specs.Within.{NothingAppendedWithin, SoloCallsReply, WaitFreeCallsReply};
+ghost use Rattle.machine_replay.specs.Within.{NothingAppendedWithin, CallsAloneReply, WaitFreeCallsReply};
 
 use std::alloc::Allocator;
 
@@ -30,11 +30,11 @@ pub fn nothing_appended_within<T>()
     ensures { NothingAppendedWithin T }
 {}
 
-/// A call that is in progress, while every other party is between calls and begins none, replies within `SOLO_STEPS` steps of its own, as the lists of a replay show. In the runs that
+/// A call that is in progress, while every other party is between calls and begins none, replies within `STEPS_ALONE` steps of its own, as the lists of a replay show. In the runs that
 /// the machine makes it does so by its step of the number that `unhindered_calls_reply` has, of which that is a case.
-pub fn solo_calls_reply<T, A: Allocator>()
-    ensures lists { SoloCallsReply T A }
-    ensures runs { SoloRunsReply T }
+pub fn calls_alone_reply<T, A: Allocator>()
+    ensures lists { CallsAloneReply T A }
+    ensures runs { RunsAloneReply T }
 {}
 
 /// From any moment on at which no other party is half done, and none has installed a chain's first block and not shown it, and while no other party has an effect, a call replies by its

@@ -24,10 +24,10 @@ no_fourth does.Install n₀ n₁ n₂ = n₂ refl
 abbrev pub link_operation_val : LinkOperation → Val
 link_operation_val op = live (link_tag op) (of_list [])
 
-pub link_operation_told : (op : LinkOperation) (vs : List Val) → Is operation.the_row op vs → vs ≡ link_operation_val op ∷ []
-link_operation_told does.Load vs is = is.1.0 ∙ ap (λ (us : List Val). live 0 (of_list us) ∷ []) is.1.1.1.0
-link_operation_told does.Store vs is = is.1.0 ∙ ap (λ (us : List Val). live 1 (of_list us) ∷ []) is.1.1.1.0
-link_operation_told does.Install vs is = is.1.0 ∙ ap (λ (us : List Val). live 2 (of_list us) ∷ []) is.1.1.1.0
+pub link_operation_values : (op : LinkOperation) (vs : List Val) → Is operation.the_row op vs → vs ≡ link_operation_val op ∷ []
+link_operation_values does.Load vs is = is.1.0 ∙ ap (λ (us : List Val). live 0 (of_list us) ∷ []) is.1.1.1.0
+link_operation_values does.Store vs is = is.1.0 ∙ ap (λ (us : List Val). live 1 (of_list us) ∷ []) is.1.1.1.0
+link_operation_values does.Install vs is = is.1.0 ∙ ap (λ (us : List Val). live 2 (of_list us) ∷ []) is.1.1.1.0
 
 pub link_operation_good : (op : LinkOperation) → T (has_ty (lone operation.the_row.mir) (link_operation_val op)) × WT (link_operation_val op)
 link_operation_good does.Load = (tt, (record { fits = lit< tt }, tt))

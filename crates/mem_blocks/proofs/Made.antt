@@ -55,14 +55,14 @@ module _ (X : RattleType) where
   abbrev pub Blank : RattleType
   Blank = Struct record { name = []; args = []; types = []; fields = phantom.the_row X ∷ [] }
 
-  pub blank_told : (vs : List Val) → Is Blank (record {}, tt) vs → vs ≡ blank_val ∷ []
-  blank_told vs is = is.1.0 ∙ ap (λ (ws : List Val). vstruct (of_list (ws ++ [])) ∷ []) is.1.1.0.1.0
+  pub blank_values : (vs : List Val) → Is Blank (record {}, tt) vs → vs ≡ blank_val ∷ []
+  blank_values vs is = is.1.0 ∙ ap (λ (ws : List Val). vstruct (of_list (ws ++ [])) ∷ []) is.1.1.0.1.0
 
   pub blank_made : {M : Type 1} {𝓤 : Ura M} (𝓛 : Logic 𝓤) → ent 𝓤 (emp 𝓤) (sem 𝓛 (Blank.own_val (record {}, tt) (blank_val ∷ [])))
   blank_made 𝓛 = makes_shadow 𝓛 (Blank.own_val (record {}, tt) (blank_val ∷ [])) (λ vss. (tt, ((λ uss. (tt, tt)), tt))) ((vstruct vnil ∷ [], tt), (refl, ((tt, (refl, tt)), tt)))
 
-  pub place_told : (x : (link.the_row X).Denot) (vs : List Val) → Is (link.the_row X) x vs → vs ≡ place_val x.ptr ∷ []
-  place_told x vs is = is.1.0 ∙ ap (λ (ws : List Val). vstruct (of_list (ws ++ [])) ∷ []) is.1.1.0
+  pub place_values : (x : (link.the_row X).Denot) (vs : List Val) → Is (link.the_row X) x vs → vs ≡ place_val x.ptr ∷ []
+  place_values x vs is = is.1.0 ∙ ap (λ (ws : List Val). vstruct (of_list (ws ++ [])) ∷ []) is.1.1.0
 
   pub place_made : {M : Type 1} {𝓤 : Ura M} (𝓛 : Logic 𝓤) (p : Ptr) → ent 𝓤 (emp 𝓤) (sem 𝓛 ((link.the_row X).own_val (record { ptr = p }) (place_val p ∷ [])))
   place_made 𝓛 p = makes_shadow 𝓛 ((link.the_row X).own_val (record { ptr = p }) (place_val p ∷ [])) (λ vss. (tt, (tt, tt))) ((ptr_val p ∷ [], tt), (refl, (refl, tt)))

@@ -9,7 +9,7 @@ use base.{Share.quarter, Share.three_quarters, Fml.flent}
 use types.{Kit.Item, Kit.Seq, Kit.Step, Kit.step, Kit.Goal, Kit.prop, Kit.updating, Kit.now, Owned.basic, Keyed.entries_new, Keyed.entries_take, Tokens.lft_new, Tokens.lft_end, Tokens.bor_new, Tokens.lent_back}
 use Rattle.atomic_table.specs.Seated.{fact, seen, roster, halved, unused}
 use Rattle.atomic_table.proofs.Roster.{Moved, moves, Joined, joins, apart, resets}
-use Rattle.mem_blocks.specs.{Web.State, Web.viewed, Web.KeepsRule, Laid.state_owns, Laid.known_to_all, Links.leads_to, Links.told_place, Links.IsToldPlace, declared.operation.LinkOperation.LinkOperation, declared.operation.LinkOperation.LinkOperation as does}
+use Rattle.mem_blocks.specs.{Web.State, Web.viewed, Web.KeepsRule, Laid.state_owns, Laid.known_to_all, Links.leads_to, Links.answered_place, Links.IsAnsweredPlace, declared.operation.LinkOperation.LinkOperation, declared.operation.LinkOperation.LinkOperation as does}
 use Rattle.mem_blocks.proofs.{LinkOperations.link_tag, LinkOperations.asks_link, Blocks.acts, Blocks.Reworded, Blocks.word_at, Blocks.Relinked, Blocks.link_at, Blocks.same_word, Blocks.Near, Blocks.near_end}
 use Rattle.mem_blocks.proofs.Borrowed.{word_step, Word-found, link_step, BlockPtr-found, null_step, null_tested}
 
@@ -149,14 +149,14 @@ module _ {M : Type 1} {𝓤 : Ura M} (𝓛 : Logic 𝓤) (R : RattleType) (token
             each ! (λ (_ : n < 18446744073709551616). ⟦ chain_owns R token bs ⟧ -∗ upd 𝓤 (⟦ I ⟧ ∗ ⟦ after id (then n) ⟧)) (λ small. assume ! (‵ (chain_owns R token bs)) $ by ! (carries_on s bs id m (then n) (r.2 small)))))
 
         -- what a step on a link leaves: the seat, and a fact on the place found
-        abbrev pub told : (Ptr → Type 0) → (Ptr → Sitter S V → Type 0) → Ptr → Fml
-        told φ then u = after id (λ x. φ u × then u x)
+        abbrev pub answered : (Ptr → Type 0) → (Ptr → Sitter S V → Type 0) → Ptr → Fml
+        answered φ then u = after id (λ x. φ u × then u x)
 
         -- the link becomes f of what it was, in the cases C that `tells` shows
         links_by : (C : Type 0) (was : C → Ptr) (f : Ptr → Ptr) (new : C → Ptr) (tells : C → Fml) (φ : Ptr → Type 0) (then : Ptr → Sitter S V → Type 0) → ((u : Ptr) → Testable u → φ u)
             → ((u : Ptr) → Testable u → emp 𝓤 ⊢ ex 𝓤 (λ (c : C). guard 𝓤 ((was c ≡ u) × (new c ≡ f u)) ⟦ tells c ⟧)) → AllowsLink holds id m p f then
-            → ⟦ I ⟧ ∗ ⟦ sat id m ⟧ ⊢ upd 𝓤 (ex 𝓤 (BlockPtr-found 𝓛 κ q I b (count_of p + 0) C was new tells (λ c. told φ then (was c))))
-        links_by C was f new tells φ then says cases law = let e : ℕ = count_of p + 0 in let L : C → Pr = BlockPtr-found 𝓛 κ q I b e C was new tells (λ c. told φ then (was c)) in
+            → ⟦ I ⟧ ∗ ⟦ sat id m ⟧ ⊢ upd 𝓤 (ex 𝓤 (BlockPtr-found 𝓛 κ q I b (count_of p + 0) C was new tells (λ c. answered φ then (was c))))
+        links_by C was f new tells φ then says cases law = let e : ℕ = count_of p + 0 in let L : C → Pr = BlockPtr-found 𝓛 κ q I b e C was new tells (λ c. answered φ then (was c)) in
             qed 𝓛 (‵ I ∷ ‵ (part id m.view) ∷ ‵ (hand_owns R m.hand) ∷ ‵ (spare_owns R token m.spare) ∷ []) ∵ suffices ! _ (upd_i 𝓤 (ex 𝓤 L)) $
             looks_in ! (λ s so. move ! (1 ∷ 2 ∷ []) $ let Moves : Pr = all 𝓤 (Moved 𝓛 cv γ 0 s.views id id) in
             knows ! s.views id m.view (λ at. let r = law s so at in let k : ℕ = r.0 in let u : Ptr = (block s.blocks k).next in let bs : List (Block S) = with_next s.blocks k (f u) in let goes = r.2.1 in move ! (1 ∷ []) $
@@ -164,13 +164,13 @@ module _ {M : Type 1} {𝓤 : Ura M} (𝓛 : Logic 𝓤) (R : RattleType) (token
             use0 𝓛 (some (λ (c : C). given ((was c ≡ u) × (new c ≡ f u)) (‵ (tells c)))) (cases u r.2.0) $ pick ! (λ c. learn ! (λ is. show ! L c $
             rewrite ! 1 (λ (x : Ptr). ‵ (cell b e x)) (sym is.0) refl $ move ! (1 ∷ 0 ∷ []) $ frame ! $ frame ! $
             assume ! (‵ (cell b e (new c))) $ rewrite ! 0 (λ (x : Ptr). ‵ (cell b e x)) is.1 refl $ puts_back ! (cell b e) (λ x. chain_owns R token (with_next s.blocks k x)) (f u) $
-            by ! (subst (λ (x : Ptr). ⟦ chain_owns R token bs ⟧ ∗ Moves ∗ (⟦ hand_owns R m.hand ⟧ ∗ ⟦ spare_owns R token m.spare ⟧) ⊢ upd 𝓤 (⟦ I ⟧ ∗ ⟦ told φ then x ⟧)) (sym is.0)
+            by ! (subst (λ (x : Ptr). ⟦ chain_owns R token bs ⟧ ∗ Moves ∗ (⟦ hand_owns R m.hand ⟧ ∗ ⟦ spare_owns R token m.spare ⟧) ⊢ upd 𝓤 (⟦ I ⟧ ∗ ⟦ answered φ then x ⟧)) (sym is.0)
             (carries_on s bs id m (λ x. φ u × then u x) (goes.0, goes.1, goes.2, goes.3, (says u r.2.0, goes.4))))))))
 
         -- a load, or a store of what f says
         relinks : (f : Ptr → Ptr) (φ : Ptr → Type 0) (then : Ptr → Sitter S V → Type 0) → ((u : Ptr) → Testable u → φ u) → AllowsLink holds id m p f then
-            → A.inv (fbor κ I) ∗ A.lft κ q ∗ ⟦ sat id m ⟧ ⊢ asks_ptr 𝓛 (block_ptr b (count_of p + 0)) f (λ u. fsep (flft κ q) (told φ then u))
-        relinks f φ then says law = link_step 𝓛 κ q I b (count_of p + 0) Ptr (λ u. u) f (λ _. ftrue) (told φ then) ⟦ sat id m ⟧ (links_by Ptr (λ u. u) f f (λ _. ftrue) φ then says
+            → A.inv (fbor κ I) ∗ A.lft κ q ∗ ⟦ sat id m ⟧ ⊢ asks_ptr 𝓛 (block_ptr b (count_of p + 0)) f (λ u. fsep (flft κ q) (answered φ then u))
+        relinks f φ then says law = link_step 𝓛 κ q I b (count_of p + 0) Ptr (λ u. u) f (λ _. ftrue) (answered φ then) ⟦ sat id m ⟧ (links_by Ptr (λ u. u) f f (λ _. ftrue) φ then says
             (λ u low. qed 𝓛 (raw (emp 𝓤) ∷ []) ∵ show ! (λ (c : Ptr). guard 𝓤 ((c ≡ u) × (f c ≡ f u)) (emp 𝓤)) u $ check ! (refl, refl) $ done !) law)
 
         null_cond : (new u : Ptr) → cond (ptr_same (ptr_val u) vnull) new u ≡ if_unset new u
@@ -178,12 +178,12 @@ module _ {M : Type 1} {𝓤 : Ura M} (𝓛 : Logic 𝓤) (R : RattleType) (token
         null_cond new null_ptr = refl
 
         -- one step on the link
-        pub operates_link : (op : LinkOperation) (new : Ptr) (then : Ptr → Sitter S V → Type 0) → AllowsLink holds id m p (leads_to op new) (λ u. then (told_place op new u))
-            → A.inv (fbor κ I) ∗ A.lft κ q ∗ ⟦ sat id m ⟧ ⊢ asks_link 𝓛 (block_ptr b (count_of p + 0)) new (λ u. fsep (flft κ q) (told (IsToldPlace op new) then u)) (link_tag op)
+        pub operates_link : (op : LinkOperation) (new : Ptr) (then : Ptr → Sitter S V → Type 0) → AllowsLink holds id m p (leads_to op new) (λ u. then (answered_place op new u))
+            → A.inv (fbor κ I) ∗ A.lft κ q ∗ ⟦ sat id m ⟧ ⊢ asks_link 𝓛 (block_ptr b (count_of p + 0)) new (λ u. fsep (flft κ q) (answered (IsAnsweredPlace op new) then u)) (link_tag op)
         operates_link does.Load new then law = relinks (λ u. u) Testable then (λ u low. low) law
         operates_link does.Store new then law = relinks (λ _. new) (λ _. new ≡ new) (λ _. then new) (λ u low. refl) law
         operates_link does.Install new then law = let C : Type 0 = Ptr × Bool in let was : C → Ptr = λ c. c.0 in let new' : C → Ptr = λ c. cond c.1 new c.0 in let tells : C → Fml = λ c. alike c.0 null_ptr c.1 in
-            null_step 𝓛 κ q I b (count_of p + 0) new (told Testable then) ⟦ sat id m ⟧ (links_by C was (if_unset new) new' tells Testable then (λ u low. low)
+            null_step 𝓛 κ q I b (count_of p + 0) new (answered Testable then) ⟦ sat id m ⟧ (links_by C was (if_unset new) new' tells Testable then (λ u low. low)
             (λ u low. let y : Bool = ptr_same (ptr_val u) vnull in qed 𝓛 (raw (emp 𝓤) ∷ []) ∵ show ! (λ (c : C). guard 𝓤 ((was c ≡ u) × (new' c ≡ if_unset new u)) ⟦ tells c ⟧) (u, y) $ check ! (refl, null_cond new u) $ by ! (null_tested 𝓛 u low)) law)
 
         -- a view cut in two

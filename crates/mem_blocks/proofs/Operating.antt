@@ -14,7 +14,7 @@ use Rattle.std.{specs.Sync.RawAtomic.asks, specs.Sync.RawAtomic.always, proofs.m
 use Rattle.std.specs.declared.sync.atomic.raw.Outcome as Outcome
 use Rattle.std.specs.contracts.marker.Brand as Brand
 use Rattle.atomic_table.proofs.Calls.{fm, picked, found}
-use Rattle.mem_blocks.{specs.Words.becomes, specs.Words.told, specs.declared.operation.Operation.Operation, proofs.Operations.operation_val, proofs.Operations.operation_made}
+use Rattle.mem_blocks.{specs.Words.becomes, specs.Words.answered, specs.declared.operation.Operation.Operation, proofs.Operations.operation_val, proofs.Operations.operation_made}
 use Rattle.mem_blocks.specs.contracts.operation.Operation as operation
 use Rattle.mem_blocks.specs.contracts.word.operate as operate
 use Rattle.mem_blocks.proofs.word.operate.Symbol as symbol
@@ -27,9 +27,9 @@ module _ {M : Type 1} {𝓤 : Ura M} (𝓛 : Logic 𝓤) (𝓜 : Model 𝓤 𝓛
   open 𝓛 use {H, A}
 
   pub operates : Wired 𝓡.env symbol.code → (op : Operation) (p : Ptr) (x z : ℕ) → x < 2 ^ 64 → z < 2 ^ 64 → (after : ℕ → Fml)
-      → ent 𝓤 (asks 𝓛 p (becomes op x z) always (λ n. after (told op x n)))
+      → ent 𝓤 (asks 𝓛 p (becomes op x z) always (λ n. after (answered op x n)))
       ((tables 𝓤 H 𝓜 𝓡 𝓡.env).C (symbol.name picked) (ptr_val p ∷ operation_val op ∷ vint w64 x ∷ vint w64 z ∷ []) (λ v. mean 𝓛 (found after v)))
-  operates wired op p x z fits_x fits_z after = let g : Outcome.Ghosts brand.Denot = record { after = after } in let d = impl [] tnil dnil in let asked : SProp 𝓤 = asks 𝓛 p (becomes op x z) always (λ n. after (told op x n)) in
+  operates wired op p x z fits_x fits_z after = let g : Outcome.Ghosts brand.Denot = record { after = after } in let d = impl [] tnil dnil in let asked : SProp 𝓤 = asks 𝓛 p (becomes op x z) always (λ n. after (answered op x n)) in
       let vs : List Val = ptr_val p ∷ operation_val op ∷ vint w64 x ∷ vint w64 z ∷ [] in let c = triple_of 𝓛 (operate.ended brand g d).signature (operate.spec brand g d 𝓛 𝓜.mem 𝓡.returns) in
       let y : c.Ghost = ((([], tt), (full_share, tt), tt, (p, (op, (x, (z, tt)))), (ptr_val p ∷ [], (operation_val op ∷ [], (vint w64 x ∷ [], (vint w64 z ∷ [], tt))))), tt) in
       let end : Val → SProp 𝓤 = λ v. mean 𝓛 (found after v) in let C = (tables 𝓤 H 𝓜 𝓡 𝓡.env).C (symbol.name picked) vs in

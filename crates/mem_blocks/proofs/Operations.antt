@@ -6,7 +6,7 @@ use denote.{Laws.Is, Memory.lone, Shadow.makes_shadow}
 use seplogic.Ra.Ura.{Ura}
 use base.Logic.{ent, emp}
 use types.{Logic.Logic, Logic.sem, Match.live}
-use Rattle.mem_blocks.specs.{Words.told, Words.IsTold, declared.operation.Operation.Operation, declared.operation.Operation.Operation as does}
+use Rattle.mem_blocks.specs.{Words.answered, Words.IsAnswered, declared.operation.Operation.Operation, declared.operation.Operation.Operation as does}
 use Rattle.mem_blocks.specs.contracts.operation.Operation as operation
 
 -- the number of its variant
@@ -21,13 +21,13 @@ tag_of does.Exchange = 5
 abbrev pub operation_val : Operation → Val
 operation_val op = live (tag_of op) (of_list [])
 
-pub operation_told : (x : Operation) (vs : List Val) → Is operation.the_row x vs → vs ≡ operation_val x ∷ []
-operation_told does.Load vs is = is.1.0 ∙ ap (λ (us : List Val). live 0 (of_list us) ∷ []) is.1.1.1.0
-operation_told does.Store vs is = is.1.0 ∙ ap (λ (us : List Val). live 1 (of_list us) ∷ []) is.1.1.1.0
-operation_told does.Add vs is = is.1.0 ∙ ap (λ (us : List Val). live 2 (of_list us) ∷ []) is.1.1.1.0
-operation_told does.Subtract vs is = is.1.0 ∙ ap (λ (us : List Val). live 3 (of_list us) ∷ []) is.1.1.1.0
-operation_told does.Or vs is = is.1.0 ∙ ap (λ (us : List Val). live 4 (of_list us) ∷ []) is.1.1.1.0
-operation_told does.Exchange vs is = is.1.0 ∙ ap (λ (us : List Val). live 5 (of_list us) ∷ []) is.1.1.1.0
+pub operation_values : (x : Operation) (vs : List Val) → Is operation.the_row x vs → vs ≡ operation_val x ∷ []
+operation_values does.Load vs is = is.1.0 ∙ ap (λ (us : List Val). live 0 (of_list us) ∷ []) is.1.1.1.0
+operation_values does.Store vs is = is.1.0 ∙ ap (λ (us : List Val). live 1 (of_list us) ∷ []) is.1.1.1.0
+operation_values does.Add vs is = is.1.0 ∙ ap (λ (us : List Val). live 2 (of_list us) ∷ []) is.1.1.1.0
+operation_values does.Subtract vs is = is.1.0 ∙ ap (λ (us : List Val). live 3 (of_list us) ∷ []) is.1.1.1.0
+operation_values does.Or vs is = is.1.0 ∙ ap (λ (us : List Val). live 4 (of_list us) ∷ []) is.1.1.1.0
+operation_values does.Exchange vs is = is.1.0 ∙ ap (λ (us : List Val). live 5 (of_list us) ∷ []) is.1.1.1.0
 
 pub operation_good : (op : Operation) → T (has_ty (lone operation.the_row.mir) (operation_val op)) × WT (operation_val op)
 operation_good does.Load = (tt, (record { fits = lit< tt }, tt))
@@ -37,13 +37,13 @@ operation_good does.Subtract = (tt, (record { fits = lit< tt }, tt))
 operation_good does.Or = (tt, (record { fits = lit< tt }, tt))
 operation_good does.Exchange = (tt, (record { fits = lit< tt }, tt))
 
-pub is_told : (op : Operation) (a n : ℕ) → IsTold op a (told op a n)
-is_told does.Load a n = tt
-is_told does.Store a n = refl
-is_told does.Add a n = tt
-is_told does.Subtract a n = tt
-is_told does.Or a n = tt
-is_told does.Exchange a n = tt
+pub is_answered : (op : Operation) (a n : ℕ) → IsAnswered op a (answered op a n)
+is_answered does.Load a n = tt
+is_answered does.Store a n = refl
+is_answered does.Add a n = tt
+is_answered does.Subtract a n = tt
+is_answered does.Or a n = tt
+is_answered does.Exchange a n = tt
 
 module _ {M : Type 1} {𝓤 : Ura M} (𝓛 : Logic 𝓤) where
   abbrev NeedsNothing : Operation → Type 1

@@ -65,5 +65,5 @@ pub use Rattle.mem_blocks.specs.Laid.{WebId, age, Small, Sized, words_of, slots_
 pub use mathlib.Core.Bool.{cond}
 pub use seplogic.Ra.Ura.{Ura}
 pub use Rattle.mem_blocks.specs.declared.sizes.TheConstants.{SLOTS, END_WORDS}
-pub use Rattle.mem_blocks.proofs.Made.{head, after, arm_body, ptr_good, blank_val, place_val, Blank, blank_told, blank_made, place_told, place_made, word_laws, full_product, ok_of, err_of}
+pub use Rattle.mem_blocks.proofs.Made.{head, after, arm_body, ptr_good, blank_val, place_val, Blank, blank_values, blank_made, place_values, place_made, word_laws, full_product, ok_of, err_of}
 pub use Rattle.mem_blocks.proofs.Stepping.{spent, lent_back, enters_at, tells, numbers, blank, puts_back, gives_back, spends, alone, takes_ref, takes_step, opens_ref, closes_ref, shuts_ref, begins_step, ends_step}

@@ -10,13 +10,13 @@ leads_to does.Store p q = p
 leads_to does.Install p q = if_unset p q
 
 -- What the operation tells where the link led to q: a store tells its operand.
-abbrev pub told_place : LinkOperation → Ptr → Ptr → Ptr
-told_place does.Load p q = q
-told_place does.Store p q = p
-told_place does.Install p q = q
+abbrev pub answered_place : LinkOperation → Ptr → Ptr → Ptr
+answered_place does.Load p q = q
+answered_place does.Store p q = p
+answered_place does.Install p q = q
 
 -- What is known of the place q that an operation tells.
-abbrev pub IsToldPlace : LinkOperation → Ptr → Ptr → Type 0
-IsToldPlace does.Load p q = Testable q
-IsToldPlace does.Store p q = q ≡ p
-IsToldPlace does.Install p q = Testable q
+abbrev pub IsAnsweredPlace : LinkOperation → Ptr → Ptr → Type 0
+IsAnsweredPlace does.Load p q = Testable q
+IsAnsweredPlace does.Store p q = q ≡ p
+IsAnsweredPlace does.Install p q = Testable q

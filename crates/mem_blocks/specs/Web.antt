@@ -1,4 +1,4 @@
--- Blocks that are shared, told as plain data: what they are, what a seat has of them, and what a step may do.
+-- Blocks that are shared, as plain data: what they are, what a seat has of them, and what a step may do.
 -- Blocks are numbered in the order in which they joined. One that left keeps its number and its place.
 use Rattle.std.specs.Prelude.{◌≡◌, ℕ, ◌<◌, Bool, true, false, List, [], ◌∷◌, ◌++◌, length, Option, Some, None, slice_index_or, slice_set}
 use Rattle.std.specs.Coded.{coded_option}

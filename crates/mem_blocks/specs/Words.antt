@@ -13,19 +13,19 @@ becomes does.Or a b n = bit_or n a
 becomes does.Exchange a b n = either (n == a) b n
 
 -- What the operation tells where the word was n: a store tells its operand.
-abbrev pub told : Operation → ℕ → ℕ → ℕ
-told does.Store a n = a
-told does.Load a n = n
-told does.Add a n = n
-told does.Subtract a n = n
-told does.Or a n = n
-told does.Exchange a n = n
+abbrev pub answered : Operation → ℕ → ℕ → ℕ
+answered does.Store a n = a
+answered does.Load a n = n
+answered does.Add a n = n
+answered does.Subtract a n = n
+answered does.Or a n = n
+answered does.Exchange a n = n
 
 -- What is known of the number n that an operation tells.
-abbrev pub IsTold : Operation → ℕ → ℕ → Type 0
-IsTold does.Store a n = n ≡ a
-IsTold does.Load a n = Unit {0}
-IsTold does.Add a n = Unit {0}
-IsTold does.Subtract a n = Unit {0}
-IsTold does.Or a n = Unit {0}
-IsTold does.Exchange a n = Unit {0}
+abbrev pub IsAnswered : Operation → ℕ → ℕ → Type 0
+IsAnswered does.Store a n = n ≡ a
+IsAnswered does.Load a n = Unit {0}
+IsAnswered does.Add a n = Unit {0}
+IsAnswered does.Subtract a n = Unit {0}
+IsAnswered does.Or a n = Unit {0}
+IsAnswered does.Exchange a n = Unit {0}

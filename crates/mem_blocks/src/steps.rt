@@ -3,8 +3,8 @@ ghost use Rattle.std.specs.Prelude.{◌≡◌, ◌+◌, ◌-◌, ◌%◌, ◌^�
 ghost use prog.Atomic.{either};
 ghost use denote.RawPtr.{InBlock, Testable};
 ghost use Rattle.mem_blocks.specs.Seats.{Sits, Same};
-ghost use Rattle.mem_blocks.specs.Words.{becomes, told, IsTold};
-ghost use Rattle.mem_blocks.specs.Links.{leads_to, told_place, IsToldPlace};
+ghost use Rattle.mem_blocks.specs.Words.{becomes, answered, IsAnswered};
+ghost use Rattle.mem_blocks.specs.Links.{leads_to, answered_place, IsAnsweredPlace};
 ghost use Rattle.mem_blocks.specs.Web.{step, sitter, if_unset, StaysIn, Allows, AllowsLink, CanFork, CanMerge};
 
 use crate::block::{BlockPtr, Node};
@@ -33,8 +33,8 @@ impl<S, V, K, P: WebRule<S, V, K>, A: Allocator> Web<S, V, K, P, A> {
     ) -> u64
         requires sits { Sits seat.old self.now }
         requires there { InBlock link.ptr × (word < SLOTS) }
-        requires allows { Allows (P.holds self.now.key) seat.old.id seat.old.sitter link.ptr word (becomes operation first second) (λ n. M.then (step link.ptr word first second) seat.old.sitter (told operation first n)) }
-        ensures { Same seat.new seat.old × IsTold operation first result × M.then (step link.ptr word first second) seat.old.sitter result seat.new.sitter }
+        requires allows { Allows (P.holds self.now.key) seat.old.id seat.old.sitter link.ptr word (becomes operation first second) (λ n. M.then (step link.ptr word first second) seat.old.sitter (answered operation first n)) }
+        ensures { Same seat.new seat.old × IsAnswered operation first result × M.then (step link.ptr word first second) seat.old.sitter result seat.new.sitter }
     {
         unsafe {
             operate::<Brand>(
@@ -173,8 +173,8 @@ impl<S, V, K, P: WebRule<S, V, K>, A: Allocator> Web<S, V, K, P, A> {
     ) -> BlockPtr<S>
         requires sits { Sits seat.old self.now }
         requires there { InBlock link.ptr }
-        requires allows { AllowsLink (P.holds self.now.key) seat.old.id seat.old.sitter link.ptr (leads_to operation new.ptr) (λ q. M.then seat.old.sitter (told_place operation new.ptr q)) }
-        ensures { Same seat.new seat.old × IsToldPlace operation new.ptr result.ptr × M.then seat.old.sitter result.ptr seat.new.sitter }
+        requires allows { AllowsLink (P.holds self.now.key) seat.old.id seat.old.sitter link.ptr (leads_to operation new.ptr) (λ q. M.then seat.old.sitter (answered_place operation new.ptr q)) }
+        ensures { Same seat.new seat.old × IsAnsweredPlace operation new.ptr result.ptr × M.then seat.old.sitter result.ptr seat.new.sitter }
     {
         let place = unsafe { &raw const (*link.ptr).next as *const *mut u64 };
         let operand = new.ptr as *mut u64;

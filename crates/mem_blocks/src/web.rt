@@ -7,7 +7,7 @@ ghost use Rattle.mem_blocks.specs.Laid.{WebId, seat_owns, rested_owns, web_owns,
 use std::alloc::Allocator;
 use std::marker::{Model, PhantomData};
 
-/// The rule of a web: S is what a slot holds, V what a seat knows, and K what the web is told once, when it is made.
+/// The rule of a web: S is what a slot holds, V what a seat knows, and K what the web is given once, when it is made.
 pub trait WebRule<S, V, K> {
     ghost holds: { K → State S V → Type 0 };
 

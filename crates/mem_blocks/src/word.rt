@@ -1,7 +1,7 @@
 // Each operation on a word is one atomic step.
 ghost use types.Logic.{sem};
 ghost use Rattle.std.specs.Sync.RawAtomic.{asks, always};
-ghost use Rattle.mem_blocks.specs.Words.{becomes, told};
+ghost use Rattle.mem_blocks.specs.Words.{becomes, answered};
 
 use crate::operation::Operation;
 use atomic_table::exchange;
@@ -18,7 +18,7 @@ pub(crate) unsafe fn operate<O: Outcome>(
     first: u64,
     second: u64,
 ) -> u64
-    requires* { asks 𝓛 place (becomes operation first second) always (λ n. O.after (told operation first n)) }
+    requires* { asks 𝓛 place (becomes operation first second) always (λ n. O.after (answered operation first n)) }
     ensures* { sem 𝓛 (O.after result) }
 {
     match operation {

@@ -8,6 +8,7 @@ pub mod ChainPassesReads
 pub mod ChainFacts
 pub mod ChainAt
 pub mod ChainAnswers
+pub mod ChainStates
 pub mod ChainStepOk
 pub mod ChainPush
 pub mod ChainHolds

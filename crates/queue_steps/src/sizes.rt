@@ -13,7 +13,7 @@ pub const BLOCK_SLOTS: u64 = 63;
 pub const BLOCK_POSITIONS: u64 = BLOCK_SLOTS + 1;
 
 /// How many steps of its own a call takes at most from where it is alone: two for each position of a block, of which a pop may walk over a whole one.
-pub const SOLO_STEPS: u64 = 2 * BLOCK_POSITIONS;
+pub const STEPS_ALONE: u64 = 2 * BLOCK_POSITIONS;
 
 /// How many parties may share a queue.
 pub const MAX_PARTIES: u64 = 1 << 31;
@@ -28,7 +28,7 @@ const _: () = prove!(MAX_CAPACITY == 576460752303423488);
 
 const _: () = prove!(BLOCK_SLOTS == 63);
 
-const _: () = prove!(SOLO_STEPS == 128);
+const _: () = prove!(STEPS_ALONE == 128);
 
 const _: () = prove!(MAX_PARTIES == 2147483648);
 

@@ -2,7 +2,7 @@
 ghost use Rattle.call_driver.specs.Leads.{MayGive, Gave};
 ghost use Rattle.call_driver.specs.OnWay.{Stood};
 ghost use Rattle.queue_steps.specs.declared.model.Call.{Call as SpecCall};
-ghost use Rattle.queue_steps.specs.declared.sizes.TheConstants.{SOLO_STEPS};
+ghost use Rattle.queue_steps.specs.declared.sizes.TheConstants.{STEPS_ALONE};
 ghost use Rattle.shared_calls.specs.Halts.{next_at, is_early_step};
 ghost use Rattle.shared_calls.specs.Leaving.{IsLeft};
 ghost use Rattle.shared_calls.specs.Pausing.{IsStood, IsPaused};
@@ -18,7 +18,7 @@ use call_driver::progress::Progress;
 use call_driver::retry::retry;
 use call_driver::site::Site;
 use queue_steps::model::{Call, CallKind, Reply};
-use queue_steps::sizes::SOLO_STEPS;
+use queue_steps::sizes::STEPS_ALONE;
 use queue_steps::steps::{Kind, KindSteps, Next};
 use std::ops::ControlFlow;
 
@@ -45,8 +45,8 @@ fn pause<M: Site>(
     carried: Option<M::Item>,
 ) -> ControlFlow<Reply<M::Item>, Left<M::Item, M::Block>>
     requires kind { M.Steps.has_kind kind }
-    requires stood { (c : SpecCall M.Item) × (first : M.Seat) × Stood M.Site (SOLO_STEPS - 1) kind call site.now first c progress carried seat.old }
-    ensures { (c : SpecCall M.Item) (first : M.Seat) → Stood M.Site (SOLO_STEPS - 1) kind call site.now first c progress carried seat.old → MatchControlFlow result (λ left. IsPaused M.Site site.now first c left seat.new) (λ reply. M.ended site.now first c reply seat.new) }
+    requires stood { (c : SpecCall M.Item) × (first : M.Seat) × Stood M.Site (STEPS_ALONE - 1) kind call site.now first c progress carried seat.old }
+    ensures { (c : SpecCall M.Item) (first : M.Seat) → Stood M.Site (STEPS_ALONE - 1) kind call site.now first c progress carried seat.old → MatchControlFlow result (λ left. IsPaused M.Site site.now first c left seat.new) (λ reply. M.ended site.now first c reply seat.new) }
 {
     let todo = M::Steps::next(kind, progress.local, progress.answer);
     match todo {
@@ -85,7 +85,7 @@ pub fn carry_on<M: Site, G: Gate>(
         ControlFlow::Break(reply) => return ControlFlow::Break(Reply::fill(reply, carried)),
         ControlFlow::Continue(after) => after,
     };
-    for _ in 1..SOLO_STEPS {
+    for _ in 1..STEPS_ALONE {
         if must_give_way(&before, &progress.local) {
             break;
         }

@@ -20,14 +20,8 @@ module _ {T : Type 0} where
 
   first_codes : (te he : Ptr) → Codes te he no_items (both_ends te he)
   first_codes te he = record {
-    tail = (refl, refl);
-    head = (refl, refl);
-    tail_words = refl;
-    head_words = refl;
-    tail_is = refl;
-    head_is = refl;
-    last_is = refl;
-    front_is = refl;
+    tail = record { lives = (refl, refl); words = refl; word = refl; next = refl };
+    head = record { lives = (refl, refl); words = refl; word = refl; next = refl };
     size = refl;
     there = λ b lt. absurd (omega arith);
     tested = λ f used. absurd used;

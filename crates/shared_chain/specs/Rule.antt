@@ -7,8 +7,8 @@ use Rattle.queue_laws.specs.Common.Vocabulary.{Effect, BLOCK_SLOTS, WRITE, READ}
 use Rattle.queue_laws.specs.Chain.ChainAnswers.{tail_word, head_word, last_of, shown_of, linked_of, IsState}
 use Rattle.queue_steps.specs.Shares.{entire}
 use Rattle.queue_laws.specs.Chain.ChainCells.{Writer, Free, Writing, Wrote, Reader, Unread, Reading, Done, Before, GivenUp, Use, Unused, Spare, Chained, item_at, LAST}
-use Rattle.mem_blocks.specs.Web.{Block, State, Home, block, Lives, word_of, away, vacant, full}
-use Rattle.mem_blocks.specs.declared.{sizes.TheConstants.END_WORDS, hub.TheConstants.TAIL, hub.TheConstants.PARTIES, hub.TheConstants.HEAD}
+use Rattle.mem_blocks.specs.Web.{Block, State, Home, block, word_of, away, vacant, full}
+use Rattle.mem_blocks.specs.declared.{sizes.TheConstants.END_WORDS, hub.TheConstants.PARTIES}
 use Rattle.shared_parties.specs.{declared.known.CallState.CallState, Known.party, CallStates.idle, CallsAt.CallsAt}
 use Rattle.shared_chain.specs.{declared.ends.ChainEnds.ChainEnds, Spots.spot, ChainCalls.OutChain, ChainCalls.chain_calls}
 
@@ -51,16 +51,17 @@ IsUsed (Spare who) = Unit {0}
 IsUsed (Chained b) = Unit {0}
 IsUsed _ = ⊥
 
+-- the web's block x is an end of the chain, which lies there, has this word and leads to this block
+pub record EndIs {T : Type 0} (p : Ptr) (w : ℕ) (lead : Option ℕ) (x : Block T) : Type 0 where
+  pub lives : (x.alive ≡ true) × (x.at ≡ p)
+  pub words : length x.words ≡ END_WORDS
+  pub word : slice_index_or x.words 0 0 ≡ w
+  pub next : x.next ≡ lead_of lead
+
 -- the web's words, links and blocks are those of the chain, between these ends
 pub record Codes {T : Type 0} (tail_end head_end : Ptr) (g : OutChain T) (bs : List (Block T)) : Type 0 where
-  pub tail : Lives bs 0 tail_end
-  pub head : Lives bs 1 head_end
-  pub tail_words : length (block bs 0).words ≡ END_WORDS
-  pub head_words : length (block bs 1).words ≡ END_WORDS
-  pub tail_is : word_of bs 0 TAIL ≡ tail_word g.chain
-  pub head_is : word_of bs 1 HEAD ≡ head_word g.chain
-  pub last_is : (block bs 0).next ≡ lead_of (last_of g.chain.names g.chain.blocks)
-  pub front_is : (block bs 1).next ≡ lead_of (shown_of g.chain.shown (g.chain.names g.chain.front))
+  pub tail : EndIs tail_end (tail_word g.chain) (last_of g.chain.names g.chain.blocks) (block bs 0)
+  pub head : EndIs head_end (head_word g.chain) (shown_of g.chain.shown (g.chain.names g.chain.front)) (block bs 1)
   pub size : length bs ≡ g.chain.blocks + 2
   pub there : (b : ℕ) → b < g.chain.blocks → IsThere g b (block bs (b + 2))
   pub tested : (f : ℕ) → IsUsed (g.chain.uses f) → Testable (spot f)

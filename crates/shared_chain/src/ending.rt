@@ -9,7 +9,7 @@ ghost use Rattle.queue_steps.specs.Effect.{after};
 ghost use Rattle.queue_steps.specs.Legal.{IsShown};
 ghost use Rattle.queue_steps.specs.Parties.{IsWhole};
 ghost use Rattle.shared_parties.specs.Known.{view_of};
-ghost use Rattle.shared_parties.specs.CallStates.{IsLoneSeat};
+ghost use Rattle.shared_parties.specs.CallStates.{IsSeatAlone};
 ghost use Rattle.queue_steps.specs.declared.sizes.TheConstants.{LIMIT};
 ghost use Rattle.queue_steps.specs.Words.{position_of};
 ghost use Rattle.queue_steps.specs.ChainWords.{offset_of as spec_offset_of, items_before as spec_items_before};
@@ -85,7 +85,7 @@ pub(crate) fn end<T, A: Allocator>(
     requires heap { (web.heap ≡ alloc) × (hub.heap ≡ alloc) }
     requires ends { (tail.ptr ≡ web.key.tail.ptr) × (head.ptr ≡ web.key.head.ptr) }
     requires hub { InBlock tail.ptr × (hub.at ≡ tail.ptr) × (head.ptr ≡ head_of tail.ptr) }
-    requires alone { IsLoneSeat seat.sitter.view }
+    requires alone { IsSeatAlone seat.sitter.view }
     ensures { IsIdle result × IsShown (own_chain_owned result).queue (after None seat.sitter.view.known.seen) × IsWhole (view_of seat.sitter.view.known) }
 {
     let mut chain = seat.finish(web);

@@ -265,14 +265,14 @@ impl<T, A: Allocator> ChainWeb<T, A> {
     ghost use Rattle.queue_steps.specs.Legal.{IsShown};
     ghost use Rattle.queue_steps.specs.Parties.{IsWhole};
     ghost use Rattle.shared_parties.specs.Known.{view_of};
-    ghost use Rattle.shared_parties.specs.CallStates.{IsLoneSeat};
+    ghost use Rattle.shared_parties.specs.CallStates.{IsSeatAlone};
     ghost use Rattle.own_cells.specs.OneChain.OwnChainOwned.{IsIdle, own_chain_owned};
 
     /// What is left when the only party ends the queue: a queue with one owner, in the same blocks. It makes no request.
     pub fn end(self, alloc: A, seat: ChainSeat<T, A>) -> OwnChain<T, A>
         requires of { heap_of self ≡ alloc }
         requires sits { SitsAt self seat }
-        requires alone { IsLoneSeat seat.sitter.view }
+        requires alone { IsSeatAlone seat.sitter.view }
         ensures { IsIdle result × IsShown (own_chain_owned result).queue (after None seat.sitter.view.known.seen) × IsWhole (view_of seat.sitter.view.known) }
     {
         let ChainWeb {

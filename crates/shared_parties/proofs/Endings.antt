@@ -7,7 +7,7 @@ use lib.ListN.{get_elem?}
 use Rattle.atomic_table.proofs.Lists.{at_map}
 use Rattle.queue_laws.specs.Common.Vocabulary.{Effect}
 use Rattle.queue_steps.specs.Parties.{IsWhole}
-use Rattle.shared_parties.specs.{declared.known.CallState.CallState, declared.known.Work.Work, Known.view_of, CallStates.is_busy, CallStates.known_by, CallStates.IsLoneSeat, Calling.CallsOf, Calling.cap_of, Calling.Standing, CallsAt.CallsAt}
+use Rattle.shared_parties.specs.{declared.known.CallState.CallState, declared.known.Work.Work, Known.view_of, CallStates.is_busy, CallStates.known_by, CallStates.IsSeatAlone, Calling.CallsOf, Calling.cap_of, Calling.Standing, CallsAt.CallsAt}
 use Rattle.shared_parties.proofs.Alone.{Alone, alone}
 
 pub not_busy : (b : Bool) → (b ≡ true → ⊥) → b ≡ false
@@ -23,20 +23,20 @@ pub record OnlyParty {T : Type 0} (K : CallsOf T) (g : K.Cells) (h : List (Effec
   pub quiet : (j : ℕ) (e : CallState T) → get_elem? views j ≡ some e → is_busy e.work ≡ false
   pub nobody : (who : ℕ) → K.Idle g who
 
-pub calls_end : {T : Type 0} (K : CallsOf T) (g : K.Cells) (h : List (Effect T)) (n : ℕ) (views : List (CallState T)) (id : ℕ) (d : CallState T) → CallsAt K g h n views → get_elem? views id ≡ some d → IsLoneSeat d → OnlyParty K g h views id d
+pub calls_end : {T : Type 0} (K : CallsOf T) (g : K.Cells) (h : List (Effect T)) (n : ℕ) (views : List (CallState T)) (id : ℕ) (d : CallState T) → CallsAt K g h n views → get_elem? views id ≡ some d → IsSeatAlone d → OnlyParty K g h views id d
 calls_end {T} K g h n views id d all at is = record {
-  whole = solo.whole;
-  seen = solo.seen;
+  whole = only.whole;
+  seen = only.seen;
   others = others;
   quiet = quiet;
   nobody = λ who. all.free who (λ e there. quiet who e there);
 }
   where
-    solo : Alone h (map known_by views) id d.known
-    solo = alone (cap_of K) d.known.cap h d.known.seen n (map known_by views) id d.known d.known.mine d.known.share all.kept (at_map known_by views id d at) (ap (λ (z : CallState T). z.known) is.0) is.1
+    only : Alone h (map known_by views) id d.known
+    only = alone (cap_of K) d.known.cap h d.known.seen n (map known_by views) id d.known d.known.mine d.known.share all.kept (at_map known_by views id d at) (ap (λ (z : CallState T). z.known) is.0) is.1
 
     others : (j : ℕ) (e : CallState T) → j ≢ id → get_elem? views j ≡ some e → e.known.parties ≡ 0
-    others j e ne there = solo.others j e.known ne (at_map known_by views j e there)
+    others j e ne there = only.others j e.known ne (at_map known_by views j e there)
 
     -- a seat in a call counts for a party
     counts : (j : ℕ) (e : CallState T) (w : Work T) → get_elem? views j ≡ some e → e.work ≡ w → is_busy w ≡ true → 0 < e.known.parties

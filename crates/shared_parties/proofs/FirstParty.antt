@@ -39,7 +39,7 @@ module _ {T : Type 0} (cap : Option ℕ) where
             surplus = omega arith;
             poor = λ none. absurd (omega arith);
             some = λ _. omega arith;
-            solo = λ _. refl;
+            alone = λ _. refl;
             both = λ more. absurd (omega arith);
           }
       first_true (suc j) v e = absurd (some-ne-none v (sym e))

@@ -11,7 +11,7 @@ use Rattle.shared_parties.specs.{Counting.times, Counting.once_below, declared.k
 use Rattle.queue_steps.proofs.ShareLaws.{weight_deeper, weight_plus, weight_halves, weight_none, none_weight, weight_entire, entire_weight, part_weight, plus_some, entire_plus}
 use Rattle.shared_parties.specs.Known.{total, party, nobody, has, share_of, portion, IsTrueOf, Divided, Kept, looked, gained, granted, refused, withdrawn, united, one_of, other_of, pair_of, Sees, Gains}
 use Rattle.shared_parties.proofs.Histories.{prefix_self, prefix_more, prefix_length, prefix_whole}
-use Rattle.shared_parties.proofs.Totals.{total_set, total_snoc, total_at, total_two, total_most, total_solo, total_times, times_snoc, times_append, once_more, once_when, once_most}
+use Rattle.shared_parties.proofs.Totals.{total_set, total_snoc, total_at, total_two, total_most, total_alone, total_times, times_snoc, times_append, once_more, once_when, once_most}
 
 module _ (T : Type 0) (cap : Option ℕ) where
   abbrev V : Type 0
@@ -33,7 +33,7 @@ module _ (T : Type 0) (cap : Option ℕ) where
   fits_snoc h views w all mine j v e = ⊎_elim (λ (t : get_elem? views j ≡ some v). all j v t) (λ (t : w ≡ v). subst (IsTrueOf cap h) t mine) (at_snoc views w v j e)
 
   fits_more : (h more : List (Effect T)) (v : V) → IsTrueOf cap h v → IsTrueOf cap (h ++ more) v
-  fits_more h more v f = record { capped = f.capped; begins = prefix_more v.seen h more f.begins; heard = prefix_more v.second_seen h more f.heard; within = f.within; empty = f.empty; surplus = f.surplus; poor = f.poor; some = f.some; solo = f.solo; both = f.both }
+  fits_more h more v f = record { capped = f.capped; begins = prefix_more v.seen h more f.begins; heard = prefix_more v.second_seen h more f.heard; within = f.within; empty = f.empty; surplus = f.surplus; poor = f.poor; some = f.some; alone = f.alone; both = f.both }
 
   -- a place of a party lies in the history
   inside : (h : List (Effect T)) (v : V) → IsTrueOf cap h v → (p : ℕ) → 0 < has p v → p < length h
@@ -77,7 +77,7 @@ module _ (T : Type 0) (cap : Option ℕ) where
       → ((j : ℕ) (u : V) → get_elem? views j ≡ some u → u.parties ≡ 0 → f u ≡ 0) → total f views ≡ f v
   is_all h views id v f all d at entire none =
       let s = d.shallow id v at in let depth : ℕ = d.depth + d.depth in
-      total_solo f (portion depth) views id v at (λ j u e zero_portion. none j u e (no_parts j u e (none_weight depth u.share (omega (arith, zero_portion)))))
+      total_alone f (portion depth) views id v at (λ j u e zero_portion. none j u e (no_parts j u e (none_weight depth u.share (omega (arith, zero_portion)))))
       (omega (arith, deeper views d.depth d, weight_plus depth v.share v.second_share (omega (arith, s.0, s.1)), weight_entire depth (share_of v) (omega (arith, s.0, s.1)) entire))
     where
       no_parts : (j : ℕ) (u : V) → get_elem? views j ≡ some u → u.share.0 ≡ 0 → u.parties ≡ 0
@@ -114,7 +114,7 @@ module _ (T : Type 0) (cap : Option ℕ) where
       (λ p. omega (arith, places p, ap (λ (g : List (Effect T)). once_below p (length g)) whole)) count limit divided)
 
   fits_looked : (h : List (Effect T)) (v : V) → IsTrueOf cap h v → IsTrueOf cap h (looked h v)
-  fits_looked h v f = record { capped = f.capped; begins = prefix_self h; heard = (h, refl); within = λ p m. inl (inside h v f p m); empty = f.empty; surplus = f.surplus; poor = f.poor; some = f.some; solo = f.solo; both = f.both }
+  fits_looked h v f = record { capped = f.capped; begins = prefix_self h; heard = (h, refl); within = λ p m. inl (inside h v f p m); empty = f.empty; surplus = f.surplus; poor = f.poor; some = f.some; alone = f.alone; both = f.both }
 
   -- what is a history for the queue is one for the seat
   legal_for : (h : List (Effect T)) (v : V) → IsHistory cap h → v.cap ≡ cap → IsHistory v.cap h
@@ -156,7 +156,7 @@ module _ (T : Type 0) (cap : Option ℕ) where
               surplus = f.surplus;
               poor = f.poor;
               some = f.some;
-              solo = f.solo;
+              alone = f.alone;
               both = f.both;
             } (λ p. omega (arith, times_snoc p v.mine (length h), once_more p (length h), ap (once_below p) more)) refl (λ le. omega (arith, le)) (divided_still views id v w k.divided at refl refl),
         record {
@@ -175,7 +175,7 @@ module _ (T : Type 0) (cap : Option ℕ) where
   -- the count of parties n goes up. It is granted, or the count is too high
   fits_as : (h : List (Effect T)) (v w : V) → IsTrueOf cap h v → 0 < v.parties → w.cap ≡ v.cap → w.seen ≡ v.seen → w.second_seen ≡ v.second_seen → w.mine ≡ v.mine → w.second_places ≡ v.second_places → 0 < w.parties → w.surplus ≤ w.parties
       → IsSome w.share → (w.parties ≤ 1 → w.second_share.0 ≡ 0) → (2 ≤ w.parties → IsSome w.second_share) → IsTrueOf cap h w
-  fits_as h v w f before is s t m o counts le rich solo both = record {
+  fits_as h v w f before is s t m o counts le rich alone both = record {
     capped = λ _. is ∙ f.capped before;
     begins = subst (λ (g : List (Effect T)). IsPrefix g h) (sym s) f.begins;
     heard = subst (λ (g : List (Effect T)). IsPrefix g h) (sym t) f.heard;
@@ -184,7 +184,7 @@ module _ (T : Type 0) (cap : Option ℕ) where
     surplus = le;
     poor = λ none. absurd (omega arith);
     some = λ _. rich;
-    solo = solo;
+    alone = alone;
     both = both;
   }
 
@@ -200,14 +200,14 @@ module _ (T : Type 0) (cap : Option ℕ) where
       (fits_as h v (granted v) f (omega arith) refl refl refl refl refl (omega arith) (omega arith) rich (λ few. absurd (omega arith)) (λ _. rich)) (λ p. refl) (omega arith)
       (λ le. omega (arith, k.counted))
       (divided_as views id v (granted v) d 1 at (omega (arith, s.0), omega (arith, s.0))
-      (omega (arith, weight_halves depth v.share (omega (arith, s.0)), weight_none depth v.second_share (f.solo (omega arith)))))
+      (omega (arith, weight_halves depth v.share (omega (arith, s.0)), weight_none depth v.second_share (f.alone (omega arith)))))
 
   pub refuses : (h : List (Effect T)) (n : ℕ) (views : List V) (id : ℕ) (v : V) → Kept cap h n views → get_elem? views id ≡ some v → v.parties ≡ 1 → v.surplus ≡ 0
       → Kept cap h (n + 1) (set views id (refused v))
   refuses h n views id v k at one none =
       let f = k.true_of id v at in
       stays h n (n + 1) views id v (refused v) k at
-      (fits_as h v (refused v) f (omega arith) refl refl refl refl refl (omega arith) (omega arith) (f.some (omega arith)) (λ _. f.solo (omega arith)) (λ two. absurd (omega arith))) (λ p. refl) (omega arith)
+      (fits_as h v (refused v) f (omega arith) refl refl refl refl refl (omega arith) (omega arith) (f.some (omega arith)) (λ _. f.alone (omega arith)) (λ two. absurd (omega arith))) (λ p. refl) (omega arith)
       (λ le. omega (arith, le)) (divided_still views id v (refused v) k.divided at refl refl)
 
   -- a refused one goes back
@@ -217,7 +217,7 @@ module _ (T : Type 0) (cap : Option ℕ) where
       let f = k.true_of id v at in let pos : 0 < n = omega (arith, k.counted, total_at parts views id v at) in (
         pos,
         stays h n (n - 1) views id v (withdrawn v) k at
-            (fits_as h v (withdrawn v) f (omega arith) refl refl refl refl refl (omega arith) (omega arith) (f.some (omega arith)) (λ _. f.solo (omega arith)) (λ two. absurd (omega arith))) (λ p. refl) (omega arith)
+            (fits_as h v (withdrawn v) f (omega arith) refl refl refl refl refl (omega arith) (omega arith) (f.some (omega arith)) (λ _. f.alone (omega arith)) (λ two. absurd (omega arith))) (λ p. refl) (omega arith)
             (λ le. omega (arith, le)) (divided_still views id v (withdrawn v) k.divided at refl refl),
       )
 
@@ -238,7 +238,7 @@ module _ (T : Type 0) (cap : Option ℕ) where
               surplus = omega arith;
               poor = λ no. absurd (omega arith);
               some = λ _. plus_some v.share v.second_share (f.some (omega arith));
-              solo = λ _. refl;
+              alone = λ _. refl;
               both = λ more. absurd (omega arith);
             }
             (λ p. omega (arith, times_append p v.mine v.second_places)) (omega arith) (λ le. omega (arith, le))
@@ -252,14 +252,14 @@ module _ (T : Type 0) (cap : Option ℕ) where
   one_entire h views id v k at one none =
       let d = k.divided in let s = d.shallow id v at in
       let all : total (portion d.depth) views ≡ portion d.depth v =
-      total_solo (portion d.depth) parts views id v at
-      (λ j u e zero_parts. let f = k.true_of j u e in omega (arith, weight_none d.depth u.share (f.poor zero_parts), weight_none d.depth u.second_share (f.solo (omega (arith, zero_parts))))) (omega (arith, k.counted)) in
-      entire_weight d.depth v.share s.0 (omega (arith, all, d.one, weight_none d.depth v.second_share ((k.true_of id v at).solo (omega (arith, one)))))
+      total_alone (portion d.depth) parts views id v at
+      (λ j u e zero_parts. let f = k.true_of j u e in omega (arith, weight_none d.depth u.share (f.poor zero_parts), weight_none d.depth u.second_share (f.alone (omega (arith, zero_parts))))) (omega (arith, k.counted)) in
+      entire_weight d.depth v.share s.0 (omega (arith, all, d.one, weight_none d.depth v.second_share ((k.true_of id v at).alone (omega (arith, one)))))
 
   -- where a party has all shares, the count is one
   pub entire_one : (h : List (Effect T)) (n : ℕ) (views : List V) (id : ℕ) (v : V) → Kept cap h n views → get_elem? views id ≡ some v → v.parties ≡ 1 → v.surplus ≡ 0 → IsEntire v.share → n ≡ 1
   entire_one h n views id v k at one none entire =
-      let all : IsEntire (share_of v) = entire_plus v.share v.second_share entire ((k.true_of id v at).solo (omega (arith, one))) in
+      let all : IsEntire (share_of v) = entire_plus v.share v.second_share entire ((k.true_of id v at).alone (omega (arith, one))) in
       let p = is_all h views id v parts k.true_of k.divided at all (λ j u e zero_parts. zero_parts) in
       let x = is_all h views id v surplus k.true_of k.divided at all (λ j u e zero_parts. omega (arith, zero_parts, (k.true_of j u e).surplus)) in
       omega (arith, k.counted, p, x)
@@ -269,7 +269,7 @@ module _ (T : Type 0) (cap : Option ℕ) where
       → ((p : ℕ) → has p v ≡ once_below p (length h)) × (v.seen ≡ h) × ((j : ℕ) (u : V) → j ≢ id → get_elem? views j ≡ some u → u.parties ≡ 0)
   is_whole h n views id v k at one entire untold =
       let f = k.true_of id v at in
-      let all_shares : IsEntire (share_of v) = entire_plus v.share v.second_share entire (f.solo (omega (arith, one))) in
+      let all_shares : IsEntire (share_of v) = entire_plus v.share v.second_share entire (f.alone (omega (arith, one))) in
       let all : (p : ℕ) → has p v ≡ once_below p (length h) = all_places h n views id v k at all_shares in
       let p = is_all h views id v parts k.true_of k.divided at all_shares (λ j u e zero_parts. zero_parts) in (
         all,
@@ -315,7 +315,7 @@ module _ (T : Type 0) (cap : Option ℕ) where
         surplus = omega arith;
         poor = λ no. absurd (omega arith);
         some = λ _. f.some (omega arith);
-        solo = λ _. refl;
+        alone = λ _. refl;
         both = λ more. absurd (omega arith);
       }
       record {
@@ -327,7 +327,7 @@ module _ (T : Type 0) (cap : Option ℕ) where
         surplus = omega arith;
         poor = λ no. absurd (omega arith);
         some = λ _. f.both (omega arith);
-        solo = λ _. refl;
+        alone = λ _. refl;
         both = λ more. absurd (omega arith);
       }
       (λ p. omega arith) (omega arith) (omega arith) (λ depth low. ((low.0, omega arith), (low.1, omega arith), omega (arith, weight_none depth nothing refl)))
@@ -343,7 +343,7 @@ module _ (T : Type 0) (cap : Option ℕ) where
     surplus = omega arith;
     poor = λ _. refl;
     some = λ no. absurd (omega arith);
-    solo = λ _. refl;
+    alone = λ _. refl;
     both = λ no. absurd (omega arith);
   }
 
@@ -358,7 +358,7 @@ module _ (T : Type 0) (cap : Option ℕ) where
       let places : (p : ℕ) → has p v ≡ times p v.mine + 0 = λ p. ap (has p) is_v in let places' : (p : ℕ) → has p w ≡ times p w.mine + 0 = λ p. ap (has p) is_w in
       let untold : v.second_seen ≡ [] = ap (λ (z : V). z.second_seen) is_v in let untold' : w.second_seen ≡ [] = ap (λ (z : V). z.second_seen) is_w in
       let d = k.divided in let s = d.shallow id v at in let s' = d.shallow other w there in
-      let none = weight_none d.depth v.second_share (f.solo (omega (arith, one))) in let none' = weight_none d.depth w.second_share (f'.solo (omega (arith, one'))) in record {
+      let none = weight_none d.depth v.second_share (f.alone (omega (arith, one))) in let none' = weight_none d.depth w.second_share (f'.alone (omega (arith, one'))) in record {
         legal = k.legal;
         true_of = fits_set h vs other (nobody c) (fits_set h views id b k.true_of record {
           capped = λ _. f.capped (omega arith);
@@ -371,7 +371,7 @@ module _ (T : Type 0) (cap : Option ℕ) where
           surplus = omega arith;
           poor = λ no. absurd (omega arith);
           some = λ _. f.some (omega (arith, one));
-          solo = λ few. absurd (omega arith);
+          alone = λ few. absurd (omega arith);
           both = λ _. f'.some (omega (arith, one'));
         }) (fits_nobody h c);
         owned = λ p. omega (arith, total_set (has p) vs other w (nobody c) at', total_set (has p) views id v b at, k.owned p, places p, places' p);

@@ -37,10 +37,10 @@ module _ {A : Type 0} (f : A → ℕ) where
     total_none (x ∷ xs) h z = omega (arith, h 0 x refl (omega arith), total_none xs (λ j v e. h (suc j) v e) (omega arith))
 
     -- where one has all of g, it has all of f
-    pub total_solo : (l : List A) (i : ℕ) (a : A) → get_elem? l i ≡ some a → ((j : ℕ) (v : A) → get_elem? l j ≡ some v → g v ≡ 0 → f v ≡ 0) → total g l ≤ g a → total f l ≡ f a
-    total_solo [] i a e h all = absurd (some-ne-none a (sym e))
-    total_solo (x ∷ xs) zero a e h all = let p = ap f (some-injective x a e) in let q = ap g (some-injective x a e) in omega (arith, total_none xs (λ j v e. h (suc j) v e) (omega arith))
-    total_solo (x ∷ xs) (suc i) a e h all = let n = total_at' xs i a e in omega (arith, h 0 x refl (omega arith), total_solo xs i a e (λ j v e. h (suc j) v e) (omega arith))
+    pub total_alone : (l : List A) (i : ℕ) (a : A) → get_elem? l i ≡ some a → ((j : ℕ) (v : A) → get_elem? l j ≡ some v → g v ≡ 0 → f v ≡ 0) → total g l ≤ g a → total f l ≡ f a
+    total_alone [] i a e h all = absurd (some-ne-none a (sym e))
+    total_alone (x ∷ xs) zero a e h all = let p = ap f (some-injective x a e) in let q = ap g (some-injective x a e) in omega (arith, total_none xs (λ j v e. h (suc j) v e) (omega arith))
+    total_alone (x ∷ xs) (suc i) a e h all = let n = total_at' xs i a e in omega (arith, h 0 x refl (omega arith), total_alone xs i a e (λ j v e. h (suc j) v e) (omega arith))
       where
         total_at' : (l : List A) (i : ℕ) (a : A) → get_elem? l i ≡ some a → g a ≤ total g l
         total_at' [] i a e = absurd (some-ne-none a (sym e))

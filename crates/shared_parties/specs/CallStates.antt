@@ -31,8 +31,8 @@ abbrev pub HasAll : {T : Type 0} → CallState T → Type 0
 HasAll d = IsEntire d.known.share → IsWhole (view_of d.known)
 
 -- the seat of the party that has all shares
-abbrev pub IsLoneSeat : {T : Type 0} → CallState T → Type 0
-IsLoneSeat d = IsResting d × IsEntire d.known.share
+abbrev pub IsSeatAlone : {T : Type 0} → CallState T → Type 0
+IsSeatAlone d = IsResting d × IsEntire d.known.share
 
 -- the seats vs and ws differ in what those know that are at nothing
 pub record SameCalls {T : Type 0} (vs ws : List (CallState T)) : Type 0 where

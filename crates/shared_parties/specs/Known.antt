@@ -48,7 +48,7 @@ pub record IsTrueOf {T : Type 0} (cap : Option ℕ) (h : List (Effect T)) (v : K
   pub surplus : v.surplus ≤ v.parties
   pub poor : v.parties ≡ 0 → v.share.0 ≡ 0
   pub some : 0 < v.parties → IsSome v.share
-  pub solo : v.parties ≤ 1 → v.second_share.0 ≡ 0
+  pub alone : v.parties ≤ 1 → v.second_share.0 ≡ 0
   pub both : 2 ≤ v.parties → IsSome v.second_share
 
 -- the shares of all seats are together one, counted in parts of 1 / 2^depth

@@ -7,7 +7,7 @@ use Rattle.atomic_table.specs.Table.{Final, Seen}
 use Rattle.queue_steps.specs.{State.State, Effect.after, Legal.IsShown, Parties.IsWhole}
 use Rattle.queue_laws.proofs.{Common.Tests.none_if, Ring.RingIdle.NobodyHolds, Ring.RingIdle.AtRest, Ring.RingIdle.at_rest}
 use Rattle.queue_laws.specs.Ring.{RingCells.Ring, RingCells.queue_of, RingCells.RingOk, RingCells.owner, RingShared.Shared, RingWords.Codes, RingWords.item_in}
-use Rattle.shared_parties.specs.{declared.known.CallState.CallState, Known.view_of, CallStates.IsLoneSeat}
+use Rattle.shared_parties.specs.{declared.known.CallState.CallState, Known.view_of, CallStates.IsSeatAlone}
 use Rattle.shared_tables.specs.{Seats.count_of, TableRule.Rule, RingTable.home_when, RingTable.Homes, RingTable.ring_words, RingTable.ring_table}
 use Rattle.own_cells.specs.OneRing.{RingOwned.IsIdle, RingOwned.ring_queue, Laws.RingRests.rested_idle, Laws.RingRests.rested_queue, RingMemory.ring_in}
 use Rattle.own_cells.proofs.OneRing.RingWrites.{elem_or}
@@ -26,7 +26,7 @@ module _ {T : Type 0} where
       homes.1 i lt ∙ (ap (λ o. some (home_when o (item_in (r.cells i)))) (none_if (owner (r.cells i)) (λ who e. nobody who i e)) ∙ ap (λ (o : Option T). some (some o)) (sym (codes.slot i lt)))
 
   -- the end: the only party has every place, no call is on its way, and the words and slots are those of a ring with one owner after what the party has seen
-  pub ring_finishes : (cap id : ℕ) (d : CallState T) (ws : List ℕ) (xs : List (Option T)) → IsLoneSeat d → Final (Seen (Rule (ring_table cap)) id d) ws xs
+  pub ring_finishes : (cap id : ℕ) (d : CallState T) (ws : List ℕ) (xs : List (Option T)) → IsSeatAlone d → Final (Seen (Rule (ring_table cap)) id d) ws xs
       → IsIdle (ring_in cap ws xs) × IsShown (ring_queue (ring_in cap ws xs)) (after (Some cap) d.known.seen) × IsWhole (view_of d.known)
   ring_finishes cap id d ws xs is end =
       let s = end.0 in let rule : Rule (ring_table cap) s = end.1.0 in let r : Ring T = rule.cells in

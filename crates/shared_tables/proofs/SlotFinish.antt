@@ -6,7 +6,7 @@ use Rattle.atomic_table.specs.Table.{Final, Seen, opening}
 use Rattle.queue_steps.specs.{Effect.after, Legal.IsShown, Parties.IsWhole, Shares.entire, SlotNext.is_marked, State.State}
 use Rattle.queue_laws.specs.Slot.{SlotHolder.SlotHolder, SlotHolder.Nobody, SlotRows.Codes, SlotRows.free_empty, SlotRows.free_full, SlotRows.single, SlotCells.Slot, SlotCells.queue_of, SlotCells.lent_by}
 use Rattle.queue_laws.proofs.Slot.SlotCells.{all_nobody}
-use Rattle.shared_parties.specs.{declared.known.CallState.CallState, Known.party, Known.view_of, CallStates.idle, CallStates.is_busy, CallStates.IsLoneSeat}
+use Rattle.shared_parties.specs.{declared.known.CallState.CallState, Known.party, Known.view_of, CallStates.idle, CallStates.is_busy, CallStates.IsSeatAlone}
 use Rattle.shared_tables.{specs.Seats.count_of, specs.TableRule.Rule, specs.SlotTable.home_under, specs.SlotTable.slot_table, proofs.TableRests.table_ends}
 use Rattle.own_cells.specs.OneSlot.OwnSlotCells.{state_of, word_for}
 use Rattle.shared_parties.proofs.FirstParty.{first_rests, first_kept}
@@ -57,7 +57,7 @@ module _ (T : Type 0) where
   second_word ws word e = absurd (some-ne-none word (sym e))
 
   -- the end: the only party has every place, and the slot and its word are those of the state after what it has seen
-  pub slot_ends : (id : ℕ) (d : CallState T) (ws : List ℕ) (xs : List (Option T)) (word : ℕ) (x : Option T) → IsLoneSeat d → Final (Seen (Rule slot_table) id d) ws xs → get_elem? ws 1 ≡ some word → get_elem? xs 0 ≡ some x
+  pub slot_ends : (id : ℕ) (d : CallState T) (ws : List ℕ) (xs : List (Option T)) (word : ℕ) (x : Option T) → IsSeatAlone d → Final (Seen (Rule slot_table) id d) ws xs → get_elem? ws 1 ≡ some word → get_elem? xs 0 ≡ some x
       → (word ≡ word_for x (is_marked word)) × IsShown (state_of word x) (after (Some 1) d.known.seen) × IsWhole (view_of d.known)
   slot_ends id d ws xs word x is end at_word at_slot =
       let s = end.0 in let rule : Rule slot_table s = end.1.0 in let g : Slot T = rule.cells in

@@ -6,7 +6,7 @@ use native.Mathlib.Decide.{ℕ_discrete}
 use lib.ListN.{get_elem?}
 use Rattle.atomic_table.proofs.Lists.{at_map}
 use Rattle.queue_steps.specs.Parties.{IsWhole}
-use Rattle.shared_parties.specs.{declared.known.CallState.CallState, Known.view_of, CallStates.is_busy, CallStates.known_by, CallStates.IsLoneSeat, Calling.cap_of}
+use Rattle.shared_parties.specs.{declared.known.CallState.CallState, Known.view_of, CallStates.is_busy, CallStates.known_by, CallStates.IsSeatAlone, Calling.cap_of}
 use Rattle.shared_tables.{specs.Seats.Table, specs.Seats.count_of, specs.TableRule.TableOf, specs.TableRule.Rule, proofs.TableParties.table_keeps_parties}
 use Rattle.shared_parties.proofs.{Sharings.false_if, Alone.Alone, Alone.alone}
 
@@ -19,20 +19,20 @@ pub record OnlyParty {T : Type 0} (K : TableOf T) (s : Table T) (id : ℕ) (d : 
   pub quiet : (j : ℕ) (e : CallState T) → get_elem? s.views j ≡ some e → is_busy e.work ≡ false
   pub nobody : (who : ℕ) → K.calls.Idle rule.cells who
 
-pub table_ends : {T : Type 0} (K : TableOf T) (s : Table T) (id : ℕ) (d : CallState T) (rule : Rule K s) → get_elem? s.views id ≡ some d → IsLoneSeat d → OnlyParty K s id d rule
+pub table_ends : {T : Type 0} (K : TableOf T) (s : Table T) (id : ℕ) (d : CallState T) (rule : Rule K s) → get_elem? s.views id ≡ some d → IsSeatAlone d → OnlyParty K s id d rule
 table_ends {T} K s id d rule at is = record {
-  whole = solo.whole;
-  seen = solo.seen;
+  whole = only.whole;
+  seen = only.seen;
   others = others;
   quiet = quiet;
   nobody = λ who. rule.all.free who (λ e there. quiet who e there);
 }
   where
-    solo : Alone rule.history (map known_by s.views) id d.known
-    solo = alone (cap_of K.calls) d.known.cap rule.history d.known.seen (count_of s) (map known_by s.views) id d.known d.known.mine d.known.share rule.all.kept (at_map known_by s.views id d at) (ap (λ (z : CallState T). z.known) is.0) is.1
+    only : Alone rule.history (map known_by s.views) id d.known
+    only = alone (cap_of K.calls) d.known.cap rule.history d.known.seen (count_of s) (map known_by s.views) id d.known d.known.mine d.known.share rule.all.kept (at_map known_by s.views id d at) (ap (λ (z : CallState T). z.known) is.0) is.1
 
     others : (j : ℕ) (e : CallState T) → j ≢ id → get_elem? s.views j ≡ some e → e.known.parties ≡ 0
-    others j e ne there = solo.others j e.known ne (at_map known_by s.views j e there)
+    others j e ne there = only.others j e.known ne (at_map known_by s.views j e there)
 
     -- a seat in a call counts for a party
     quiet : (j : ℕ) (e : CallState T) → get_elem? s.views j ≡ some e → is_busy e.work ≡ false

@@ -8,7 +8,7 @@ ghost use Rattle.queue_steps.specs.Shares.{entire};
 ghost use Rattle.queue_steps.specs.Words.{IsRing};
 ghost use Rattle.shared_parties.specs.Known.{party, view_of};
 ghost use Rattle.shared_tables.specs.RingOpening.{first_words};
-ghost use Rattle.shared_parties.specs.CallStates.{idle, IsLoneSeat};
+ghost use Rattle.shared_parties.specs.CallStates.{idle, IsSeatAlone};
 ghost use Rattle.own_cells.specs.OneRing.RingOwned.{IsIdle, ring_owned};
 
 use crate::table::{SharedTable, Sizes, TableKind, TableSteps};
@@ -120,7 +120,7 @@ pub fn end_ring<T, A: Allocator>(
     seat: Seat<Option<T>, CallState<T>>,
 ) -> OwnRing<T, A>
     requires table { seat.table_id ≡ ring.table.shared.table_id }
-    requires alone { IsLoneSeat seat.me.0 }
+    requires alone { IsSeatAlone seat.me.0 }
     ensures { IsIdle result × IsShown (ring_owned result).queue (after (Some ring.table.shared.table_id.slots) seat.me.0.known.seen) × IsWhole (view_of seat.me.0.known) }
 {
     let SharedTable { table, slots } = ring;

@@ -5,7 +5,7 @@ ghost use Rattle.queue_steps.specs.Legal.{IsShown};
 ghost use Rattle.queue_steps.specs.Parties.{IsWhole};
 ghost use Rattle.queue_steps.specs.Shares.{entire};
 ghost use Rattle.shared_parties.specs.Known.{party, view_of};
-ghost use Rattle.shared_parties.specs.CallStates.{idle, IsLoneSeat};
+ghost use Rattle.shared_parties.specs.CallStates.{idle, IsSeatAlone};
 ghost use Rattle.own_cells.specs.OneSlot.OwnSlotCells.{IsIdle, slot_owned};
 
 use crate::table::{SharedTable, Sizes, TableKind, TableSteps};
@@ -72,7 +72,7 @@ pub fn end_slot<T, A: Allocator>(
     seat: Seat<Option<T>, CallState<T>>,
 ) -> OwnSlot<T>
     requires table { seat.table_id ≡ slot.table.shared.table_id }
-    requires alone { IsLoneSeat seat.me.0 }
+    requires alone { IsSeatAlone seat.me.0 }
     ensures { IsIdle result × IsShown (slot_owned result).queue (after (Some 1) seat.me.0.known.seen) × IsWhole (view_of seat.me.0.known) }
 {
     let SharedTable { table, slots: _ } = slot;

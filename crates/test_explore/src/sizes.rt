@@ -42,7 +42,7 @@ static SIZES: [Size; 5] = [
         parties: 300,
         call: Call::Push(1),
         calls: 1,
-        last: "all 1 outcome, 1 schedule, longest lone call 4, 0 with order none\n",
+        last: "all 1 outcome, 1 schedule, most steps alone 4, 0 with order none\n",
     },
     Size {
         kind: Kind::Single,
@@ -50,7 +50,7 @@ static SIZES: [Size; 5] = [
         parties: 1,
         call: Call::IsEmpty,
         calls: 1_000,
-        last: "all 1 outcome, 1 schedule, longest lone call 1, 0 with order none\n",
+        last: "all 1 outcome, 1 schedule, most steps alone 1, 0 with order none\n",
     },
     Size {
         kind: Kind::Bounded(1_000),
@@ -58,7 +58,7 @@ static SIZES: [Size; 5] = [
         parties: 2,
         call: Call::Pop,
         calls: 2,
-        last: "all 1 outcome, 1 schedule, longest lone call 4, 0 with order none\n",
+        last: "all 1 outcome, 1 schedule, most steps alone 4, 0 with order none\n",
     },
     Size {
         kind: Kind::Bounded(5_000),
@@ -66,7 +66,7 @@ static SIZES: [Size; 5] = [
         parties: 2,
         call: Call::ForcePush(1),
         calls: 2,
-        last: "all 1 outcome, 1 schedule, longest lone call 4, 0 with order none\n",
+        last: "all 1 outcome, 1 schedule, most steps alone 4, 0 with order none\n",
     },
     // 32 blocks.
     Size {
@@ -75,7 +75,7 @@ static SIZES: [Size; 5] = [
         parties: 2,
         call: Call::Pop,
         calls: 2,
-        last: "all 1 outcome, 1 schedule, longest lone call 6, 0 with order none\n",
+        last: "all 1 outcome, 1 schedule, most steps alone 6, 0 with order none\n",
     },
 ];
 

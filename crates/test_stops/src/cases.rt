@@ -5,7 +5,7 @@ use crate::runs::{AtEnd, Times, run};
 use crate::shapes::{Shape, Start};
 use crate::tally::Tally;
 use queue_steps::model::Call;
-use queue_steps::sizes::SOLO_STEPS;
+use queue_steps::sizes::STEPS_ALONE;
 use std::alloc::Global;
 use std::io;
 use std::io::ErrorKind;
@@ -103,7 +103,7 @@ struct Case {
 /// Which stops of party 1 are tried.
 #[derive(Clone, Copy)]
 pub enum Second {
-    /// It goes on as long as a solo call ever does.
+    /// It goes on as long as a call alone ever does.
     GoesOn,
     /// It stops after each number of its steps.
     Stops,
@@ -113,7 +113,7 @@ impl Second {
     /// Its stops in a call of so many steps.
     fn stops(self, steps: u64) -> Range<u64> {
         match self {
-            Second::GoesOn => SOLO_STEPS..SOLO_STEPS + 1,
+            Second::GoesOn => STEPS_ALONE..STEPS_ALONE + 1,
             Second::Stops => 0..steps.wrapping_add(1),
         }
     }
@@ -178,14 +178,14 @@ fn judge(alloc: Global, case: Case, alone: u64) -> Result<bool, Flaw> {
     let mut events = Vec::new(alloc);
     let marks = stop_both(case, &mut events)?;
     run(alloc, case.shape, &events, marks.begun, AtEnd::Stopped)?;
-    add_steps(&mut events, 0, SOLO_STEPS, case.grants[0])?;
-    add_steps(&mut events, 1, SOLO_STEPS, case.grants[1])?;
-    add_steps(&mut events, 0, SOLO_STEPS, case.grants[0])?;
+    add_steps(&mut events, 0, STEPS_ALONE, case.grants[0])?;
+    add_steps(&mut events, 1, STEPS_ALONE, case.grants[1])?;
+    add_steps(&mut events, 0, STEPS_ALONE, case.grants[0])?;
     let [first, second] = run(alloc, case.shape, &events, marks.begun, AtEnd::Ended)?;
     if case.grants[0] && !stops_in_time(first, marks, alone) {
         return Err(Flaw::Steps);
     }
-    let waited = case.stops[1] == SOLO_STEPS && comes_late(second.ended, marks.after);
+    let waited = case.stops[1] == STEPS_ALONE && comes_late(second.ended, marks.after);
     if waited && !holds(first, marks.stopped) {
         return Err(Flaw::Waits);
     }

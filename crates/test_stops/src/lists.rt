@@ -5,7 +5,7 @@ use crate::runs::{AtEnd, PARTIES, run};
 use crate::shapes::{Shape, Start};
 use crate::tally::Tally;
 use queue_steps::model::Call;
-use queue_steps::sizes::{BLOCK_SLOTS, SOLO_STEPS};
+use queue_steps::sizes::{BLOCK_SLOTS, STEPS_ALONE};
 use std::alloc::Global;
 use std::io;
 
@@ -136,7 +136,7 @@ fn call_of(dice: &mut Dice) -> Call<Item> {
 fn end_all(events: &mut Events) -> Result<(), Flaw> {
     for _ in 0..PARTIES {
         for party in 0..PARTIES {
-            add_steps(events, party, SOLO_STEPS, true)?;
+            add_steps(events, party, STEPS_ALONE, true)?;
         }
     }
     Ok(())

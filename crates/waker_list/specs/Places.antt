@@ -1,7 +1,7 @@
 -- Where a future is between its steps.
 use Rattle.std.specs.Prelude.{◌≡◌, ◌⊎◌, Bool, true, false, Option, Some, None, IsTrue, is_some, if◌then◌else◌}
 use Rattle.futures.specs.declared.util.wait_list.Ticket.{Ticket}
-use Rattle.event_count.specs.declared.wakes.seats.Seat.{Seat, TheVariants.Away, TheVariants.Looking, TheVariants.Asleep, TheVariants.Told, TheVariants.Given}
+use Rattle.event_count.specs.declared.wakes.seats.Seat.{Seat, TheVariants.Away, TheVariants.Looking, TheVariants.Asleep, TheVariants.Notified, TheVariants.Given}
 use Rattle.event_count.specs.Sleep.{Lists.is_on, Seats.taken_off_of, Seats.left_of}
 
 abbrev pub is_away : Seat → Bool
@@ -13,7 +13,7 @@ abbrev pub may_look : Seat → Bool
 may_look Away = true
 may_look Looking = true
 may_look Asleep = true
-may_look Told = true
+may_look Notified = true
 may_look other = false
 
 -- a look in vain ends there

@@ -3,7 +3,7 @@ use Rattle.std.proofs.Common.{◌≡◌, ◌≢◌, inl, inr, ℕ, ◌+◌, ◌-
 use Rattle.event_count.specs.{declared.wakes.steps.Phase.Phase, declared.wakes.steps.Whom.TheVariants.One, declared.wakes.steps.Whom.TheVariants.All, Sleep.Steps.low, Sleep.Steps.step_of, Sleep.Laws.is_woken, Sleep.Laws.is_rousing}
 use Rattle.event_count.specs.declared.wakes.steps.Phase.TheVariants.{Idle, Starting, Loaded, Prepared, Missed, Returned, Given, Taking, Clearing, Moving, Waking}
 use Rattle.event_count.specs.Sleep.World.{Party, Awake, Asleep, World, is_asleep, risen, put, goes_on, counts_late, wakes_one, takes}
-use Rattle.event_count.proofs.Sleep.{Counts.one, Counts.count_le, Counts.count_map, Counts.count_none, Counts.set_get, Counts.set_other, Counts.map_at, Told.Relies, Told.Told, Told.turned, Telling.same_risen, Telling.none_risen}
+use Rattle.event_count.proofs.Sleep.{Counts.one, Counts.count_le, Counts.count_map, Counts.count_none, Counts.set_get, Counts.set_other, Counts.map_at, Relying.Relies, Relying.AllRely, Relying.turned, Telling.same_risen, Telling.none_risen}
 use Rattle.event_count.proofs.Sleep.Heed.{is_near, is_parking, is_unmoved, is_moving, is_waking, is_moving_all, moving_rouses, tally_of, part, unless, no_fewer, Covers, Heeds, swaps, Owes, owes_keeps, alike, empty_keeps, both, two_swaps}
 
 abbrev pub Heeded : World → Type 0
@@ -170,16 +170,16 @@ module _ (w : World) (k m : ℕ) (h : Heeded w) where
       }
 
   -- once `EVENTS` has moved, nobody goes to sleep
-  moves : Told w → (p q : Party) → slice_get w.parties k ≡ Some p → one (is_near (w.events + 1)) q ≡ 0 → one is_asleep q ≤ one is_asleep p
+  moves : AllRely w → (p q : Party) → slice_get w.parties k ≡ Some p → one (is_near (w.events + 1)) q ≡ 0 → one is_asleep q ≤ one is_asleep p
       → one is_moving p + one is_waking p ≤ one is_moving q + one is_waking q → one is_woken p + one is_unmoved p + one is_waking p ≤ one is_woken q + one is_unmoved q + one is_waking q
       → one is_rousing p ≤ one is_rousing q → Heeded (turned w k q (w.events + 1) w.sleepers w.items w.late)
-  moves told p q at none few on more rouses = λ early.
+  moves rely p q at none few on more rouses = λ early.
       let e = w.events in
       let old = tally_of e w.parties in
       let ps = slice_set w.parties k q in
       let it = h early in
       let no_near : count_by (is_near (e + 1)) ps ≡ 0 = count_none (is_near (e + 1)) ps (λ i r is.
-      elim (set_get w.parties k i q r is) [ inl same ↦ subst (λ x. one (is_near (e + 1)) x ≡ 0) (sym same) none | inr was ↦ none_near w r (told i r was) ]) in
+      elim (set_get w.parties k i q r is) [ inl same ↦ subst (λ x. one (is_near (e + 1)) x ≡ 0) (sym same) none | inr was ↦ none_near w r (rely i r was) ]) in
       let less = count_le (is_parking (e + 1)) (is_near (e + 1)) (parking_near (e + 1)) ps in
       let s = swaps e w.parties k p q at in
       let asleep = s.asleep in let woken = s.woken in let unmoved = s.unmoved in let moving = s.moving in let waking = s.waking in
@@ -299,17 +299,17 @@ module _ (w : World) (k m : ℕ) (h : Heeded w) where
         for_asleep = λ some. absurd (omega (arith, none, asleep, some));
       }
 
-  pub takes_keeps : (j : ℕ) → Told w → (p : Phase) → slice_get w.parties k ≡ Some (Awake p m) → Heeded (takes w k p m j (step_of p))
-  takes_keeps j told Idle at = h
-  takes_keeps j told Starting at = turns (Awake Starting m) (Awake (Loaded w.events) m) w.sleepers w.items at (alike w.sleepers w.items (part w.events (Awake Starting m)))
-  takes_keeps j told (Loaded t) at = registers t at
-  takes_keeps j told (Prepared t) at = h
-  takes_keeps j told (Missed t) at = parks t (low w.events == low t) at
-  takes_keeps j told Returned at = h
-  takes_keeps j told Given at = finds (w.sleepers == 0) refl at
-  takes_keeps j told (Taking n) at = takes_one n (w.sleepers == n) refl at
-  takes_keeps j told Clearing at = clears at
-  takes_keeps j told (Moving One) at = moves told (Awake (Moving One) m) (Awake (Waking One) m) at refl (le_refl _) (le_refl _) (le_refl _) (le_refl _)
-  takes_keeps j told (Moving All) at = moves told (Awake (Moving All) m) (Awake (Waking All) m) at refl (le_refl _) (le_refl _) (le_refl _) (le_refl _)
-  takes_keeps j told (Waking One) at = wakes j (slice_get w.parties j) refl at
-  takes_keeps j told (Waking All) at = wakes_all at
+  pub takes_keeps : (j : ℕ) → AllRely w → (p : Phase) → slice_get w.parties k ≡ Some (Awake p m) → Heeded (takes w k p m j (step_of p))
+  takes_keeps j rely Idle at = h
+  takes_keeps j rely Starting at = turns (Awake Starting m) (Awake (Loaded w.events) m) w.sleepers w.items at (alike w.sleepers w.items (part w.events (Awake Starting m)))
+  takes_keeps j rely (Loaded t) at = registers t at
+  takes_keeps j rely (Prepared t) at = h
+  takes_keeps j rely (Missed t) at = parks t (low w.events == low t) at
+  takes_keeps j rely Returned at = h
+  takes_keeps j rely Given at = finds (w.sleepers == 0) refl at
+  takes_keeps j rely (Taking n) at = takes_one n (w.sleepers == n) refl at
+  takes_keeps j rely Clearing at = clears at
+  takes_keeps j rely (Moving One) at = moves rely (Awake (Moving One) m) (Awake (Waking One) m) at refl (le_refl _) (le_refl _) (le_refl _) (le_refl _)
+  takes_keeps j rely (Moving All) at = moves rely (Awake (Moving All) m) (Awake (Waking All) m) at refl (le_refl _) (le_refl _) (le_refl _) (le_refl _)
+  takes_keeps j rely (Waking One) at = wakes j (slice_get w.parties j) refl at
+  takes_keeps j rely (Waking All) at = wakes_all at

@@ -3,7 +3,7 @@ use Rattle.std.proofs.Common.{◌≡◌, ℕ, zero, suc, ◌+◌, ◌-◌, ◌�
 use Rattle.event_count.specs.declared.wakes.steps.Phase.{Phase, TheVariants.Idle, TheVariants.Starting, TheVariants.Prepared, TheVariants.Missed, TheVariants.Returned, TheVariants.Given, TheVariants.Clearing}
 use Rattle.event_count.specs.Sleep.Steps.{step_of}
 use Rattle.event_count.specs.Sleep.World.{Party, Awake, Asleep, World, Event, Steps, Rises, Prepares, Looks, Leaves, Gives, Tells, put, takes, rises, looks, leaves, prepares, gives, tells, happens}
-use Rattle.event_count.proofs.Sleep.{Told.Told, Telling.acts_keeps, HeedSteps.Heeded, HeedSteps.turns, HeedSteps.turns_empty, HeedSteps.takes_keeps, Heed.part, Heed.alike}
+use Rattle.event_count.proofs.Sleep.{Relying.AllRely, Telling.acts_keeps, HeedSteps.Heeded, HeedSteps.turns, HeedSteps.turns_empty, HeedSteps.takes_keeps, Heed.part, Heed.alike}
 
 positive : (n : ℕ) → (n == 0) ≡ false → 1 ≤ n
 positive zero is = absurd (cc)
@@ -121,11 +121,11 @@ module _ (w : World) (k m : ℕ) (h : Heeded w) where
   rises_keeps (Some (Awake p mark)) at = h
   rises_keeps None at = h
 
-pub happens_keeps : (w : World) (e : Event) → Told w → Heeded w → Heeded (happens w e)
-happens_keeps w (Steps k j) told h = acts_keeps Heeded w (λ p m. takes w k p m j (step_of p)) (slice_get w.parties k) (λ p m at. takes_keeps w k m h j told p at) h
-happens_keeps w (Rises k) told h = rises_keeps w k 0 h (slice_get w.parties k) refl
-happens_keeps w (Prepares k) told h = acts_keeps Heeded w (λ p m. prepares w k m p) (slice_get w.parties k) (λ p m at. prepares_keeps w k m h p at) h
-happens_keeps w (Looks k) told h = acts_keeps Heeded w (λ p m. looks w k p (step_of p)) (slice_get w.parties k) (λ p m at. looks_keeps w k m h p at) h
-happens_keeps w (Leaves k) told h = acts_keeps Heeded w (λ p m. leaves w k m p) (slice_get w.parties k) (λ p m at. leaves_keeps w k m h p at) h
-happens_keeps w (Gives k) told h = acts_keeps Heeded w (λ p m. gives w k m p) (slice_get w.parties k) (λ p m at. gives_keeps w k m h p at) h
-happens_keeps w (Tells k) told h = acts_keeps Heeded w (λ p m. tells w k m p) (slice_get w.parties k) (λ p m at. tells_keeps w k m h p at) h
+pub happens_keeps : (w : World) (e : Event) → AllRely w → Heeded w → Heeded (happens w e)
+happens_keeps w (Steps k j) rely h = acts_keeps Heeded w (λ p m. takes w k p m j (step_of p)) (slice_get w.parties k) (λ p m at. takes_keeps w k m h j rely p at) h
+happens_keeps w (Rises k) rely h = rises_keeps w k 0 h (slice_get w.parties k) refl
+happens_keeps w (Prepares k) rely h = acts_keeps Heeded w (λ p m. prepares w k m p) (slice_get w.parties k) (λ p m at. prepares_keeps w k m h p at) h
+happens_keeps w (Looks k) rely h = acts_keeps Heeded w (λ p m. looks w k p (step_of p)) (slice_get w.parties k) (λ p m at. looks_keeps w k m h p at) h
+happens_keeps w (Leaves k) rely h = acts_keeps Heeded w (λ p m. leaves w k m p) (slice_get w.parties k) (λ p m at. leaves_keeps w k m h p at) h
+happens_keeps w (Gives k) rely h = acts_keeps Heeded w (λ p m. gives w k m p) (slice_get w.parties k) (λ p m at. gives_keeps w k m h p at) h
+happens_keeps w (Tells k) rely h = acts_keeps Heeded w (λ p m. tells w k m p) (slice_get w.parties k) (λ p m at. tells_keeps w k m h p at) h

@@ -1,12 +1,12 @@
 -- Each event at a list of wakers keeps its laws.
 use Rattle.std.proofs.Common.{◌≡◌, ◌≢◌, ◌⊎◌, inl, inr, ℕ, zero, suc, ◌+◌, ◌-◌, ◌≤◌, ◌==◌, Bool, true, false, Option, Some, None, List, [], ◌∷◌, map, count_by, slice_get, slice_set, refl, sym, ap, ◌∙◌, arith, le_refl, eqb-true}
-use Rattle.event_count.specs.declared.wakes.seats.Seat.TheVariants.{Away, Looking, Asleep, Told, Taken, Given, Waking, Telling, Calling}
+use Rattle.event_count.specs.declared.wakes.seats.Seat.TheVariants.{Away, Looking, Asleep, Notified, Taken, Given, Waking, Telling, Calling}
 use Rattle.event_count.specs.Sleep.Lists.{Party, At, World, Event, Enters, Looks, Leaves, Gives, Notifies, Tells, Steps, is_listed, off, put, looks, enters, leaves, gives, notifies, tells, pops, pops_at, steps, acts, happens, start, run}
-use Rattle.event_count.specs.Sleep.ListLaws.{is_asleep, is_told, is_giving, is_telling, NoItemIsLeftOnLists, NobodySleepsThroughOnLists}
+use Rattle.event_count.specs.Sleep.ListLaws.{is_asleep, is_notified, is_giving, is_telling, NoItemIsLeftOnLists, NobodySleepsThroughOnLists}
 use Rattle.event_count.proofs.Sleep.Counts.{one, count_set, count_at, count_le, count_none, set_get, set_other, map_get, replicate_get}
 
 abbrev Heeds : World → Type 0
-Heeds w = 1 ≤ count_by is_asleep w.parties → w.items ≤ count_by is_told w.parties + count_by is_giving w.parties
+Heeds w = 1 ≤ count_by is_asleep w.parties → w.items ≤ count_by is_notified w.parties + count_by is_giving w.parties
 
 abbrev Marks : World → Type 0
 Marks w = (k m : ℕ) → slice_get w.parties k ≡ Some (At Asleep m) → (m ≡ w.times) ⊎ (1 ≤ count_by is_telling w.parties)
@@ -28,14 +28,14 @@ none_asleep : (w : World) → count_by is_listed w.parties ≡ 0 → count_by is
 none_asleep w none = let le = count_le is_asleep is_listed asleep_listed w.parties in omega (arith, none, le)
 
 heeds_turn : (w : World) (k : ℕ) (p q : Party) (items times : ℕ) → slice_get w.parties k ≡ Some p → one is_asleep q ≤ one is_asleep p
-    → items + one is_told p + one is_giving p ≤ w.items + one is_told q + one is_giving q → Heeds w → Heeds (turned w k q items times)
+    → items + one is_notified p + one is_giving p ≤ w.items + one is_notified q + one is_giving q → Heeds w → Heeds (turned w k q items times)
 heeds_turn w k p q items times at fewer owed h = λ some.
     let asleep = count_set is_asleep w.parties k p q at in
-    let told = count_set is_told w.parties k p q at in
+    let notified = count_set is_notified w.parties k p q at in
     let giving = count_set is_giving w.parties k p q at in
     let was : 1 ≤ count_by is_asleep w.parties = omega (arith, asleep, fewer, some) in
     let few = h was in
-    omega (arith, told, giving, owed, few)
+    omega (arith, notified, giving, owed, few)
 
 -- a sleeper of the new world is the new party, or one of the old world
 marks_turn : (w : World) (k : ℕ) (p q : Party) (items : ℕ) → slice_get w.parties k ≡ Some p → ((m : ℕ) → q ≡ At Asleep m → (m ≡ w.times) ⊎ (p ≡ At Asleep m))
@@ -61,7 +61,7 @@ up_fresh p q t up m is = cc
 
 -- a party that does not sleep takes the place of p, and owes nothing
 turn : (w : World) (k : ℕ) (p q : Party) (items : ℕ) → slice_get w.parties k ≡ Some p → IsUp q → one is_telling p ≤ one is_telling q
-    → items + one is_told p + one is_giving p ≤ w.items + one is_told q + one is_giving q → Kept w → Kept (turned w k q items w.times)
+    → items + one is_notified p + one is_giving p ≤ w.items + one is_notified q + one is_giving q → Kept w → Kept (turned w k q items w.times)
 turn w k p q items at up telling owed kept =
     let none : one is_asleep q ≡ 0 = cc in
     (heeds_turn w k p q items w.times at (omega (arith, none)) owed kept.0, marks_turn w k p q items at (up_fresh p q w.times up) (λ _. telling) kept.1)
@@ -88,7 +88,7 @@ module _ (w : World) (k : ℕ) (kept : Kept w) where
   looks_keeps : (b : Bool) → (w.items == 0) ≡ b → (p : Party) → slice_get w.parties k ≡ Some p → Kept (looks w k b p)
   looks_keeps true is (At Looking m) at = misses w k (At Looking m) (At Asleep w.times) at (λ n e. inl (cc)) (le_refl _) (eqb-true w.items 0 is) kept
   looks_keeps true is (At Asleep m) at = misses w k (At Asleep m) (At Asleep w.times) at (λ n e. inl (cc)) (le_refl _) (eqb-true w.items 0 is) kept
-  looks_keeps true is (At Told m) at = misses w k (At Told m) (At Away w.times) at (up_fresh (At Told m) (At Away w.times) w.times refl) (le_refl _) (eqb-true w.items 0 is) kept
+  looks_keeps true is (At Notified m) at = misses w k (At Notified m) (At Away w.times) at (up_fresh (At Notified m) (At Away w.times) w.times refl) (le_refl _) (eqb-true w.items 0 is) kept
   looks_keeps true is (At Away m) at = turn w k (At Away m) (At Away w.times) w.items at refl (le_refl _) (omega arith) kept
   looks_keeps true is (At Taken m) at = turn w k (At Taken m) (At Taken w.times) w.items at refl (le_refl _) (omega arith) kept
   looks_keeps true is (At Given m) at = turn w k (At Given m) (At Given w.times) w.items at refl (le_refl _) (omega arith) kept
@@ -98,7 +98,7 @@ module _ (w : World) (k : ℕ) (kept : Kept w) where
   looks_keeps false is (At Away m) at = turn w k (At Away m) (At Away w.times) (w.items - 1) at refl (le_refl _) (omega arith) kept
   looks_keeps false is (At Looking m) at = turn w k (At Looking m) (At Taken w.times) (w.items - 1) at refl (le_refl _) (omega arith) kept
   looks_keeps false is (At Asleep m) at = turn w k (At Asleep m) (At Taken w.times) (w.items - 1) at refl (le_refl _) (omega arith) kept
-  looks_keeps false is (At Told m) at = turn w k (At Told m) (At Away w.times) (w.items - 1) at refl (le_refl _) (taken w.items is) kept
+  looks_keeps false is (At Notified m) at = turn w k (At Notified m) (At Away w.times) (w.items - 1) at refl (le_refl _) (taken w.items is) kept
     where
       taken : (n : ℕ) → (n == 0) ≡ false → n - 1 + 1 + 0 ≤ n + 0 + 0
       taken zero is = absurd (cc)
@@ -113,7 +113,7 @@ module _ (w : World) (k : ℕ) (kept : Kept w) where
   leaves_keeps (At Looking m) at = turn w k (At Looking m) (At Away m) w.items at refl (le_refl _) (omega arith) kept
   leaves_keeps (At Asleep m) at = turn w k (At Asleep m) (At Away m) w.items at refl (le_refl _) (omega arith) kept
   leaves_keeps (At Taken m) at = turn w k (At Taken m) (At Away m) w.items at refl (le_refl _) (omega arith) kept
-  leaves_keeps (At Told m) at = turn w k (At Told m) (At Given m) w.items at refl (le_refl _) (omega arith) kept
+  leaves_keeps (At Notified m) at = turn w k (At Notified m) (At Given m) w.items at refl (le_refl _) (omega arith) kept
   leaves_keeps (At s m) at = stay w k (At s m) at kept
 
   gives_keeps : (p : Party) → slice_get w.parties k ≡ Some p → Kept (gives w k p)
@@ -133,28 +133,28 @@ module _ (w : World) (k : ℕ) (kept : Kept w) where
 
   -- the party at k takes the party at j off the list, which is q then
   pops_to : (j m : ℕ) (p q : Party) → slice_get w.parties j ≡ Some p → slice_get w.parties k ≡ Some (At Waking m) → k ≢ j → IsUp q → one is_telling p ≤ one is_telling q
-      → one is_told p + one is_giving p ≡ 0 → one is_told q + one is_giving q ≡ 1 → Kept (put (put w j q) k (At Away m))
+      → one is_notified p + one is_giving p ≡ 0 → one is_notified q + one is_giving q ≡ 1 → Kept (put (put w j q) k (At Away m))
   pops_to j m p q there at apart up telling none one_more =
       let v = turned w j q w.items w.times in
       let still : slice_get v.parties k ≡ Some (At Waking m) = set_other w.parties j k q apart ∙ at in
       let not : one is_asleep q ≡ 0 = cc in
       let asleep = count_set is_asleep w.parties j p q there in
-      let told = count_set is_told w.parties j p q there in
+      let notified = count_set is_notified w.parties j p q there in
       let giving = count_set is_giving w.parties j p q there in
       let asleep' = count_set is_asleep v.parties k (At Waking m) (At Away m) still in
-      let told' = count_set is_told v.parties k (At Waking m) (At Away m) still in
+      let notified' = count_set is_notified v.parties k (At Waking m) (At Away m) still in
       let giving' = count_set is_giving v.parties k (At Waking m) (At Away m) still in
       let marks : Marks v = marks_turn w j p q w.items there (up_fresh p q w.times up) (λ _. telling) kept.1 in (
         (λ some.
             let was : 1 ≤ count_by is_asleep w.parties = omega (arith, not, asleep, asleep', some) in
             let few = kept.0 was in
-            omega (arith, none, one_more, told, giving, told', giving', few)),
+            omega (arith, none, one_more, notified, giving, notified', giving', few)),
         marks_turn v k (At Waking m) (At Away m) v.items still (up_fresh (At Waking m) (At Away m) v.times refl) (λ _. le_refl _) marks,
       )
 
   pops_keeps : (j m : ℕ) (p : Party) → slice_get w.parties j ≡ Some p → slice_get w.parties k ≡ Some (At Waking m) → Kept (pops w k m j (is_listed p) p)
-  pops_keeps j m (At Looking n) there at = pops_to j m (At Looking n) (At Told n) there at (λ e. (cc)) refl (le_refl _) refl refl
-  pops_keeps j m (At Asleep n) there at = pops_to j m (At Asleep n) (At Told n) there at (λ e. (cc)) refl (le_refl _) refl refl
+  pops_keeps j m (At Looking n) there at = pops_to j m (At Looking n) (At Notified n) there at (λ e. (cc)) refl (le_refl _) refl refl
+  pops_keeps j m (At Asleep n) there at = pops_to j m (At Asleep n) (At Notified n) there at (λ e. (cc)) refl (le_refl _) refl refl
   pops_keeps j m (At Taken n) there at = pops_to j m (At Taken n) (At Given n) there at (λ e. (cc)) refl (le_refl _) refl refl
   pops_keeps j m other there at = kept
 
@@ -162,7 +162,7 @@ module _ (w : World) (k : ℕ) (kept : Kept w) where
   off_up (At Away m) = refl
   off_up (At Looking m) = refl
   off_up (At Asleep m) = refl
-  off_up (At Told m) = refl
+  off_up (At Notified m) = refl
   off_up (At Taken m) = refl
   off_up (At Given m) = refl
   off_up (At Waking m) = refl

@@ -4,12 +4,12 @@ use Rattle.event_count.specs.declared.wakes.steps.{Phase.TheVariants.Idle, Phase
 use Rattle.event_count.specs.Sleep.{Laws.is_giving, Laws.is_telling, Laws.HasMissedNothing, Laws.NobodySleepsThrough, Laws.AreHeeded, Laws.AreRoused, Laws.NoItemIsLeft, Examples.Examples}
 use Rattle.event_count.specs.Sleep.World.{Party, Awake, Asleep, World, Event, is_asleep, start, happens, run}
 use Rattle.event_count.proofs.Sleep.Counts.{one, count_at, count_le, count_none, some_counted, replicate_get, count_cons}
-use Rattle.event_count.proofs.Sleep.{Told.MaySleep, Told.Relies, Told.Told, HeedSteps.Heeded, Heed.is_near, Heed.is_parking, Heed.is_unmoved, Heed.is_moving, Heed.is_waking, Heed.tally_of, Heed.Heeds}
+use Rattle.event_count.proofs.Sleep.{Relying.MaySleep, Relying.Relies, Relying.AllRely, HeedSteps.Heeded, Heed.is_near, Heed.is_parking, Heed.is_unmoved, Heed.is_moving, Heed.is_waking, Heed.tally_of, Heed.Heeds}
 use Rattle.event_count.proofs.Sleep.Telling as telling
 use Rattle.event_count.proofs.Sleep.Heeding as heeding
 
-told_start : (n items : ℕ) → Told (start n items)
-told_start n items = λ k p at. subst (Relies (start n items)) (sym (replicate_get n k (Awake Idle 0) p at)) tt
+rely_start : (n items : ℕ) → AllRely (start n items)
+rely_start n items = λ k p at. subst (Relies (start n items)) (sym (replicate_get n k (Awake Idle 0) p at)) tt
 
 no_such : (n items : ℕ) (f : Party → Bool) → one f (Awake Idle 0) ≡ 0 → count_by f (start n items).parties ≡ 0
 no_such n items f none = count_none f (start n items).parties (λ k p at. ap (one f) (replicate_get n k (Awake Idle 0) p at) ∙ none)
@@ -26,20 +26,20 @@ heeded_start n items = λ early.
       for_asleep = λ some. absurd (omega (arith, asleep, some));
     }
 
-told_run : (w : World) (es : List Event) → Told w → Told (run es w)
-told_run w [] told = told
-told_run w (e ∷ es) told = told_run (happens w e) es (telling.happens_keeps w e told)
+rely_run : (w : World) (es : List Event) → AllRely w → AllRely (run es w)
+rely_run w [] rely = rely
+rely_run w (e ∷ es) rely = rely_run (happens w e) es (telling.happens_keeps w e rely)
 
-heeded_run : (w : World) (es : List Event) → Told w → Heeded w → Heeded (run es w)
-heeded_run w [] told h = h
-heeded_run w (e ∷ es) told h = heeded_run (happens w e) es (telling.happens_keeps w e told) (heeding.happens_keeps w e told h)
+heeded_run : (w : World) (es : List Event) → AllRely w → Heeded w → Heeded (run es w)
+heeded_run w [] rely h = h
+heeded_run w (e ∷ es) rely h = heeded_run (happens w e) es (telling.happens_keeps w e rely) (heeding.happens_keeps w e rely h)
 
 missed_nothing : (w : World) (mark : ℕ) → MaySleep w mark → HasMissedNothing w mark
 missed_nothing w mark may = (may.0, λ n since come. some_counted (is_telling n) w.parties (may.1 n since come))
 
 pub nobody_sleeps_through : NobodySleepsThrough
 nobody_sleeps_through n items es k mark s =
-    let w = run es (start n items) in missed_nothing w mark (told_run (start n items) es (told_start n items) k (Asleep s.ticket s.parked mark) s.at s.near)
+    let w = run es (start n items) in missed_nothing w mark (rely_run (start n items) es (rely_start n items) k (Asleep s.ticket s.parked mark) s.at s.near)
 
 giving : (p : Party) → one is_giving p ≡ one is_unmoved p + one is_waking p
 giving (Awake Given m) = refl
@@ -70,7 +70,7 @@ heeds w h some =
 pub no_item_is_left : NoItemIsLeft
 no_item_is_left n items es early k mark s =
     let w = run es (start n items) in
-    let some : 1 ≤ count_by is_asleep w.parties = count_at is_asleep w.parties k (Asleep s.ticket s.parked mark) s.at in heeds w (heeded_run (start n items) es (told_start n items) (heeded_start n items) early) some
+    let some : 1 ≤ count_by is_asleep w.parties = count_at is_asleep w.parties k (Asleep s.ticket s.parked mark) s.at in heeds w (heeded_run (start n items) es (rely_start n items) (heeded_start n items) early) some
 
 pub examples : Examples
 examples = record { sleeps = refl; still_asleep = refl; all_still_asleep = refl; taken = refl; one_woken = refl; all_woken = refl; none_counted = refl; ends_at_its_load = refl; counted_still = refl; counted_awake = refl; does_not_sleep = refl }

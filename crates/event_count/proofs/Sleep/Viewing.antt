@@ -1,7 +1,7 @@
 -- What a future does by what it knows is what it does where it is.
 use Rattle.std.proofs.Common.{◌≡◌, ◌⊎◌, inl, inr, Bool, true, false, refl, ap}
 use Rattle.event_count.specs.{declared.wakes.seats.Seat.Seat, Sleep.Lists.is_on, Sleep.Seats.entered_of, Sleep.Seats.looked_of, Sleep.Seats.taken_off_of, Sleep.Seats.left_of, Sleep.Views.is_behind, Sleep.Views.IsView, Sleep.Views.ViewsAgree}
-use Rattle.event_count.specs.declared.wakes.seats.Seat.TheVariants.{Away, Looking, Asleep, Told, Taken, Given, Waking, Telling, Calling}
+use Rattle.event_count.specs.declared.wakes.seats.Seat.TheVariants.{Away, Looking, Asleep, Notified, Taken, Given, Waking, Telling, Calling}
 
 pops : (s : Seat) → is_on s ≡ true → IsView (taken_off_of s) s
 pops Looking on = inr refl
@@ -10,18 +10,18 @@ pops Taken on = inr refl
 pops other on = absurd (cc)
 
 learns_behind : (s v : Seat) → is_behind s v ≡ true → IsView s (taken_off_of v)
-learns_behind Told Looking b = inl refl
-learns_behind Told Asleep b = inl refl
+learns_behind Notified Looking b = inl refl
+learns_behind Notified Asleep b = inl refl
 learns_behind Away Asleep b = inr refl
 learns_behind Given Taken b = inl refl
 learns_behind Away Taken b = inr refl
-learns_behind Away Told b = inr refl
+learns_behind Away Notified b = inr refl
 learns_behind Away Given b = inr refl
 learns_behind s v b = absurd (cc)
 
 off_same : (s : Seat) → is_on s ≡ false → s ≡ taken_off_of s
 off_same Away off = refl
-off_same Told off = refl
+off_same Notified off = refl
 off_same Given off = refl
 off_same Waking off = refl
 off_same Telling off = refl
@@ -34,7 +34,7 @@ learns s v off (inr behind) = learns_behind s v behind
 
 ends_behind : (s : Seat) → is_behind s Away ≡ true → s ≡ Away
 ends_behind Away b = refl
-ends_behind Told b = absurd (cc)
+ends_behind Notified b = absurd (cc)
 ends_behind Given b = absurd (cc)
 ends_behind other b = absurd (cc)
 
@@ -43,15 +43,15 @@ enters s (inl same) = inl (ap entered_of same)
 enters s (inr behind) = inl (ap entered_of (ends_behind s behind))
 
 looks_behind : (s v : Seat) (f : Bool) → is_behind s v ≡ true → IsView (looked_of s f) (looked_of v f)
-looks_behind Told Looking true b = inr refl
-looks_behind Told Looking false b = inr refl
-looks_behind Told Asleep true b = inr refl
-looks_behind Told Asleep false b = inr refl
+looks_behind Notified Looking true b = inr refl
+looks_behind Notified Looking false b = inr refl
+looks_behind Notified Asleep true b = inr refl
+looks_behind Notified Asleep false b = inr refl
 looks_behind Away Asleep true b = inr refl
 looks_behind Away Asleep false b = inr refl
 looks_behind Given Taken f b = inr refl
 looks_behind Away Taken f b = inr refl
-looks_behind Away Told f b = inl refl
+looks_behind Away Notified f b = inl refl
 looks_behind Away Given f b = inr refl
 looks_behind s v f b = absurd (cc)
 
@@ -60,10 +60,10 @@ looks s v f (inl same) = inl (ap (λ x. looked_of x f) same)
 looks s v f (inr behind) = looks_behind s v f behind
 
 leaves_behind : (s v : Seat) → is_on v ≡ false → is_behind s v ≡ true → IsView (left_of s) (left_of v)
-leaves_behind Told Looking off b = absurd (cc)
-leaves_behind Told Asleep off b = absurd (cc)
+leaves_behind Notified Looking off b = absurd (cc)
+leaves_behind Notified Asleep off b = absurd (cc)
 leaves_behind Given Taken off b = absurd (cc)
-leaves_behind Away Told off b = inr refl
+leaves_behind Away Notified off b = inr refl
 leaves_behind Away Given off b = inr refl
 leaves_behind s v off b = absurd (cc)
 

@@ -1,6 +1,6 @@
 -- What holds in every run of parties at a list of wakers.
 use Rattle.std.specs.Prelude.{◌≡◌, ℕ, ◌+◌, ◌≤◌, ◌⊎◌, Bool, true, false, Some, List, count_by, slice_get}
-use Rattle.event_count.specs.declared.wakes.seats.Seat.TheVariants.{Asleep, Told, Given, Waking, Telling, Calling}
+use Rattle.event_count.specs.declared.wakes.seats.Seat.TheVariants.{Asleep, Notified, Given, Waking, Telling, Calling}
 use Rattle.event_count.specs.Sleep.Lists.{Party, At, Event, start, run}
 
 abbrev pub is_asleep : Party → Bool
@@ -8,9 +8,9 @@ is_asleep (At Asleep m) = true
 is_asleep other = false
 
 -- it was woken, and has not looked again
-abbrev pub is_told : Party → Bool
-is_told (At Told m) = true
-is_told other = false
+abbrev pub is_notified : Party → Bool
+is_notified (At Notified m) = true
+is_notified other = false
 
 -- its notify of one has not ended
 abbrev pub is_giving : Party → Bool
@@ -28,7 +28,7 @@ is_telling other = false
 abbrev pub NoItemIsLeftOnLists : Type 0
 NoItemIsLeftOnLists =
     (parties items : ℕ) (es : List Event) (k mark : ℕ) → slice_get (run es (start parties items)).parties k ≡ Some (At Asleep mark)
-    → (run es (start parties items)).items ≤ count_by is_told (run es (start parties items)).parties + count_by is_giving (run es (start parties items)).parties
+    → (run es (start parties items)).items ≤ count_by is_notified (run es (start parties items)).parties + count_by is_giving (run es (start parties items)).parties
 
 -- what all wait for has not come since a sleeper looked, or a notify of all has not ended
 abbrev pub NobodySleepsThroughOnLists : Type 0

@@ -1,6 +1,6 @@
 -- Any number of parties at a list of wakers, and what one event makes of them.
 use Rattle.std.specs.Prelude.{ℕ, ◌+◌, ◌-◌, ◌==◌, Bool, true, false, Option, Some, None, List, [], ◌∷◌, map, replicate, count_by, slice_get, slice_set}
-use Rattle.event_count.specs.declared.wakes.seats.Seat.{Seat, TheVariants.Away, TheVariants.Looking, TheVariants.Asleep, TheVariants.Told, TheVariants.Taken, TheVariants.Given, TheVariants.Waking, TheVariants.Telling}
+use Rattle.event_count.specs.declared.wakes.seats.Seat.{Seat, TheVariants.Away, TheVariants.Looking, TheVariants.Asleep, TheVariants.Notified, TheVariants.Taken, TheVariants.Given, TheVariants.Waking, TheVariants.Telling}
 use Rattle.event_count.specs.declared.wakes.seats.ListStep.{ListStep, TheVariants.Rest, TheVariants.Load, TheVariants.TakeOne, TheVariants.TakeAll}
 use Rattle.event_count.specs.Sleep.Seats.{step_of, entered_of, looked_of, taken_off_of, left_of, next_of}
 
@@ -63,7 +63,7 @@ looks w k true (At s m) = put w k (At (looked_of s false) w.times)
 looks w k false (At Away m) = takes w k (At (looked_of Away true) w.times)
 looks w k false (At Looking m) = takes w k (At (looked_of Looking true) w.times)
 looks w k false (At Asleep m) = takes w k (At (looked_of Asleep true) w.times)
-looks w k false (At Told m) = takes w k (At (looked_of Told true) w.times)
+looks w k false (At Notified m) = takes w k (At (looked_of Notified true) w.times)
 looks w k false other = w
 
 abbrev pub enters : World → ℕ → Party → World

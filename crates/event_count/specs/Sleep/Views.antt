@@ -1,16 +1,16 @@
 -- A future learns at its next lock that a notify has taken it off the list. Where it is until then, and where it takes itself to be.
 use Rattle.std.specs.Prelude.{◌≡◌, ◌⊎◌, Bool, true, false}
-use Rattle.event_count.specs.declared.wakes.seats.Seat.{Seat, TheVariants.Away, TheVariants.Looking, TheVariants.Asleep, TheVariants.Told, TheVariants.Taken, TheVariants.Given}
+use Rattle.event_count.specs.declared.wakes.seats.Seat.{Seat, TheVariants.Away, TheVariants.Looking, TheVariants.Asleep, TheVariants.Notified, TheVariants.Taken, TheVariants.Given}
 use Rattle.event_count.specs.Sleep.{Lists.is_on, Seats.entered_of, Seats.looked_of, Seats.taken_off_of, Seats.left_of}
 
 -- it is at the first seat, takes itself to be at the second, and has not learned all
 abbrev pub is_behind : Seat → Seat → Bool
-is_behind Told Looking = true
-is_behind Told Asleep = true
+is_behind Notified Looking = true
+is_behind Notified Asleep = true
 is_behind Away Asleep = true
 is_behind Given Taken = true
 is_behind Away Taken = true
-is_behind Away Told = true
+is_behind Away Notified = true
 is_behind Away Given = true
 is_behind seat view = false
 

@@ -12,7 +12,7 @@ pub enum Seat {
     /// It is on the list, and has not found what it waits for.
     Asleep,
     /// A notify has taken it off the list, and it has not looked since.
-    Told,
+    Notified,
     /// It is on the list, and has found what it waits for.
     Taken,
     /// It has an item to tell of.
@@ -48,7 +48,8 @@ impl Seat {
             Seat::Given | Seat::Telling => ListStep::Load,
             Seat::Waking => ListStep::TakeOne,
             Seat::Calling => ListStep::TakeAll,
-            Seat::Away | Seat::Looking | Seat::Asleep | Seat::Told | Seat::Taken => ListStep::Rest,
+            Seat::Away | Seat::Looking | Seat::Asleep | Seat::Notified | Seat::Taken =>
+                ListStep::Rest,
         }
     }
 
@@ -70,7 +71,7 @@ impl Seat {
     {
         match self {
             Seat::Looking | Seat::Asleep => { if found { Seat::Taken } else { Seat::Asleep } }
-            Seat::Told => Seat::Away,
+            Seat::Notified => Seat::Away,
             other => other,
         }
     }
@@ -81,7 +82,7 @@ impl Seat {
         ensures { result ≡ taken_off_of self }
     {
         match self {
-            Seat::Looking | Seat::Asleep => Seat::Told,
+            Seat::Looking | Seat::Asleep => Seat::Notified,
             Seat::Taken => Seat::Given,
             other => other,
         }
@@ -94,7 +95,7 @@ impl Seat {
     {
         match self {
             Seat::Looking | Seat::Asleep | Seat::Taken => Seat::Away,
-            Seat::Told => Seat::Given,
+            Seat::Notified => Seat::Given,
             other => other,
         }
     }

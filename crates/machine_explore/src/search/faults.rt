@@ -8,7 +8,7 @@ pub enum SearchFault {
     NoMemory,
     /// The program has more positions than are looked at.
     TooManyStates,
-    /// A call did not end alone within the steps that a lone call takes at most.
+    /// A call did not end alone within the steps that a call alone takes at most.
     EndlessCall,
     /// What was found could not be shown.
     NotShown,

@@ -5,12 +5,12 @@ use crate::check::Table;
 use crate::problem::Problem;
 use crate::program::Program;
 use crate::schedule::Move;
+use crate::search::alone::longest_call_alone;
 use crate::search::counts::{ScheduleCount, counts};
 use crate::search::edges::Graph;
 use crate::search::faults::SearchFault;
 use crate::search::figures::{Figure, figure_of, total};
 use crate::search::find::find;
-use crate::search::lone::longest_lone_call;
 use crate::search::orders::orders;
 use crate::search::outcomes::{FinalPositions, collect_finals};
 use crate::search::paths::Paths;
@@ -35,15 +35,15 @@ pub struct Findings<A: Allocator> {
     pub outcomes: Vec<FoundOutcome<A>, A>,
     /// How many schedules there are.
     pub schedules: ScheduleCount,
-    /// The most steps that a lone call takes.
-    pub lone: u64,
+    /// The most steps that a call alone takes.
+    pub alone: u64,
 }
 
 /// Walks over the positions of the problem's program.
 ///
 /// # Errors
 ///
-/// As of `find`, and `EndlessCall` where a lone call does not reply.
+/// As of `find`, and `EndlessCall` where a call alone does not reply.
 pub fn search<A: Allocator + Copy>(
     alloc: A,
     problem: &Problem<A>,
@@ -59,7 +59,7 @@ pub fn search<A: Allocator + Copy>(
         program,
         problem.most_states,
     )?;
-    let lone = longest_lone_call(parties, &table)?;
+    let alone = longest_call_alone(parties, &table)?;
     let finals = collect_finals(alloc, program, &table)?;
     let counts = counts(alloc, parties, &table, &finals)?;
     let outcomes = found_outcomes(alloc, program, &table, &finals, &counts)?;
@@ -67,7 +67,7 @@ pub fn search<A: Allocator + Copy>(
         table,
         outcomes,
         schedules: total(&counts),
-        lone,
+        alone,
     })
 }
 

@@ -8,7 +8,7 @@ use crate::search::faults::SearchFault;
 use crate::search::paths::Paths;
 use crate::sequence::Sequence;
 use crate::waiting::{Side, is_first, side_of};
-use queue_steps::sizes::SOLO_STEPS;
+use queue_steps::sizes::STEPS_ALONE;
 use std::alloc::{AllocError, Allocator};
 
 // A position at which one party waits for another.
@@ -125,7 +125,7 @@ fn approach_of<A: Allocator>(round: Round, moves: Vec<Move, A>) -> Approach<A> {
 // Whether the party, alone, comes back to the position at this place, and its next step leads there or to the call's first.
 fn goes_back<A: Allocator + Copy>(graph: &Graph<A>, place: usize, party: usize) -> bool {
     let mut at = place;
-    for steps in 0..SOLO_STEPS {
+    for steps in 0..STEPS_ALONE {
         let Some(next) = graph.lead(at, party, true) else {
             return false;
         };

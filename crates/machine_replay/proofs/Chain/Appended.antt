@@ -3,7 +3,7 @@ use Rattle.std.proofs.Common.{ℕ, ◌<◌, ◌≤◌, ◌≡◌, Bool, Option, 
 use Rattle.queue_steps.specs.{State.State, declared.steps.chain.ChainLocal.ChainLocal as chain}
 use Rattle.machine_replay.specs.{Vocabulary.Kind, Vocabulary.Op, Vocabulary.Touch, Vocabulary.Local, Vocabulary.Running, Progress.AppendsReplyWithin}
 use Rattle.queue_laws.specs.{Common.Stand.Stand, Chain.ChainCells.Chain, Chain.ChainAt.At, Chain.ChainAt.laying, Chain.ChainAt.opening, Chain.ChainAt.chaining, Chain.ChainAt.writing}
-use Rattle.machine_replay.proofs.{Engine.StandOf.running_of, Progress.Appended.HasAppend, Progress.Appended.appends_reply, Chain.Stretch.chain_rules}
+use Rattle.machine_replay.proofs.{Engine.StandOf.running_of, Progress.Appended.HasAppend, Progress.Appended.appends_reply, Chain.Kind.chain_rules}
 use Rattle.machine_memory.specs.SharedMemory.{MemoryState}
 use Rattle.machine_steps.specs.Steps.{step_of}
 

@@ -1,61 +1,24 @@
 -- The shared memory at each step of a pop on a chain up to the wait for its item, and at the steps that only look.
-use Rattle.std.proofs.Common.{ℕ, ◌+◌, ◌*◌, ◌/◌, ◌<◌, ◌≤◌, ◌≡◌, ◌≢◌, ◌==◌, ◌∙◌, ◌⊎◌, inl, inr, Bool, true, false, if◌then◌else◌, Option, IsSome, List, refl, sym, ap, subst, arith, None}
+use Rattle.std.proofs.Common.{ℕ, ◌+◌, ◌*◌, ◌/◌, ◌<◌, ◌≤◌, ◌≡◌, ◌≢◌, ◌==◌, ◌∙◌, ◌⊎◌, inl, inr, Bool, true, false, if◌then◌else◌, IsSome, List, refl, sym, ap, subst, arith}
 use Rattle.std.proofs.lemmas.Bool.Decides.{eqb_tells}
-use Rattle.machine_replay.specs.Vocabulary.{Answer, BLOCK_SLOTS, TAIL_STEP, Look}
-use Rattle.queue_steps.specs.{State.State, Looks.IsCount, Words.IsWord, Words.position_of, ChainWords.offset_of, ChainWords.items_before, ChainNext.chain_next, declared.steps.chain.ChainLocal.ChainLocal as chain}
-use Rattle.queue_laws.specs.{Common.Moments.HeadWas, Common.Moments.SeenIn, Chain.ChainAnswers.head_word, Chain.ChainAnswers.linked_of, Chain.ChainTransitions.taken, Chain.ChainAfter.taken_if, Chain.ChainAfter.if_taken}
-use Rattle.queue_laws.specs.Chain.ChainFacts.{place, head_of, HeadIs, IsNamed, HeadBlockIs, HeadBlockRead, IsMore, Got, SawEmpty}
-use Rattle.queue_laws.specs.Chain.ChainCells.{Writer, Writing, Wrote, Reader, Reading, Done, Stands as Rested, Passing, Entering, GivenUp, Chain, FrontOk, ChainOk, Read, Head, HoldsOnly, Nothing, item_at, Free, ItemOk}
+use Rattle.machine_replay.specs.Vocabulary.{Answer, BLOCK_SLOTS, TAIL_STEP}
+use Rattle.queue_steps.specs.{State.State, ChainWords.offset_of}
+use Rattle.queue_laws.specs.{Chain.ChainAnswers.head_word, Chain.ChainAnswers.linked_of, Chain.ChainAnswers.IsState, Chain.ChainTransitions.taken, Chain.ChainAfter.taken_if, Chain.ChainAfter.if_taken}
+use Rattle.queue_laws.specs.Chain.ChainFacts.{place, head_of, HeadIs, IsNamed, HeadBlockIs, IsMore, Got}
+use Rattle.queue_laws.specs.Chain.ChainCells.{Writer, Writing, Wrote, Reader, Reading, Done, Stands as Rested, Passing, GivenUp, Chain, FrontOk, ChainOk, Read, Head, HoldsOnly, Nothing, item_at, Free, ItemOk}
 use prog.Atomic.{either}
 use Rattle.machine_memory.specs.{Blocks.block_of, Blocks.behind, Blocks.behind_in, Blocks.state_of, SharedMemory.MemoryState}
-use Rattle.machine_replay.proofs.Chain.{Names.Codes, Blocks.state_is, Gives.codes_left, Gives.block_at, Gives.has_place, Gives.state_answers, Gives.one_block, Coded.CodesShared, Coded.Coded, CodesPush.codes_marked, CodesPop.codes_taken, CodesPop.codes_passed, CodesPop.codes_entered}
-use Rattle.queue_laws.proofs.Chain.{ChainReads.front_is, ChainAnswers.same_head, ChainAnswers.head_offset, ChainReads.not_given_up}
-use Rattle.queue_laws.specs.Chain.ChainAt.{Only, Either, IsBehind, IsFurther, pop_head, pop_block, pop_tail, taking, following, peeking, passing, entering, awaiting, count_tail, count_head, count_again, empty_head, empty_tail, closing, closed_tail}
+use Rattle.machine_replay.proofs.Chain.{Names.Codes, Blocks.state_is, Gives.block_at, Gives.has_place, Coded.CodesShared, Coded.Coded, Coded.coded_by, CodesPop.codes_taken, CodesPop.codes_passed}
+use Rattle.queue_laws.proofs.Chain.{ChainReads.front_is, ChainAnswers.same_head, ChainAnswers.head_offset, ChainReads.not_given_up, ChainStates.one_block, ChainStates.state_answers}
+use Rattle.queue_laws.specs.Chain.ChainAt.{Only, Either, IsBehind, IsFurther, taking, following, peeking, passing, awaiting}
 
 module _ {A : Type 0} (c : Chain A) (who : ℕ) (ms : List (State A)) (ok : Bool) (s : MemoryState A) where
-  -- V1: the head is read
-  pub coded_pop_head : (none : HoldsOnly c who Nothing) → ChainOk c → CodesShared s c → Coded c who ms ok s (pop_head none)
-  coded_pop_head none right codes = record {
-    touches = tt;
-    operates = tt;
-    answers = ap (λ w. Answer.Found w) codes.head_is;
-    carried = refl;
-    codes = λ fine gives. codes_left who (chain_next chain.PopHead (Answer.Found s.head)) fine gives codes;
-  }
-
-  -- V2: the poppers' block is read
-  pub coded_pop_block : (n : ℕ) (more : Bool) (none : HoldsOnly c who Nothing) (is : HeadIs c n) (room : IsMore c n more)
-      → ChainOk c → CodesShared s c → Coded c who ms ok s (pop_block n more none is room)
-  coded_pop_block n more none is room right codes = record {
-    touches = tt;
-    operates = tt;
-    answers = ap (λ w. Answer.Linked w) codes.front_is;
-    carried = refl;
-    codes = λ fine gives. codes_left who (chain_next (chain.PopBlock (head_of n more)) (Answer.Linked s.head_block)) fine gives codes;
-  }
-
-  -- V3: the tail is read after that head
-  pub coded_pop_tail : (n : ℕ) (block : Option ℕ) (none : HoldsOnly c who Nothing) (is : HeadIs c n) (front : HeadBlockRead c n block)
-      → ChainOk c → CodesShared s c → Coded c who ms ok s (pop_tail n block none is front)
-  coded_pop_tail n block none is front right codes = record {
-    touches = tt;
-    operates = tt;
-    answers = ap (λ w. Answer.Found w) codes.tail_is;
-    carried = refl;
-    codes = λ fine gives. codes_left who (chain_next (chain.PopTail (head_of n false) block) (Answer.Found s.tail)) fine gives codes;
-  }
-
   -- V4: the head is exchanged, by which the front is taken
   pub coded_taking : (n name next : ℕ) (more new : Bool) (none : HoldsOnly c who Nothing) (front : HeadIs c n) (there : HeadBlockIs c n name) (word_is : n < c.tail) (room : next ≡ place n * 2 + TAIL_STEP + (if new then 1 else 0)) (least : IsMore c n new)
       → ChainOk c → CodesShared s c → Coded c who ms ok s (taking n name next more new none front there word_is room least)
-  coded_taking n name after more new none is front lt word_is room right codes = record {
-    touches = tt;
-    operates = tt;
-    answers = ap (λ w. Answer.Found w) codes.head_is;
-    carried = refl;
-    codes = λ fine gives. codes_left who (chain_next (chain.Taking (head_of n more) name) (Answer.Found s.head)) fine gives
-        (subst (λ w. CodesShared (moved (w == head_of n more)) (if_taken c who n more new)) (sym codes.head_is) (go (eqb_tells (head_word c) (head_of n more))));
-  }
+  coded_taking n name after more new none is front lt word_is room right codes =
+      coded_by (taking n name after more new none is front lt word_is room) tt tt (ap (λ w. Answer.Found w) codes.head_is) refl
+      (subst (λ w. CodesShared (moved (w == head_of n more)) (if_taken c who n more new)) (sym codes.head_is) (go (eqb_tells (head_word c) (head_of n more))))
     where
       moved : Bool → MemoryState A
       moved b = record s { head = either b after s.head }
@@ -101,13 +64,7 @@ module _ {A : Type 0} (c : Chain A) (who : ℕ) (ms : List (State A)) (ok : Bool
       → ChainOk c → CodesShared s c → Coded c who ms ok s (following x n name more holds got pass)
   coded_following x n name more holds got pass right codes =
       let links = link_answers s (n / BLOCK_SLOTS) name right got.named (not_given_up c n right (unread_got c n who got.mine)) codes in
-      record {
-        touches = tt;
-        operates = links.0;
-        answers = links.1;
-        carried = refl;
-        codes = λ fine gives. codes_left who (chain_next (chain.Following (head_of n more) name) (Answer.Linked (behind s.blocks name))) fine gives codes;
-      }
+      coded_by (following x n name more holds got pass) tt links.0 links.1 refl codes
 
 -- the items behind the head are not read
 unread_ahead : {A : Type 0} (c : Chain A) (n : ℕ) → ChainOk c → c.head ≤ n → c.readers n ≢ Done
@@ -129,13 +86,7 @@ module _ {A : Type 0} (c : Chain A) (who : ℕ) (ms : List (State A)) (ok : Bool
       let next_block : c.head / BLOCK_SLOTS ≡ n / BLOCK_SLOTS + 1 = omega arith in
       let on = subst (λ b. c.walks b ≢ GivenUp) next_block (not_given_up c c.head right (unread_ahead c c.head right (omega arith))) in
       let links = link_answers s (n / BLOCK_SLOTS + 1) after right behind_it.1 on codes in
-      record {
-        touches = tt;
-        operates = links.0;
-        answers = links.1;
-        carried = refl;
-        codes = λ fine gives. codes_left who (chain_next (chain.Peeking (head_of n more) name after) (Answer.Linked (behind s.blocks after))) fine gives codes;
-      }
+      coded_by (peeking x n name after more holds got pass behind_it) tt links.0 links.1 refl codes
 
   -- V7: the next block is shown to the poppers
   pub coded_passing : (x : A) (n name after : ℕ) (more further : Bool) (holds : HoldsOnly c who (Either (Read n) Head)) (got : Got c who n x name) (pass : (c.passer ≡ Passing who) × (c.head ≡ n + 1)) (behind_it : IsBehind c n after) (room : IsFurther c n further)
@@ -144,24 +95,7 @@ module _ {A : Type 0} (c : Chain A) (who : ℕ) (ms : List (State A)) (ok : Bool
       let front : FrontOk c.head c.front (Passing who) = subst (λ p. FrontOk c.head c.front p) pass.0 right.fronted in
       let at_n = pass.1 in
       let front_is : n / BLOCK_SLOTS + 1 ≡ c.front + 1 = omega arith in
-      record {
-        touches = tt;
-        operates = tt;
-        answers = refl;
-        carried = refl;
-        codes = λ fine gives. codes_left who (chain_next (chain.Passing (head_of n more) name further) Answer.Done) fine gives (codes_passed who after right pass.0 (subst (λ b. IsNamed c b after) front_is behind_it.1) codes);
-      }
-
-  -- V8: the head moves on to the next block
-  pub coded_entering : (x : A) (n name : ℕ) (more further : Bool) (holds : HoldsOnly c who (Either (Read n) Head)) (got : Got c who n x name) (enters : (c.passer ≡ Entering who) × (c.head ≡ n + 1)) (room : IsFurther c n further)
-      → ChainOk c → CodesShared s c → Coded c who ms ok s (entering x n name more further holds got enters room)
-  coded_entering x n name more further holds got enters room right codes = record {
-    touches = tt;
-    operates = tt;
-    answers = refl;
-    carried = refl;
-    codes = λ fine gives. codes_left who (chain_next (chain.Entering (head_of n more) name) Answer.Done) fine gives (codes_entered who n more further right enters.0 enters.1 codes);
-  }
+      coded_by (passing x n name after more further holds got pass behind_it room) tt tt refl refl (codes_passed who after right pass.0 (subst (λ b. IsNamed c b after) front_is behind_it.1) codes)
 
   -- V9: the slot's state is read, until its item is written
   pub coded_awaiting : (x : A) (n name : ℕ) (more : Bool) (holds : HoldsOnly c who (Only (Read n))) (got : Got c who n x name)
@@ -173,76 +107,5 @@ module _ {A : Type 0} (c : Chain A) (who : ℕ) (ms : List (State A)) (ok : Bool
       let slot = head_offset n more in
       let low : i < BLOCK_SLOTS = omega arith in
       let at : item_at (n / BLOCK_SLOTS) i ≡ n = omega arith in
-      record {
-        touches = tt;
-        operates = has_place s.blocks (n / BLOCK_SLOTS) name i block.0 block.1 block.2 low;
-        answers = state_answers s.blocks (n / BLOCK_SLOTS) name i (state_of s.blocks name i) block.0 right got.named block.2 low (λ last e. unread (ap c.readers (sym at) ∙ e)) (state_is s.blocks name i block.0 block.1);
-        carried = refl;
-        codes = λ fine gives. codes_left who (chain_next (chain.Awaiting (head_of n more) name) (Answer.Found (state_of s.blocks name i))) fine gives codes;
-      }
-
-  -- the steps of a count
-  pub coded_count_tail : (l : Look) (count : IsCount A l) (none : HoldsOnly c who Nothing) → ChainOk c → CodesShared s c → Coded c who ms ok s (count_tail l count none)
-  coded_count_tail l count none right codes = record {
-    touches = tt;
-    operates = tt;
-    answers = ap (λ w. Answer.Found w) codes.tail_is;
-    carried = refl;
-    codes = λ fine gives. codes_left who (chain_next (chain.CountTail l) (Answer.Found s.tail)) fine gives codes;
-  }
-
-  pub coded_count_head : (l : Look) (t : ℕ) (count : IsCount A l) (none : HoldsOnly c who Nothing) (small : IsWord t) (low : items_before (position_of t) ≤ c.tail) → ChainOk c → CodesShared s c → Coded c who ms ok s (count_head l t count none small low)
-  coded_count_head l t count none small low right codes = record {
-    touches = tt;
-    operates = tt;
-    answers = ap (λ w. Answer.Found w) codes.head_is;
-    carried = refl;
-    codes = λ fine gives. codes_left who (chain_next (chain.CountHead l t) (Answer.Found s.head)) fine gives codes;
-  }
-
-  pub coded_count_again : (l : Look) (t h : ℕ) (count : IsCount A l) (none : HoldsOnly c who Nothing) (small : IsWord t × IsWord h)
-      (seen : SeenIn ms (HeadWas None (items_before (position_of h)) (items_before (position_of t)) c.tail)) → ChainOk c → CodesShared s c → Coded c who ms ok s (count_again l t h count none small seen)
-  coded_count_again l t h count none small seen right codes = record {
-    touches = tt;
-    operates = tt;
-    answers = ap (λ w. Answer.Found w) codes.tail_is;
-    carried = refl;
-    codes = λ fine gives. codes_left who (chain_next (chain.CountAgain l t h) (Answer.Found s.tail)) fine gives codes;
-  }
-
-  -- the steps of is_empty, close and is_closed
-  pub coded_empty_head : (none : HoldsOnly c who Nothing) → ChainOk c → CodesShared s c → Coded c who ms ok s (empty_head none)
-  coded_empty_head none right codes = record {
-    touches = tt;
-    operates = tt;
-    answers = ap (λ w. Answer.Found w) codes.head_is;
-    carried = refl;
-    codes = λ fine gives. codes_left who (chain_next chain.EmptyHead (Answer.Found s.head)) fine gives codes;
-  }
-
-  pub coded_empty_tail : (h : ℕ) (none : HoldsOnly c who Nothing) (small : IsWord h) (saw : SawEmpty (items_before (position_of h)) c ms) → ChainOk c → CodesShared s c → Coded c who ms ok s (empty_tail h none small saw)
-  coded_empty_tail h none small saw right codes = record {
-    touches = tt;
-    operates = tt;
-    answers = ap (λ w. Answer.Found w) codes.tail_is;
-    carried = refl;
-    codes = λ fine gives. codes_left who (chain_next (chain.EmptyTail h) (Answer.Found s.tail)) fine gives codes;
-  }
-
-  pub coded_closing : (none : HoldsOnly c who Nothing) → ChainOk c → CodesShared s c → Coded c who ms ok s (closing none)
-  coded_closing none right codes = record {
-    touches = tt;
-    operates = tt;
-    answers = ap (λ w. Answer.Found w) codes.tail_is;
-    carried = refl;
-    codes = λ fine gives. codes_left who (chain_next chain.Closing (Answer.Found s.tail)) fine gives (codes_marked codes);
-  }
-
-  pub coded_closed_tail : (none : HoldsOnly c who Nothing) → ChainOk c → CodesShared s c → Coded c who ms ok s (closed_tail none)
-  coded_closed_tail none right codes = record {
-    touches = tt;
-    operates = tt;
-    answers = ap (λ w. Answer.Found w) codes.tail_is;
-    carried = refl;
-    codes = λ fine gives. codes_left who (chain_next chain.ClosedTail (Answer.Found s.tail)) fine gives codes;
-  }
+      let state : IsState c (n / BLOCK_SLOTS) i (state_of s.blocks name i) = subst (λ m. IsState c (n / BLOCK_SLOTS) i m) (sym (state_is s.blocks name i block.0 block.1)) (block.2.state i low (λ last e. unread (ap c.readers (sym at) ∙ e))) in
+      coded_by (awaiting x n name more holds got) tt (has_place s.blocks (n / BLOCK_SLOTS) name i block.0 block.1 block.2 low) (state_answers c (n / BLOCK_SLOTS) name i (state_of s.blocks name i) right got.named state) refl codes

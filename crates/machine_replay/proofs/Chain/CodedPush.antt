@@ -1,61 +1,19 @@
 -- The shared memory at each step of a push on a chain.
-use Rattle.std.proofs.Common.{ℕ, ◌+◌, ◌/◌, ◌%◌, ◌<◌, ◌≤◌, ◌≡◌, ◌≢◌, ◌==◌, ◌^◌, ◌∙◌, ◌⊎◌, inl, inr, zero, suc, Bool, true, false, if◌then◌else◌, Option, Some, None, IsSome, List, length, refl, sym, ap, subst, arith, get_or, bit_or}
+use Rattle.std.proofs.Common.{ℕ, ◌+◌, ◌/◌, ◌%◌, ◌<◌, ◌≡◌, ◌≢◌, ◌==◌, ◌^◌, ◌∙◌, ◌⊎◌, inl, inr, zero, suc, Bool, true, false, if◌then◌else◌, Option, Some, None, IsSome, List, length, refl, sym, ap, subst, arith, get_or, bit_or}
 use Rattle.std.proofs.lemmas.{List.length-set, Bool.Decides.eqb_tells}
-use Rattle.machine_replay.specs.Vocabulary.{Answer, Next, PushKind, LIMIT, BLOCK_SLOTS, TAIL_STEP, WRITE}
-use Rattle.queue_steps.specs.{State.State, ChainWords.offset_of, ChainNext.chain_next, ChainNext.chain_tail_found, declared.steps.chain.ChainLocal.ChainLocal as chain}
-use Rattle.queue_laws.specs.Chain.ChainCells.{Done, Rests, Laying, Opening, Linking, Showing, Spare, Chain, ChainOk, Write, Tail, Next as Behind, First, HoldsOnly, Nothing, item_at}
-use Rattle.queue_laws.specs.Chain.{ChainAnswers.tail_word, ChainAnswers.last_of, ChainAnswers.is_done, ChainAfter.left_by, ChainAfter.if_installed, ChainAfter.claimed_if, ChainAfter.if_claimed, ChainTransitions.appended}
+use Rattle.machine_replay.specs.Vocabulary.{Answer, Next, PushKind, BLOCK_SLOTS, TAIL_STEP, WRITE}
+use Rattle.queue_steps.specs.{State.State, ChainWords.offset_of, ChainNext.chain_next, declared.steps.chain.ChainLocal.ChainLocal as chain}
+use Rattle.queue_laws.specs.Chain.ChainCells.{Done, Rests, Laying, Opening, Linking, Spare, Chain, ChainOk, Write, Tail, Next as Behind, HoldsOnly, Nothing, item_at}
+use Rattle.queue_laws.specs.Chain.{ChainAnswers.tail_word, ChainAnswers.last_of, ChainAnswers.is_done, ChainAnswers.IsState, ChainAfter.left_by, ChainAfter.if_installed, ChainAfter.claimed_if, ChainAfter.if_claimed, ChainTransitions.appended}
 use Rattle.queue_laws.specs.Chain.ChainFacts.{open_tail_of, IsNamed, TailBlockIs, HasSpare, SawTail, Claimed}
-use Rattle.queue_laws.proofs.Chain.{ChainAnswers.tail_small, ChainAnswers.same_tail, ChainRight.Gives, ChainReads.not_given_up}
+use Rattle.queue_laws.proofs.Chain.{ChainAnswers.tail_small, ChainAnswers.same_tail, ChainRight.Gives, ChainReads.not_given_up, ChainStates.unread_item, ChainStates.state_answers}
 use prog.Atomic.{either}
 use Rattle.machine_memory.specs.{Blocks.without, Blocks.blank, Blocks.places_in, Blocks.state_of, Blocks.put_state, Blocks.put_item, SharedMemory.MemoryState, SharedMemory.installed}
 use Rattle.machine_steps.specs.Steps.{spare_in}
-use Rattle.machine_replay.proofs.Chain.{Codes.lies, Names.Codes, Names.Changed, Blocks.placed, Blocks.place_in, Blocks.item_put, Blocks.next_put, Blocks.state_left, Blocks.both_put, Gives.codes_left, Gives.block_at, Gives.has_place, Gives.state_answers, Coded.CodesShared, Coded.Coded}
-use Rattle.machine_replay.proofs.Chain.{CodesPush.codes_marked, CodesPush.codes_granted, CodesPush.codes_installed, CodesPush.codes_displayed, CodesPush.codes_appended, CodesPush.codes_laid_out, CodesPush.codes_opened, CodesAt.unread_item, CodesAt.codes_chained, CodesAt.codes_written}
+use Rattle.machine_replay.proofs.Chain.{Codes.lies, Names.Codes, Names.Changed, Blocks.placed, Blocks.place_in, Blocks.item_put, Blocks.next_put, Blocks.state_left, Blocks.both_put, Gives.codes_left, Gives.block_at, Gives.has_place, Coded.CodesShared, Coded.Coded, Coded.coded_by}
+use Rattle.machine_replay.proofs.Chain.{CodesPush.codes_installed, CodesPush.codes_appended, CodesPush.codes_opened, CodesAt.codes_chained, CodesAt.codes_written}
 use Rattle.queue_laws.specs.Chain.ChainTransitions as moves
-use Rattle.queue_laws.specs.Chain.ChainAt.{Only, Either, IsLast, Asks, push_tail, push_block, asking, installing, showing, claiming, laying, opening, chaining, writing, spending}
-
-module _ {A : Type 0} (c : Chain A) (who : ℕ) (ms : List (State A)) (ok : Bool) (s : MemoryState A) where
-  -- U1: the tail is read
-  pub coded_push_tail : (d : PushKind) (v : A) (spare : Option ℕ) (none : HoldsOnly c who Nothing) (spare_is : HasSpare c who spare)
-      → ChainOk c → CodesShared s c → Coded c who ms ok s (push_tail d v spare none spare_is)
-  coded_push_tail d v spare none spare_is right codes = record {
-    touches = tt;
-    operates = tt;
-    answers = ap (λ w. Answer.Found w) codes.tail_is;
-    carried = refl;
-    codes = λ fine gives. codes_left who (chain_tail_found d s.tail spare) fine gives codes;
-  }
-
-  -- U2: the pushers' block is read
-  pub coded_push_block : (d : PushKind) (v : A) (spare : Option ℕ) (q : ℕ) (none : HoldsOnly c who Nothing) (spare_is : HasSpare c who spare) (saw : SawTail c q ms)
-      → ChainOk c → CodesShared s c → Coded c who ms ok s (push_block d v spare q none spare_is saw)
-  coded_push_block d v spare q none spare_is saw right codes = record {
-    touches = tt;
-    operates = tt;
-    answers = ap (λ w. Answer.Linked w) codes.last_is;
-    carried = refl;
-    codes = λ fine gives. codes_left who (chain_next (chain.PushBlock d (open_tail_of q) spare) (Answer.Linked s.tail_block)) fine gives codes;
-  }
-
-module _ {A : Type 0} (c : Chain A) (who : ℕ) (ms : List (State A)) where
-  -- U3: a block is asked for
-  pub coded_asking : (ok : Bool) (s : MemoryState A) (d : PushKind) (v : A) (q : ℕ) (block : Option ℕ) (none : HoldsOnly c who Nothing) (saw : SawTail c q ms) (asked : Asks c q block)
-      → ChainOk c → CodesShared s c → Coded c who ms ok s (asking d v q block none saw asked)
-  coded_asking false s d v q block none saw asked right codes = record {
-    touches = tt;
-    operates = tt;
-    answers = inl refl;
-    carried = refl;
-    codes = λ fine gives. codes_left who (chain_next (chain.Asking d (open_tail_of q) block) Answer.Refused) fine gives codes;
-  }
-  coded_asking true s d v q block none saw asked right codes = record {
-    touches = tt;
-    operates = tt;
-    answers = inr (length s.blocks, refl, codes.unused (length s.blocks) (omega arith));
-    carried = refl;
-    codes = λ fine gives. codes_left who (chain_next (chain.Asking d (open_tail_of q) block) (Answer.Granted (length s.blocks))) fine gives (codes_granted who codes);
-  }
+use Rattle.queue_laws.specs.Chain.ChainAt.{Only, Either, IsLast, installing, claiming, opening, chaining, writing}
 
 module _ {A : Type 0} (c : Chain A) (who : ℕ) (ms : List (State A)) (ok : Bool) (s : MemoryState A) where
   -- U4: the first block is installed
@@ -82,28 +40,12 @@ module _ {A : Type 0} (c : Chain A) (who : ℕ) (ms : List (State A)) (ok : Bool
           subst (λ t. Codes (left_by c n) s.head s.tail s.head_block t (without (spare_in n) s.blocks)) (last ∙ sym (ap (λ t. installed t f) last))
           (codes_left who n fine gives codes)
 
-  -- U4b: the first block is shown to the poppers
-  pub coded_showing : (d : PushKind) (v : A) (name : ℕ) (first : HoldsOnly c who (Only First)) (saw : SawTail c 0 ms) (is : c.shown ≡ Showing who) (named : IsNamed c 0 name)
-      → ChainOk c → CodesShared s c → Coded c who ms ok s (showing d v name first saw is named)
-  coded_showing d v name first saw is named right codes = record {
-    touches = tt;
-    operates = tt;
-    answers = refl;
-    carried = refl;
-    codes = λ fine gives. codes_left who (chain_next (chain.Showing d (open_tail_of 0) name) Answer.Done) fine gives (codes_displayed who name right is named codes);
-  }
-
   -- U5: the tail is exchanged, by which an item is appended
   pub coded_claiming : (d : PushKind) (v : A) (q name : ℕ) (spare : Option ℕ) (none : HoldsOnly c who Nothing) (spare_is : HasSpare c who spare) (saw : SawTail c q ms) (block : TailBlockIs c q name) (enough : IsLast q → IsSome spare)
       → ChainOk c → CodesShared s c → Coded c who ms ok s (claiming d v q name spare none spare_is saw block enough)
-  coded_claiming d v q name spare none spare_is saw block enough right codes = record {
-    touches = tt;
-    operates = tt;
-    answers = ap (λ w. Answer.Found w) codes.tail_is;
-    carried = refl;
-    codes = λ fine gives. codes_left who (chain_next (chain.Claiming d (open_tail_of q) name spare) (Answer.Found s.tail)) fine gives
-        (subst (λ w. CodesShared (moved (w == open_tail_of q)) (if_claimed c who q v)) (sym codes.tail_is) (go (eqb_tells (tail_word c) (open_tail_of q))));
-  }
+  coded_claiming d v q name spare none spare_is saw block enough right codes =
+      coded_by (claiming d v q name spare none spare_is saw block enough) tt tt (ap (λ w. Answer.Found w) codes.tail_is) refl
+      (subst (λ w. CodesShared (moved (w == open_tail_of q)) (if_claimed c who q v)) (sym codes.tail_is) (go (eqb_tells (tail_word c) (open_tail_of q))))
     where
       moved : Bool → MemoryState A
       moved b = record s { tail = either b (open_tail_of q + TAIL_STEP) s.tail }
@@ -125,34 +67,17 @@ module _ {A : Type 0} (c : Chain A) (who : ℕ) (ms : List (State A)) (ok : Bool
       go (inl e) = subst (λ b. CodesShared (moved b) (claimed_if c who v b (offset_of (open_tail_of q) + 1 == BLOCK_SLOTS))) (sym e.0) (won e.1 (eqb_tells (offset_of (open_tail_of q) + 1) BLOCK_SLOTS))
       go (inr e) = subst (λ b. CodesShared (moved b) (claimed_if c who v b (offset_of (open_tail_of q) + 1 == BLOCK_SLOTS))) (sym e.0) codes
 
-  -- U6: the spare becomes the pushers' block
-  pub coded_laying : (d : PushKind) (v : A) (n name f : ℕ) (holds : HoldsOnly c who (Either (Write n) Tail)) (mine : Claimed c who n v name) (lays : (c.mover ≡ Laying who) × (c.tail ≡ n + 1)) (fresh : c.uses f ≡ Spare who)
-      → ChainOk c → CodesShared s c → Coded c who ms ok s (laying d v n name f holds mine lays fresh)
-  coded_laying d v n name f holds mine lays fresh right codes = record {
-    touches = tt;
-    operates = tt;
-    answers = refl;
-    carried = refl;
-    codes = λ fine gives. codes_left who (chain_next (chain.Laying d (open_tail_of n) name f) Answer.Done) fine gives (codes_laid_out who f right lays.0 fresh codes);
-  }
-
   -- U7: the tail moves on to the next block
   pub coded_opening : (d : PushKind) (v : A) (n name f : ℕ) (holds : HoldsOnly c who (λ x. (x ≡ Write n) ⊎ (x ≡ Tail) ⊎ (x ≡ Behind (n / BLOCK_SLOTS))))
       (mine : Claimed c who n v name) (opens : (c.mover ≡ Opening who) × (c.tail ≡ n + 1)) (links : c.links (n / BLOCK_SLOTS) ≡ Linking who) (named : IsNamed c (n / BLOCK_SLOTS + 1) f)
       → ChainOk c → CodesShared s c → Coded c who ms ok s (opening d v n name f holds mine opens links named)
-  coded_opening d v n name f holds mine opens links named right codes = record {
-    touches = tt;
-    operates = (tt, small);
-    answers = ap (λ w. Answer.Found w) codes.tail_is;
-    carried = refl;
-    codes = λ fine gives. codes_left who (chain_next (chain.Opening d (open_tail_of n) name f) (Answer.Found s.tail)) fine gives (subst (λ t. Codes (moves.opened c) s.head t s.head_block s.tail_block s.blocks) (sym fits) (codes_opened who right opens.0 codes));
-  }
-    where
-      small : s.tail + TAIL_STEP < 2 ^ 64
-      small = let low = tail_small c right in let is = codes.tail_is in omega arith
-
-      fits : (s.tail + TAIL_STEP) % 2 ^ 64 ≡ s.tail + TAIL_STEP
-      fits = let low = small in omega arith
+  coded_opening d v n name f holds mine opens links named right codes =
+      let low = tail_small c right in
+      let is = codes.tail_is in
+      let small : s.tail + TAIL_STEP < 2 ^ 64 = omega arith in
+      let fits : (s.tail + TAIL_STEP) % 2 ^ 64 ≡ s.tail + TAIL_STEP = omega arith in
+      coded_by (opening d v n name f holds mine opens links named) tt (tt, small) (ap (λ w. Answer.Found w) codes.tail_is) refl
+      (subst (λ t. Codes (moves.opened c) s.head t s.head_block s.tail_block s.blocks) (sym fits) (codes_opened who right opens.0 codes))
 
   -- U8: the block is linked to the next one
   pub coded_chaining : (d : PushKind) (v : A) (n name f : ℕ) (holds : HoldsOnly c who (Either (Write n) (Behind (n / BLOCK_SLOTS)))) (mine : Claimed c who n v name) (links : c.links (n / BLOCK_SLOTS) ≡ Linking who) (named : IsNamed c (n / BLOCK_SLOTS + 1) f)
@@ -160,13 +85,7 @@ module _ {A : Type 0} (c : Chain A) (who : ℕ) (ms : List (State A)) (ok : Bool
   coded_chaining d v n name f holds mine links named right codes =
       let on = not_given_up c n right (unread_item c n who v right mine.mine) in
       let x = block_at (n / BLOCK_SLOTS) name right mine.named on codes in
-      record {
-        touches = tt;
-        operates = subst (λ y. IsSome y) (sym x.1) refl;
-        answers = refl;
-        carried = refl;
-        codes = λ fine gives. codes_left who (chain_next (chain.Chaining d (open_tail_of n) name f) Answer.Done) fine gives (codes_chained (n / BLOCK_SLOTS) name f x.0 right mine.named named on x.2 (next_put s.blocks name (Some f) x.0 x.1) codes);
-      }
+      coded_by (chaining d v n name f holds mine links named) tt (subst (λ y. IsSome y) (sym x.1) refl) refl refl (codes_chained (n / BLOCK_SLOTS) name f x.0 right mine.named named on x.2 (next_put s.blocks name (Some f) x.0 x.1) codes)
 
   -- U9: the item is written into its slot
   pub coded_writing : (d : PushKind) (v : A) (n name : ℕ) (spare : Option ℕ) (holds : HoldsOnly c who (Only (Write n))) (mine : Claimed c who n v name) (spare_is : HasSpare c who spare)
@@ -177,17 +96,14 @@ module _ {A : Type 0} (c : Chain A) (who : ℕ) (ms : List (State A)) (ok : Bool
       let wide : i < length x.0.places = subst (λ m. i < m) (sym x.2.wide) low in
       let word = state_left s.blocks name i (Some v) x.0 x.1 wide in
       let put = item_put s.blocks name i (Some v) x.0 x.1 in
-      record {
-        touches = has_place s.blocks (n / BLOCK_SLOTS) name i x.0 x.1 x.2 low;
-        operates = subst (λ y. i < length (places_in y)) (sym put.here) (subst (λ m. i < m) (sym (length-set x.0.places i (record (place_in x.0 i) { item = Some v }))) wide);
-        answers = state_answers s.blocks (n / BLOCK_SLOTS) name i (state_of (put_item s.blocks name i (Some v)) name i) x.0 right mine.named x.2 low (λ last e. unread (ap c.readers (sym at) ∙ e)) word;
-        carried = ap (λ y. (get_or (places_in y) i blank).item) x.1 ∙ (x.2.slot i low ∙ empty);
-        codes = λ fine gives. codes_left who (chain_next (chain.Writing d spare) (Answer.Found (state_of (put_item s.blocks name i (Some v)) name i))) fine gives
-            (codes_written who n i name v x.0 right mine.mine low at mine.named on x.2
-            (subst (λ m. Changed s.blocks (put_state (put_item s.blocks name i (Some v)) name i (bit_or (state_of (put_item s.blocks name i (Some v)) name i) WRITE)) name (Some (placed x.0 i (record { state = bit_or m WRITE; item = Some v })))) word
-            (both_put s.blocks name i (bit_or (state_of (put_item s.blocks name i (Some v)) name i) WRITE) (Some v) x.0 x.1 wide))
-            codes);
-      }
+      coded_by (writing d v n name spare holds mine spare_is) (has_place s.blocks (n / BLOCK_SLOTS) name i x.0 x.1 x.2 low)
+      (subst (λ y. i < length (places_in y)) (sym put.here) (subst (λ m. i < m) (sym (length-set x.0.places i (record (place_in x.0 i) { item = Some v }))) wide))
+      (state_answers c (n / BLOCK_SLOTS) name i (state_of (put_item s.blocks name i (Some v)) name i) right mine.named (subst (λ m. IsState c (n / BLOCK_SLOTS) i m) (sym word) (x.2.state i low (λ last e. unread (ap c.readers (sym at) ∙ e)))))
+      (ap (λ y. (get_or (places_in y) i blank).item) x.1 ∙ (x.2.slot i low ∙ empty))
+      (codes_written who n i name v x.0 right mine.mine low at mine.named on x.2
+      (subst (λ m. Changed s.blocks (put_state (put_item s.blocks name i (Some v)) name i (bit_or (state_of (put_item s.blocks name i (Some v)) name i) WRITE)) name (Some (placed x.0 i (record { state = bit_or m WRITE; item = Some v })))) word
+      (both_put s.blocks name i (bit_or (state_of (put_item s.blocks name i (Some v)) name i) WRITE) (Some v) x.0 x.1 wide))
+      codes)
     where
       i : ℕ
       i = offset_of (open_tail_of n)
@@ -210,14 +126,3 @@ module _ {A : Type 0} (c : Chain A) (who : ℕ) (ms : List (State A)) (ok : Bool
           none_lies : (b : Bool) → (let nothing : Option A = None in (if b then nothing else nothing) ≡ nothing)
           none_lies true = refl
           none_lies false = refl
-
-  -- US: the mark of a queue that has accepted all that it ever will
-  pub coded_spending : (d : PushKind) (v : A) (spare : Option ℕ) (none : HoldsOnly c who Nothing) (spare_is : HasSpare c who spare) (spent : LIMIT ≤ c.tail)
-      → ChainOk c → CodesShared s c → Coded c who ms ok s (spending d v spare none spare_is spent)
-  coded_spending d v spare none spare_is spent right codes = record {
-    touches = tt;
-    operates = tt;
-    answers = ap (λ w. Answer.Found w) codes.tail_is;
-    carried = refl;
-    codes = λ fine gives. codes_left who (chain_next (chain.ClosingAtLimit d spare) (Answer.Found s.tail)) fine gives (codes_marked codes);
-  }

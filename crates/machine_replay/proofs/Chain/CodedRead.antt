@@ -1,17 +1,18 @@
 -- The shared memory at each step of a pop on a chain that reads its item or walks over a passed block.
-use Rattle.std.proofs.Common.{ℕ, ◌+◌, ◌/◌, ◌%◌, ◌<◌, ◌≡◌, ◌≢◌, ◌==◌, ◌∙◌, ◌⊎◌, inl, inr, Bool, true, false, if◌then◌else◌, Option, Some, None, List, length, refl, sym, ap, subst, arith, get_or, bit_or}
-use Rattle.std.proofs.{lemmas.List.length-set, lemmas.Bool.le-ltb, lemmas.Bool.lt-ltb, lemmas.Bool.ne_eqb, Common.not, Common.Ok, Common.bit_and, Common.get_or-set_other}
+use Rattle.std.proofs.Common.{ℕ, ◌+◌, ◌/◌, ◌%◌, ◌<◌, ◌≡◌, ◌≢◌, ◌==◌, ◌∙◌, inl, inr, Bool, true, false, if◌then◌else◌, Option, Some, None, List, length, refl, sym, ap, subst, arith, get_or, bit_or}
+use Rattle.std.proofs.{lemmas.List.length-set, lemmas.Bool.ne_eqb, Common.not, Common.Ok, Common.bit_and, Common.get_or-set_other}
 use Rattle.machine_replay.specs.Vocabulary.{Reply, Word, Op, Touch, Answer, Next, BLOCK_SLOTS, READ, DESTROY}
-use Rattle.queue_steps.specs.{State.State, ChainWords.offset_of, ChainNext.at, ChainNext.walks, ChainNext.walks_on, declared.steps.chain.ChainLocal.ChainLocal as chain}
+use Rattle.queue_steps.specs.{State.State, ChainWords.offset_of, ChainNext.at, ChainNext.walks_on, declared.steps.chain.ChainLocal.ChainLocal as chain}
 use Rattle.queue_laws.specs.Chain.ChainCells.{Wrote, Reading, Done, Walker, Waits, GivenUp, Chain, ChainOk, Read, Passed, HoldsOnly, item_at, LAST, Walk, Before, Chained, WalkOk}
 use Rattle.queue_laws.specs.Chain.{ChainFacts.head_of, ChainFacts.IsNamed, ChainFacts.Got, ChainAfter.left_by, ChainTransitions.walk_after, ChainTransitions.reads, ChainTransitions.walked, ChainAnswers.is_done, ChainAnswers.waits_at, ChainAnswers.IsState, ChainAnswers.StateAnswers}
 use Rattle.queue_laws.specs.Chain.ChainAt.{Only, IsLast, reading, beginning, walking, destroying}
 use Rattle.machine_memory.specs.{Blocks.place_count, Blocks.BlockState, Blocks.without, Blocks.blank, Blocks.places_in, Blocks.state_of, Blocks.put_item, Blocks.put_state, SharedMemory.MemoryState, declared.blocks.BlockPlace.BlockPlace}
 use Rattle.machine_steps.specs.Steps.{spare_in}
-use Rattle.machine_replay.proofs.Chain.{Names.Codes, Names.Changed, Gives.block_at, Gives.has_place, Gives.state_answers, Coded.CodesShared, Coded.Coded, Codes.BlockIs, Codes.lies, Fresh.unwalked, Bits.state_waits, Bits.state_passed}
-use Rattle.machine_replay.proofs.Chain.CodesWalk.{Left, codes_read, codes_walked, after_waits, codes_given_block}
+use Rattle.machine_replay.proofs.Chain.{Names.Codes, Names.Changed, Gives.block_at, Gives.has_place, Coded.CodesShared, Coded.Coded, Codes.BlockIs, Codes.lies}
+use Rattle.machine_replay.proofs.Chain.CodesWalk.{Left, codes_read, codes_walked, codes_given_block}
 use Rattle.machine_replay.proofs.Chain.Blocks.{there, place_in, item_put, state_put, state_is, state_left, both_put, placed_same, placed, changed_twice, changed_set, changed_none}
-use Rattle.queue_laws.proofs.{Common.Puts.put_same, Chain.ChainAnswers.done_is, Chain.ChainAnswers.head_offset, Chain.ChainRead.waits_is, Chain.ChainWalk.after_walker, Chain.ChainReads.not_given_up}
+use Rattle.queue_laws.proofs.Common.Puts.{put_same}
+use Rattle.queue_laws.proofs.Chain.{ChainAnswers.done_is, ChainAnswers.head_offset, ChainRead.waits_is, ChainWalk.behind_slot, ChainReads.not_given_up, ChainStates.unwalked, ChainStates.state_answers, ChainStates.state_done, ChainStates.state_waits, ChainStates.state_passed}
 
 -- the blocks after a walk that goes on or gives the block up
 over_blocks : {A : Type 0} {bs cs : List (Option (BlockState A))} {f : ℕ} {x : BlockState A} → Changed bs cs f (Some x) → Changed bs (without (Some f) cs) f None
@@ -20,21 +21,12 @@ over_blocks {cs = cs} {f = f} {x = x} changed = changed_twice changed (changed_s
 -- The walk goes on after a slot, or is over and gives the block up: this is what the blocks are to be after the step, and what the chain is then.
 walk_on : {A : Type 0} {r : Walk → Chain A} {head tail : ℕ} {front last : Option ℕ} {blocks changed : List (Option (BlockState A))} (who slot b name : ℕ) (x : BlockState A)
     → slot < LAST → Changed blocks changed name (Some x) → ((w : Walk) → (r w).uses name ≡ Chained b)
-    → ((w : Walk) (y : Option (BlockState A)) (after : List (Option (BlockState A))) → w ≡ walk_after who slot → Changed blocks after name y → Left w y x → Codes (r w) head tail front last after)
+    → ((w : Walk) (y : Option (BlockState A)) (after : List (Option (BlockState A))) → ((j : ℕ) → waits_at w j ≡ false) → Changed blocks after name y → Left w y x → Codes (r w) head tail front last after)
     → Codes (left_by (r (walk_after who slot)) (walks_on name slot)) head tail front last (without (spare_in (walks_on name slot)) changed)
-walk_on {A} {r = r} {head = head} {tail = tail} {front = front} {last = last} {blocks = blocks} {changed = changed} who slot b name x low now used gives = go (after_walker who slot)
-  where
-    n : Bool → Next ℕ
-    n t = if t then walks name (slot + 1) Touch.Nothing else Next.Reply (Reply.Pop (Ok tt)) (Some name)
-
-    go : ((walk_after who slot ≡ GivenUp) × (slot + 1 ≡ LAST)) ⊎ ((walk_after who slot ≡ Walker who (slot + 1)) × (slot + 1 ≢ LAST))
-        → Codes (left_by (r (walk_after who slot)) (walks_on name slot)) head tail front last (without (spare_in (walks_on name slot)) changed)
-    go (inl h) =
-        subst (λ t. Codes (left_by (r (walk_after who slot)) (n t)) head tail front last (without (spare_in (n t)) changed)) (sym (le-ltb (slot + 2) BLOCK_SLOTS (let e = h.1 in omega arith)))
-        (codes_given_block b name (used (walk_after who slot)) (gives (walk_after who slot) None (without (Some name) changed) refl (over_blocks now) (inl (h.0, refl))))
-    go (inr h) =
-        subst (λ t. Codes (left_by (r (walk_after who slot)) (n t)) head tail front last (without (spare_in (n t)) changed)) (sym (lt-ltb (slot + 2) BLOCK_SLOTS (let ne = h.1 in omega arith)))
-        (gives (walk_after who slot) (Some x) changed refl now (inr ((λ e. let z : Walker who (slot + 1) ≡ GivenUp = sym h.0 ∙ e in cc), refl)))
+walk_on {r = r} {head = head} {tail = tail} {front = front} {last = last} {changed = changed} who slot b name x low now used gives =
+    behind_slot (λ w n. Codes (left_by (r w) n) head tail front last (without (spare_in n) changed)) who name slot low
+    (λ more. gives (Walker who (slot + 1)) (Some x) changed (λ j. refl) now (inr ((λ e. cc), refl)))
+    (λ over. codes_given_block b name (used GivenUp) (gives GivenUp None (without (Some name) changed) (λ j. refl) (over_blocks now) (inl (refl, refl))))
 
 -- the block that a walk is at, and the state word of the slot there
 record WalkBlock {A : Type 0} (c : Chain A) (s : MemoryState A) (b name slot : ℕ) : Type 0 where
@@ -51,14 +43,15 @@ walk_block c who s b name slot right codes is named =
     let x = block_at b name right named (λ e. let z : Walker who slot ≡ GivenUp = sym is ∙ e in cc) codes in
     let walk : WalkOk c.readers b (Walker who slot) = subst (λ w. WalkOk c.readers b w) is (right.walk b) in
     let low = walk.0 in
+    let state : IsState c b slot (state_of s.blocks name slot) = subst (λ m. IsState c b slot m) (sym (state_is s.blocks name slot x.0 x.1)) (x.2.state slot (omega arith) (λ last. absurd (omega arith))) in
     record {
       x = x.0;
       is = x.1;
       block = x.2;
       low = low;
-      state = subst (λ m. IsState c b slot m) (sym (state_is s.blocks name slot x.0 x.1)) (x.2.state slot (omega arith) (λ last. absurd (omega arith)));
+      state = state;
       placed_in = has_place s.blocks b name slot x.0 x.1 x.2 (omega arith);
-      answers = state_answers s.blocks b name slot (state_of s.blocks name slot) x.0 right named x.2 (omega arith) (λ last. absurd (omega arith)) (state_is s.blocks name slot x.0 x.1);
+      answers = state_answers c b name slot (state_of s.blocks name slot) right named state;
     }
 
 module _ {A : Type 0} (c : Chain A) (who : ℕ) (ms : List (State A)) (ok : Bool) (s : MemoryState A) where
@@ -80,17 +73,15 @@ module _ {A : Type 0} (c : Chain A) (who : ℕ) (ms : List (State A)) (ok : Bool
       n u = if not u then walks_on name slot else at (chain.Destroying name slot) Touch.Nothing (Op.Or (Word.State name slot) DESTROY)
 
       go : (t u : Bool) → is_done (c.readers (item_at b slot)) ≡ t → u ≡ not t → Codes (left_by (if t then walked c b (walk_after who slot) else c) (n u)) s.head s.tail s.head_block s.tail_block (without (spare_in (n u)) s.blocks)
-      go false u done e = subst (λ u. Codes (left_by c (n u)) s.head s.tail s.head_block s.tail_block (without (spare_in (n u)) s.blocks)) (sym e) codes
+      go false u done e = rw e codes
       go true u done e =
-          let same = (let low = at_walk.low in at_walk.block.state slot (omega arith) (λ last. absurd (omega arith))) in
+          let read = done_is (c.readers (item_at b slot)) done in
+          let state = (let low = at_walk.low in at_walk.block.state slot (omega arith) (λ last. absurd (omega arith))) in
           let z = placed at_walk.x slot (place_in at_walk.x slot) in
-          subst (λ u. Codes (left_by (walked c b (walk_after who slot)) (n u)) s.head s.tail s.head_block s.tail_block (without (spare_in (n u)) s.blocks)) (sym e)
+          rw e
           (walk_on {r = λ w. walked c b w} who slot b name z at_walk.low (changed_none at_walk.is (ap (λ y. Some y) (sym (placed_same at_walk.x slot)))) (λ w. ap c.uses named.1 ∙ right.name b named.0)
-          (λ w y after way changed left. codes_walked b slot name w (place_in at_walk.x slot) y at_walk.x right at_walk.low named at_walk.block
-          (λ j ne. ap (λ v. waits_at v j) way ∙ (after_waits who slot j ∙ sym (ap (λ v. waits_at v j) is)))
-          refl
-          (record { written = same.written; read = same.read; destroyed = λ ne. absurd (ne (done_is (c.readers (item_at b slot)) done)) })
-          changed left codes))
+          (λ w y after none changed left. codes_walked b slot name w (place_in at_walk.x slot) y at_walk.x right at_walk.low named at_walk.block (λ j ne. none j ∙ sym (ap (λ v. waits_at v j) is)) refl
+          (state_done c (walked c b w) b slot (place_in at_walk.x slot).state refl read read state) changed left codes))
 
   -- W2: the reader of a passed block's slot has to go on with the walk
   pub coded_destroying : (x : A) (b name slot : ℕ) (holds : HoldsOnly c who (Only (Passed b))) (is : c.walks b ≡ Walker who slot) (named : IsNamed c b name)
@@ -121,7 +112,7 @@ module _ {A : Type 0} (c : Chain A) (who : ℕ) (ms : List (State A)) (ok : Bool
       go : (t u : Bool) → is_done (c.readers (item_at b slot)) ≡ t → u ≡ not t
           → Codes (left_by (walked c b (if t then walk_after who slot else Waits slot)) (n u)) s.head s.tail s.head_block s.tail_block (without (spare_in (n u)) (put_state s.blocks name slot marked_word))
       go false u done e =
-          subst (λ u. Codes (left_by (walked c b (Waits slot)) (n u)) s.head s.tail s.head_block s.tail_block (without (spare_in (n u)) (put_state s.blocks name slot marked_word))) (sym e)
+          rw e
           (codes_walked b slot name (Waits slot) p (Some (placed at_walk.x slot p)) at_walk.x right at_walk.low named at_walk.block
           (λ j ne. ne_eqb slot j (λ z. ne (sym z)) ∙ sym (ap (λ v. waits_at v j) is))
           refl
@@ -129,11 +120,9 @@ module _ {A : Type 0} (c : Chain A) (who : ℕ) (ms : List (State A)) (ok : Bool
           changed (inr ((λ z. cc), refl)) codes)
       go true u done e =
           let read = done_is (c.readers (item_at b slot)) done in
-          subst (λ u. Codes (left_by (walked c b (walk_after who slot)) (n u)) s.head s.tail s.head_block s.tail_block (without (spare_in (n u)) (put_state s.blocks name slot marked_word))) (sym e)
+          rw e
           (walk_on {r = λ w. walked c b w} who slot b name (placed at_walk.x slot p) at_walk.low changed (λ w. ap c.uses named.1 ∙ right.name b named.0)
-          (λ w y after way now left. codes_walked b slot name w p y at_walk.x right at_walk.low named at_walk.block
-          (λ j ne. ap (λ v. waits_at v j) way ∙ (after_waits who slot j ∙ sym (ap (λ v. waits_at v j) is)))
-          refl
+          (λ w y after none now left. codes_walked b slot name w p y at_walk.x right at_walk.low named at_walk.block (λ j ne. none j ∙ sym (ap (λ v. waits_at v j) is)) refl
           (state_passed c (walked c b w) b slot (state_of s.blocks name slot) refl read read at_walk.state)
           now left codes))
 
@@ -152,7 +141,7 @@ module _ {A : Type 0} (c : Chain A) (who : ℕ) (ms : List (State A)) (ok : Bool
   coded_reading x n name more holds got wrote inner right codes = record {
     touches = has_place s.blocks (n / BLOCK_SLOTS) name i block.0 block.1 block.2 wide;
     operates = subst (λ y. i < length (places_in y)) (sym emptied.here) (subst (λ m. i < m) (sym (length-set block.0.places i (record (place_in block.0 i) { item = None }))) room);
-    answers = state_answers s.blocks (n / BLOCK_SLOTS) name i st block.0 right got.named block.2 wide (λ last e. unread (ap c.readers (sym there_is) ∙ e)) word_is;
+    answers = state_answers c (n / BLOCK_SLOTS) name i st right got.named state;
     carried = ap (λ y. (get_or (places_in y) i blank).item) block.1 ∙ (block.2.slot i wide ∙ lies_there c n (item_at (n / BLOCK_SLOTS) i) who x there_is wrote got.mine);
     codes = λ fine gives. go (waits_at (c.walks (n / BLOCK_SLOTS)) i) (bit_and st DESTROY == 0) refl (state.destroyed (λ e. unread (ap c.readers (sym there_is) ∙ e)));
   }
@@ -211,13 +200,12 @@ module _ {A : Type 0} (c : Chain A) (who : ℕ) (ms : List (State A)) (ok : Bool
       go : (t u : Bool) → waits_at (c.walks (n / BLOCK_SLOTS)) (offset_of (head_of n more)) ≡ t → u ≡ not t
           → Codes (left_by (reads c n (if t then walk_after who (offset_of (head_of n more)) else c.walks (n / BLOCK_SLOTS))) (nx u)) s.head s.tail s.head_block s.tail_block (without (spare_in (nx u)) after)
       go false u waits e =
-          subst (λ u. Codes (left_by (reads c n (c.walks (n / BLOCK_SLOTS))) (nx u)) s.head s.tail s.head_block s.tail_block (without (spare_in (nx u)) after)) (sym e)
+          rw e
           (codes_read n i name (c.walks (n / BLOCK_SLOTS)) p (Some (placed block.0 i p)) block.0 right wide there_is got.named block.2 unread (λ j ne. refl) refl (inr (ap (λ m. bit_or m READ) word_is)) changed (inr (on, refl)) codes)
       go true u waits e =
-          subst (λ u. Codes (left_by (reads c n (walk_after who i)) (nx u)) s.head s.tail s.head_block s.tail_block (without (spare_in (nx u)) after)) (sym e)
+          rw e
           (walk_on {r = λ w. reads c n w} who i (n / BLOCK_SLOTS) name (placed block.0 i p) low changed (λ w. ap c.uses got.named.1 ∙ right.name (n / BLOCK_SLOTS) got.named.0)
-          (λ w y end way now left. codes_read n i name w p y block.0 right wide there_is got.named block.2 unread
-          (λ j ne. ap (λ v. waits_at v j) way ∙ (after_waits who i j ∙ sym (waits_once (c.walks (n / BLOCK_SLOTS)) i j waits ne)))
+          (λ w y end none now left. codes_read n i name w p y block.0 right wide there_is got.named block.2 unread (λ j ne. none j ∙ sym (waits_once (c.walks (n / BLOCK_SLOTS)) i j waits ne))
           refl (inr (ap (λ m. bit_or m READ) word_is)) now left codes))
 
   -- V10: the item of the last slot is read, and the walk begins at the first: W1
@@ -226,7 +214,7 @@ module _ {A : Type 0} (c : Chain A) (who : ℕ) (ms : List (State A)) (ok : Bool
   coded_beginning x n name more holds got wrote last_is right codes = record {
     touches = has_place s.blocks (n / BLOCK_SLOTS) name i block.0 block.1 block.2 wide;
     operates = subst (λ y. 0 < length (places_in y)) (sym emptied.here) (subst (λ m. 0 < m) (sym (length-set block.0.places i p)) (let r = room in omega arith));
-    answers = state_answers s.blocks (n / BLOCK_SLOTS) name 0 st block.0 right got.named block.2 (omega arith) (λ z. absurd (omega arith)) word_is;
+    answers = state_answers c (n / BLOCK_SLOTS) name 0 st right got.named state;
     carried = ap (λ y. (get_or (places_in y) i blank).item) block.1 ∙ (block.2.slot i wide ∙ lies_there c n (item_at (n / BLOCK_SLOTS) i) who x there_is wrote got.mine);
     codes = λ fine gives. go (is_done (c.readers (item_at (n / BLOCK_SLOTS) 0))) (bit_and st READ == 0) refl state.read;
   }
@@ -279,11 +267,10 @@ module _ {A : Type 0} (c : Chain A) (who : ℕ) (ms : List (State A)) (ok : Bool
       go : (t u : Bool) → is_done (c.readers (item_at (n / BLOCK_SLOTS) 0)) ≡ t → u ≡ not t
           → Codes (left_by (reads c n (if t then walk_after who 0 else Walker who 0)) (nx u)) s.head s.tail s.head_block s.tail_block (without (spare_in (nx u)) after)
       go false u done e =
-          subst (λ u. Codes (left_by (reads c n (Walker who 0)) (nx u)) s.head s.tail s.head_block s.tail_block (without (spare_in (nx u)) after)) (sym e)
+          rw e
           (codes_read n i name (Walker who 0) p (Some (placed block.0 i p)) block.0 right wide there_is got.named block.2 unread (λ j ne. sym (ap (λ v. waits_at v j) before)) refl (inl at_last) emptied (inr ((λ z. cc), refl)) codes)
       go true u done e =
-          subst (λ u. Codes (left_by (reads c n (walk_after who 0)) (nx u)) s.head s.tail s.head_block s.tail_block (without (spare_in (nx u)) after)) (sym e)
+          rw e
           (walk_on {r = λ w. reads c n w} who 0 (n / BLOCK_SLOTS) name (placed block.0 i p) (omega arith) emptied (λ w. ap c.uses got.named.1 ∙ right.name (n / BLOCK_SLOTS) got.named.0)
-          (λ w y end way now left. codes_read n i name w p y block.0 right wide there_is got.named block.2 unread
-          (λ j ne. ap (λ v. waits_at v j) way ∙ (after_waits who 0 j ∙ sym (ap (λ v. waits_at v j) before)))
+          (λ w y end none now left. codes_read n i name w p y block.0 right wide there_is got.named block.2 unread (λ j ne. none j ∙ sym (ap (λ v. waits_at v j) before))
           refl (inl at_last) now left codes))

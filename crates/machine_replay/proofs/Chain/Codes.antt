@@ -1,10 +1,10 @@
 -- How a block of the machine stands for a block of a chain, and that it goes on doing so.
-use Rattle.std.proofs.Common.{ℕ, ◌+◌, ◌<◌, ◌≡◌, ◌≢◌, not, ◌∙◌, inl, inr, if◌then◌else◌, Option, Some, None, List, length, refl, sym, ap, subst, arith, get_or, set, get_or-set_same, get_or-set_other}
+use Rattle.std.proofs.Common.{ℕ, ◌+◌, ◌<◌, ◌≡◌, ◌≢◌, ◌∙◌, inl, inr, if◌then◌else◌, Option, Some, None, List, length, refl, sym, ap, subst, arith, get_or, set, get_or-set_same, get_or-set_other}
 use Rattle.std.proofs.lemmas.{List.length-set, Bool.Decides.eqb_tells}
 use Rattle.machine_replay.specs.Vocabulary.{BLOCK_SLOTS}
 use Rattle.queue_laws.specs.Chain.ChainCells.{Writer, Free, Writing, Wrote, Reader, Done, Chain, item_at, LAST}
 use Rattle.queue_laws.specs.Chain.ChainAnswers.{linked_of, is_wrote, is_done, waits_at, IsState}
-use Rattle.queue_laws.proofs.Chain.ChainAnswers.{done_is}
+use Rattle.queue_laws.proofs.Chain.ChainStates.{done_alike, state_same}
 use Rattle.machine_memory.specs.{declared.blocks.BlockPlace.BlockPlace, Blocks.blank}
 
 -- the item of a slot, once it is written
@@ -23,9 +23,6 @@ wrote_alike (Wrote v) Free e = cc
 wrote_alike (Wrote v) (Writing p u) e = cc
 wrote_alike w x e = refl
 
-pub done_alike : (r x : Reader) → is_done r ≡ is_done x → x ≢ Done → r ≢ Done
-done_alike r x e ne d = ne (done_is x (sym e ∙ ap is_done d))
-
 -- these places and this link are those of the chain's block b. The last slot's word does not tell that its item is read
 pub record BlockIs {A : Type 0} (c : Chain A) (b : ℕ) (places : List (BlockPlace A)) (next : Option ℕ) : Type 0 where
   pub wide : length places ≡ BLOCK_SLOTS
@@ -39,12 +36,8 @@ pub record SameItem {A : Type 0} (c s : Chain A) (b i : ℕ) : Type 0 where
   pub done : is_done (s.readers (item_at b i)) ≡ is_done (c.readers (item_at b i))
   pub waits : waits_at (s.walks b) i ≡ waits_at (c.walks b) i
 
-pub state_same : {A : Type 0} (c s : Chain A) (b i x : ℕ) → SameItem c s b i → IsState c b i x → IsState s b i x
-state_same c s b i x same h = record {
-  written = h.written ∙ ap not (sym (wrote_alike (s.writers (item_at b i)) (c.writers (item_at b i)) same.wrote));
-  read = h.read ∙ ap not (sym same.done);
-  destroyed = λ ne. h.destroyed (done_alike (c.readers (item_at b i)) (s.readers (item_at b i)) (sym same.done) ne) ∙ ap not (sym same.waits);
-}
+kept_state : {A : Type 0} (c s : Chain A) (b i x : ℕ) → SameItem c s b i → IsState c b i x → IsState s b i x
+kept_state c s b i x same = state_same c s b i x (wrote_alike (s.writers (item_at b i)) (c.writers (item_at b i)) same.wrote) same.done same.waits
 
 pub lies_same : {A : Type 0} (c s : Chain A) (b i : ℕ) → SameItem c s b i → lies (c.writers (item_at b i)) (c.readers (item_at b i)) ≡ lies (s.writers (item_at b i)) (s.readers (item_at b i))
 lies_same c s b i same = rw (same.wrote, same.done) refl
@@ -63,7 +56,7 @@ block_put {A} c s b i x places next is low same here lies_here links = record {
         (subst (λ p. IsState s b i p.state) (sym (get_or-set_same places i x blank (let w = is.wide in omega arith))) (here (λ last. subst (λ k. s.readers (item_at b k) ≢ Done) t.1 (unread (t.1 ∙ last)))))
     | inr t ↦
         subst (λ p. IsState s b j p.state) (sym (get_or-set_other places i j x blank t.1))
-        (state_same c s b j (get_or places j blank).state (same j lt t.1) (is.state j lt (λ last. done_alike (c.readers (item_at b j)) (s.readers (item_at b j)) (sym (same j lt t.1).done) (unread last))))
+        (kept_state c s b j (get_or places j blank).state (same j lt t.1) (is.state j lt (λ last. done_alike (c.readers (item_at b j)) (s.readers (item_at b j)) (sym (same j lt t.1).done) (unread last))))
   ];
   slot = λ j lt. elim (eqb_tells j i) [
     | inl t ↦
@@ -79,7 +72,7 @@ pub block_same : {A : Type 0} (c s : Chain A) (b : ℕ) (places : List (BlockPla
     → ((j : ℕ) → j < BLOCK_SLOTS → SameItem c s b j) → after ≡ linked_of (s.links b) (s.names (b + 1)) → BlockIs s b places after
 block_same {A} c s b places next after is same links = record {
   wide = is.wide;
-  state = λ j lt unread. state_same c s b j (get_or places j blank).state (same j lt) (is.state j lt (λ last. done_alike (c.readers (item_at b j)) (s.readers (item_at b j)) (sym (same j lt).done) (unread last)));
+  state = λ j lt unread. kept_state c s b j (get_or places j blank).state (same j lt) (is.state j lt (λ last. done_alike (c.readers (item_at b j)) (s.readers (item_at b j)) (sym (same j lt).done) (unread last)));
   slot = λ j lt. is.slot j lt ∙ lies_same c s b j (same j lt);
   linked = links;
 }

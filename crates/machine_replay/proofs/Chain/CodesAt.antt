@@ -2,11 +2,11 @@
 use Rattle.std.proofs.Common.{ℕ, ◌+◌, ◌/◌, ◌<◌, ◌≡◌, ◌≢◌, ◌∙◌, inl, inr, false, Option, Some, None, List, refl, sym, ap, subst, arith, get_or, set, bit_or}
 use Rattle.std.proofs.lemmas.Bool.Decides.{eqb_tells}
 use Rattle.machine_replay.specs.Vocabulary.{BLOCK_SLOTS, WRITE}
-use Rattle.queue_laws.specs.{Common.Puts.put, Chain.ChainTransitions.chained, Chain.ChainTransitions.written, Chain.ChainFacts.IsNamed, Chain.ChainAnswers.linked_of, Chain.ChainAnswers.is_done}
-use Rattle.queue_laws.proofs.Common.Puts.{put_other, put_same}
-use Rattle.queue_laws.specs.Chain.ChainCells.{Writer, Writing, Wrote, Reader, Done, LinkState, Linked, Walk, GivenUp, Chained, Chain, ItemOk, ChainOk, item_at}
+use Rattle.queue_laws.specs.{Common.Puts.put, Chain.ChainTransitions.chained, Chain.ChainTransitions.written, Chain.ChainFacts.IsNamed, Chain.ChainAnswers.linked_of, Chain.ChainAnswers.is_wrote, Chain.ChainAnswers.is_done}
+use Rattle.queue_laws.proofs.{Common.Puts.put_other, Common.Puts.put_same, Chain.ChainStates.other_block, Chain.ChainStates.other_slot, Chain.ChainStates.unread_item, Chain.ChainStates.state_written}
+use Rattle.queue_laws.specs.Chain.ChainCells.{Writer, Writing, Wrote, Reader, Done, LinkState, Linked, Walk, GivenUp, Chained, Chain, ChainOk, item_at}
 use Rattle.machine_memory.specs.Blocks.{BlockState, blank}
-use Rattle.machine_replay.proofs.Chain.{Codes.BlockIs, Codes.wrote_in, Codes.lies, Codes.block_put, Codes.block_same, Bits.state_written, Names.NameIs, Names.HeldIs, Names.Codes, Names.SameBlock, Names.Changed, Names.name_kept, Names.one_name}
+use Rattle.machine_replay.proofs.Chain.{Codes.BlockIs, Codes.wrote_in, Codes.lies, Codes.block_put, Codes.block_same, Names.NameIs, Names.HeldIs, Names.Codes, Names.SameBlock, Names.Changed, Names.name_kept, Names.one_name}
 
 -- the chain with other items, readers, links and walks
 abbrev pub parts : {A : Type 0} → Chain A → (ℕ → Writer A) → (ℕ → Reader) → (ℕ → LinkState) → (ℕ → Walk) → Chain A
@@ -37,17 +37,6 @@ module _ {A : Type 0} {c : Chain A} {head tail : ℕ} {front last : Option ℕ} 
       here =
           let purpose : c.uses f ≡ Chained b = ap c.uses named.1 ∙ ok.name b named.0 in
           subst (λ u. NameIs (parts c w r l k) f u (get_or after f None)) (sym purpose) (named, subst (λ z. HeldIs (parts c w r l k) b z) (sym changed.here) held)
-
--- an item of another block, and another item of the block
-pub other_block : (b i j : ℕ) (n : ℕ) → i ≢ b → j < BLOCK_SLOTS → n / BLOCK_SLOTS ≡ b → item_at i j ≢ n
-other_block b i j n ne lt at e = ne (omega arith)
-
-pub other_slot : (b i j n : ℕ) → j ≢ i → item_at b i ≡ n → item_at b j ≢ n
-other_slot b i j n ne at e = ne (omega arith)
-
--- the items that are not written are not read
-pub unread_item : {A : Type 0} (c : Chain A) (n who : ℕ) (v : A) → ChainOk c → c.writers n ≡ Writing who v → c.readers n ≢ Done
-unread_item c n who v ok is e = let h : ItemOk c.head c.tail c.items n (Writing who v) Done = rw (is, e) at (ok.item n) in absurd h
 
 not_done : (r : Reader) → r ≢ Done → is_done r ≡ false
 not_done Done ne = absurd (ne refl)
@@ -84,7 +73,7 @@ module _ {A : Type 0} {c : Chain A} {head tail : ℕ} {front last : Option ℕ} 
         on,
         block_put c (written c n v) b i (record { state = bit_or (get_or x.places i blank).state WRITE; item = Some v }) x.places x.next is low
             (λ j lt ne. record { wrote = ap (λ w. wrote_in w) (put_other c.writers n (item_at b j) (Wrote v) (other_slot b i j n ne at)); done = refl; waits = refl })
-            (λ unread. state_written c (written c n v) b i (get_or x.places i blank).state v wrote refl refl (is.state i low unread))
+            (λ unread. state_written c (written c n v) b i (get_or x.places i blank).state (ap (λ w. is_wrote w) wrote) refl refl (is.state i low unread))
             (sym (ap (λ w. lies w (c.readers (item_at b i))) wrote ∙ ap (λ r. lies (Wrote v) r) refl ∙ kept)) refl,
       ))
       codes

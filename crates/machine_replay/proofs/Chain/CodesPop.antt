@@ -1,12 +1,12 @@
 -- The steps of pops that move the head leave the machine standing for the chain after them.
-use Rattle.std.proofs.Common.{ℕ, ◌+◌, ◌*◌, ◌%◌, ◌≡◌, ◌≢◌, ◌∙◌, ◌⊎◌, inl, inr, Bool, true, false, if◌then◌else◌, Option, Some, None, List, refl, sym, ap, subst, arith, get_or}
+use Rattle.std.proofs.Common.{ℕ, ◌+◌, ◌*◌, ◌%◌, ◌≡◌, ◌≢◌, ◌∙◌, ◌⊎◌, inl, inr, Bool, true, false, if◌then◌else◌, Option, Some, List, refl, sym, ap, subst, arith}
 use Rattle.machine_replay.specs.Vocabulary.{BLOCK_SLOTS, TAIL_STEP}
 use Rattle.queue_steps.specs.Words.{tail_of, position_of}
 use Rattle.queue_laws.proofs.{Common.Puts.put_ok, Common.Tails.position_tail, Chain.ChainReads.passer_sees}
 use Rattle.queue_laws.specs.Chain.{ChainFacts.place, ChainFacts.head_of, ChainFacts.IsNamed, ChainTransitions.taken, ChainTransitions.passed, ChainTransitions.entered, ChainAnswers.head_place, ChainAnswers.shown_of, ChainAnswers.is_done}
 use Rattle.queue_laws.specs.Chain.ChainCells.{Unread, Reading, Passer, Stands, Passing, Entering, Chain, FrontOk, ChainOk, item_at}
 use Rattle.machine_memory.specs.Blocks.{BlockState}
-use Rattle.machine_replay.proofs.Chain.Names.{Codes, SameBlock, name_kept, keeps_all}
+use Rattle.machine_replay.proofs.Chain.Names.{Codes, SameBlock, keeps_all, codes_kept}
 
 -- the head's word after the item n is taken
 head_next : (n : ℕ) (p : Passer) (new : Bool) → ((p ≡ Stands) × (n % BLOCK_SLOTS + 1 ≢ BLOCK_SLOTS)) ⊎ ((who : ℕ) × (p ≡ Passing who) × (n % BLOCK_SLOTS + 1 ≡ BLOCK_SLOTS))
@@ -20,14 +20,8 @@ head_next n p false (inr (who, is, last)) = subst (λ x. place n * 2 + TAIL_STEP
 pub codes_taken : {A : Type 0} {c : Chain A} {head tail : ℕ} {front last : Option ℕ} {blocks : List (Option (BlockState A))} (who : ℕ) (p : Passer) (new : Bool)
     → c.readers c.head ≡ Unread → ((p ≡ Stands) × (c.head % BLOCK_SLOTS + 1 ≢ BLOCK_SLOTS)) ⊎ ((who : ℕ) × (p ≡ Passing who) × (c.head % BLOCK_SLOTS + 1 ≡ BLOCK_SLOTS))
     → Codes c head tail front last blocks → Codes (taken c who p new) (place c.head * 2 + TAIL_STEP + (if new then 1 else 0)) tail front last blocks
-codes_taken {A} {c = c} {blocks = blocks} who p new unread moves codes = record {
-  head_is = head_next c.head p new moves;
-  tail_is = codes.tail_is;
-  front_is = codes.front_is;
-  last_is = codes.last_is;
-  unused = codes.unused;
-  name = λ f. name_kept c (taken c who p new) f (c.uses f) (get_or blocks f None) (λ b is. (is, keeps b)) (codes.name f);
-}
+codes_taken {A} {c = c} who p new unread moves codes =
+    codes_kept (taken c who p new) refl (λ b g is. (is, keeps b)) (head_next c.head p new moves) codes.tail_is codes.front_is codes.last_is codes
   where
     keeps : (b : ℕ) → SameBlock c (taken c who p new) b
     keeps b = record {
@@ -44,27 +38,16 @@ codes_taken {A} {c = c} {blocks = blocks} who p new unread moves codes = record 
 -- V7: the next block is shown to the poppers
 pub codes_passed : {A : Type 0} {c : Chain A} {head tail : ℕ} {front last : Option ℕ} {blocks : List (Option (BlockState A))} (who name : ℕ)
     → ChainOk c → c.passer ≡ Passing who → IsNamed c (c.front + 1) name → Codes c head tail front last blocks → Codes (passed c who) head tail (Some name) last blocks
-codes_passed {A} {c = c} {blocks = blocks} who name ok passing named codes = record {
-  head_is = codes.head_is ∙ ap (λ p. tail_of (head_place c.head p) c.known) passing;
-  tail_is = codes.tail_is;
-  front_is = ap (λ n. Some n) named.1 ∙ sym (ap (λ s. shown_of s (c.names (c.front + 1))) (passer_sees c ok (λ e. let z : Passing who ≡ Stands = sym passing ∙ e in cc)));
-  last_is = codes.last_is;
-  unused = codes.unused;
-  name = λ f. name_kept c (passed c who) f (c.uses f) (get_or blocks f None) (λ b is. (is, keeps_all c (passed c who) b refl refl refl refl)) (codes.name f);
-}
+codes_passed {c = c} who name ok passing named codes =
+    codes_kept (passed c who) refl (λ b g is. (is, keeps_all c (passed c who) b refl refl refl refl)) (codes.head_is ∙ ap (λ p. tail_of (head_place c.head p) c.known) passing) codes.tail_is
+    (ap (λ n. Some n) named.1 ∙ sym (ap (λ s. shown_of s (c.names (c.front + 1))) (passer_sees c ok (λ e. let z : Passing who ≡ Stands = sym passing ∙ e in cc)))) codes.last_is codes
 
 -- V8: the head moves on to the next block
 pub codes_entered : {A : Type 0} {c : Chain A} {head tail : ℕ} {front last : Option ℕ} {blocks : List (Option (BlockState A))} (who n : ℕ) (more further : Bool)
     → ChainOk c → c.passer ≡ Entering who → c.head ≡ n + 1
     → Codes c head tail front last blocks → Codes (entered c further) ((position_of (head_of n more) + 2) * 2 + (if further then 1 else 0)) tail front last blocks
-codes_entered {A} {c = c} {blocks = blocks} who n more further ok entering at_n codes = record {
-  head_is = go further;
-  tail_is = codes.tail_is;
-  front_is = codes.front_is;
-  last_is = codes.last_is;
-  unused = codes.unused;
-  name = λ f. name_kept c (entered c further) f (c.uses f) (get_or blocks f None) (λ b is. (is, keeps_all c (entered c further) b refl refl refl refl)) (codes.name f);
-}
+codes_entered {c = c} who n more further ok entering at_n codes =
+    codes_kept (entered c further) refl (λ b g is. (is, keeps_all c (entered c further) b refl refl refl refl)) (go further) codes.tail_is codes.front_is codes.last_is codes
   where
     front : FrontOk c.head c.front (Entering who)
     front = subst (λ p. FrontOk c.head c.front p) entering ok.fronted

@@ -8,18 +8,12 @@ use Rattle.queue_laws.specs.Chain.ChainTransitions.{appended, installed, display
 use Rattle.queue_laws.proofs.{Common.Puts.put_ok, Common.Puts.put_other, Common.Puts.put_same, Common.Tails.mark_tail, Common.Tails.next_tail, Chain.ChainTransitions.next_free, Chain.ChainTransitions.no_front}
 use Rattle.queue_laws.specs.Chain.ChainCells.{Writing, Mover, Rests, Laying, Opening, LinkState, Linking, Linked, Shown, Showing, Seen, Unused, Spare, Chained, Chain, BlocksOk, LinkOk, ShownOk, ChainOk, item_at}
 use Rattle.machine_memory.specs.Blocks.{BlockState, fresh_block}
-use Rattle.machine_replay.proofs.Chain.{Codes.wrote_in, Names.NameIs, Names.Codes, Names.SameBlock, Names.name_kept, Names.keeps_all, Fresh.fresh_is, Fresh.unlinked, Fresh.last_name}
+use Rattle.machine_replay.proofs.Chain.{Codes.wrote_in, Names.NameIs, Names.Codes, Names.SameBlock, Names.name_kept, Names.keeps_all, Names.codes_kept, Fresh.fresh_is, Fresh.unlinked, Fresh.last_name}
 
 -- the mark of a close
 pub codes_marked : {A : Type 0} {c : Chain A} {head tail : ℕ} {front last : Option ℕ} {blocks : List (Option (BlockState A))} → Codes c head tail front last blocks → Codes (marked c) head (bit_or tail MARK) front last blocks
-codes_marked {c = c} {blocks = blocks} codes = record {
-  head_is = codes.head_is;
-  tail_is = ap (λ t. bit_or t MARK) codes.tail_is ∙ mark_tail (tail_place c.tail c.mover) c.closed;
-  front_is = codes.front_is;
-  last_is = codes.last_is;
-  unused = codes.unused;
-  name = λ f. name_kept c (marked c) f (c.uses f) (get_or blocks f None) (λ b named. (named, keeps_all c (marked c) b refl refl refl refl)) (codes.name f);
-}
+codes_marked {c = c} codes =
+    codes_kept (marked c) refl (λ b g is. (is, keeps_all c (marked c) b refl refl refl refl)) codes.head_is (ap (λ t. bit_or t MARK) codes.tail_is ∙ mark_tail (tail_place c.tail c.mover) c.closed) codes.front_is codes.last_is codes
 
 -- U3, granted: the next number is the spare of the call
 pub codes_granted : {A : Type 0} {c : Chain A} {head tail : ℕ} {front last : Option ℕ} {blocks : List (Option (BlockState A))} (who : ℕ)
@@ -79,16 +73,9 @@ codes_installed {A} {c = c} {blocks = blocks} who f ok none spare codes = record
 -- U4b: the first block is shown to the poppers
 pub codes_displayed : {A : Type 0} {c : Chain A} {head tail : ℕ} {front last : Option ℕ} {blocks : List (Option (BlockState A))} (who name : ℕ)
     → ChainOk c → c.shown ≡ Showing who → IsNamed c 0 name → Codes c head tail front last blocks → Codes (displayed c) head tail (Some name) last blocks
-codes_displayed {A} {c = c} {blocks = blocks} who name ok shown named codes =
+codes_displayed {c = c} who name ok shown named codes =
     let seen : ShownOk c.blocks c.head c.front c.known c.passer (Showing who) = subst (λ s. ShownOk c.blocks c.head c.front c.known c.passer s) shown ok.seen in
-    record {
-      head_is = codes.head_is;
-      tail_is = codes.tail_is;
-      front_is = ap (λ n. Some n) (named.1 ∙ ap c.names (sym seen.2));
-      last_is = codes.last_is;
-      unused = codes.unused;
-      name = λ f. name_kept c (displayed c) f (c.uses f) (get_or blocks f None) (λ b is. (is, keeps_all c (displayed c) b refl refl refl refl)) (codes.name f);
-    }
+    codes_kept (displayed c) refl (λ b g is. (is, keeps_all c (displayed c) b refl refl refl refl)) codes.head_is codes.tail_is (ap (λ n. Some n) (named.1 ∙ ap c.names (sym seen.2))) codes.last_is codes
 
 -- the tail's word after the append of the item q
 tail_next : (q : ℕ) (m : Mover) → ((m ≡ Rests) × (q % BLOCK_SLOTS + 1 ≢ BLOCK_SLOTS)) ⊎ ((who : ℕ) × (m ≡ Laying who) × (q % BLOCK_SLOTS + 1 ≡ BLOCK_SLOTS)) → open_tail_of q + TAIL_STEP ≡ tail_of (tail_place (q + 1) m) false
@@ -99,14 +86,8 @@ tail_next q m (inr (who, is, last)) = subst (λ x. open_tail_of q + TAIL_STEP �
 pub codes_appended : {A : Type 0} {c : Chain A} {head tail : ℕ} {front last : Option ℕ} {blocks : List (Option (BlockState A))} (who : ℕ) (v : A) (m : Mover)
     → ChainOk c → c.closed ≡ false → ((m ≡ Rests) × (c.tail % BLOCK_SLOTS + 1 ≢ BLOCK_SLOTS)) ⊎ ((who : ℕ) × (m ≡ Laying who) × (c.tail % BLOCK_SLOTS + 1 ≡ BLOCK_SLOTS))
     → Codes c head tail front last blocks → Codes (appended c who v m) head (open_tail_of c.tail + TAIL_STEP) front last blocks
-codes_appended {A} {c = c} {blocks = blocks} who v m ok unshut moves codes = record {
-  head_is = codes.head_is;
-  tail_is = tail_next c.tail m moves ∙ ap (λ b. tail_of (tail_place (c.tail + 1) m) b) (sym unshut);
-  front_is = codes.front_is;
-  last_is = codes.last_is;
-  unused = codes.unused;
-  name = λ f. name_kept c (appended c who v m) f (c.uses f) (get_or blocks f None) (λ b is. (is, keeps b)) (codes.name f);
-}
+codes_appended {A} {c = c} who v m ok unshut moves codes =
+    codes_kept (appended c who v m) refl (λ b g is. (is, keeps b)) codes.head_is (tail_next c.tail m moves ∙ ap (λ b. tail_of (tail_place (c.tail + 1) m) b) (sym unshut)) codes.front_is codes.last_is codes
   where
     keeps : (b : ℕ) → SameBlock c (appended c who v m) b
     keeps b = record {
@@ -153,15 +134,10 @@ codes_laid_out {A} {c = c} {head = head} {tail = tail} {front = front} {blocks =
 -- U7: the tail moves on to the next block
 pub codes_opened : {A : Type 0} {c : Chain A} {head tail : ℕ} {front last : Option ℕ} {blocks : List (Option (BlockState A))} (who : ℕ)
     → ChainOk c → c.mover ≡ Opening who → Codes c head tail front last blocks → Codes (opened c) head (tail + TAIL_STEP) front last blocks
-codes_opened {A} {c = c} {blocks = blocks} who ok opens codes =
+codes_opened {c = c} who ok opens codes =
     let filled : BlocksOk c.tail c.blocks (Opening who) = subst (λ m. BlocksOk c.tail c.blocks m) opens ok.laid in
     let low = filled.0 in
     let full = filled.1 in
-    record {
-      head_is = codes.head_is;
-      tail_is = ap (λ t. t + TAIL_STEP) (codes.tail_is ∙ ap (λ m. tail_of (tail_place c.tail m) c.closed) opens) ∙ (next_tail (place c.tail - 1) c.closed ∙ ap (λ p. tail_of p c.closed) (let z : place c.tail - 1 + 1 ≡ place c.tail = omega arith in z));
-      front_is = codes.front_is;
-      last_is = codes.last_is;
-      unused = codes.unused;
-      name = λ f. name_kept c (opened c) f (c.uses f) (get_or blocks f None) (λ b is. (is, keeps_all c (opened c) b refl refl refl refl)) (codes.name f);
-    }
+    let next : place c.tail - 1 + 1 ≡ place c.tail = omega arith in
+    codes_kept (opened c) refl (λ b g is. (is, keeps_all c (opened c) b refl refl refl refl)) codes.head_is
+    (ap (λ t. t + TAIL_STEP) (codes.tail_is ∙ ap (λ m. tail_of (tail_place c.tail m) c.closed) opens) ∙ (next_tail (place c.tail - 1) c.closed ∙ ap (λ p. tail_of p c.closed) next)) codes.front_is codes.last_is codes

@@ -1,13 +1,12 @@
 -- The steps that read an item or walk over a passed block, and the block that is given up with a reply, leave the machine standing for the chain after them.
-use Rattle.std.proofs.Common.{ℕ, ◌+◌, ◌/◌, ◌<◌, ◌≡◌, ◌≢◌, ◌∙◌, ◌⊎◌, inl, inr, false, Option, Some, None, List, refl, sym, ap, subst, arith, get_or, set, bit_or}
-use Rattle.std.proofs.lemmas.Bool.Decides.{eqb_tells}
+use Rattle.std.proofs.Common.{ℕ, ◌/◌, ◌<◌, ◌≡◌, ◌≢◌, ◌∙◌, ◌⊎◌, inl, inr, Option, Some, None, List, refl, sym, ap, subst, arith, get_or, set, bit_or}
 use Rattle.machine_replay.specs.Vocabulary.{BLOCK_SLOTS, READ}
 use Rattle.queue_laws.specs.{Common.Puts.put, Chain.ChainFacts.IsNamed, Chain.ChainAnswers.is_done, Chain.ChainAnswers.waits_at, Chain.ChainAnswers.IsState}
-use Rattle.queue_laws.specs.Chain.ChainTransitions.{reads, walked, walk_after, given_up, lost_of}
-use Rattle.queue_laws.proofs.Common.Puts.{put_ok, put_other, put_same}
+use Rattle.queue_laws.specs.Chain.ChainTransitions.{reads, walked, given_up, lost_of}
+use Rattle.queue_laws.proofs.{Common.Puts.put_ok, Common.Puts.put_other, Common.Puts.put_same, Chain.ChainStates.other_block, Chain.ChainStates.other_slot, Chain.ChainStates.state_read}
 use Rattle.queue_laws.specs.Chain.ChainCells.{Done, Walk, GivenUp, Unused, Spare, Chained, Chain, ChainOk, item_at, LAST}
 use Rattle.machine_memory.specs.{declared.blocks.BlockPlace.BlockPlace, Blocks.BlockState, Blocks.blank}
-use Rattle.machine_replay.proofs.Chain.{Codes.BlockIs, Codes.lies, Codes.block_put, Bits.state_read, Names.NameIs, Names.HeldIs, Names.AliveIs, Names.Codes, Names.Changed, Names.name_kept, Names.keeps_all, CodesAt.codes_at, CodesAt.other_block, CodesAt.other_slot}
+use Rattle.machine_replay.proofs.Chain.{Codes.BlockIs, Codes.lies, Codes.block_put, Names.NameIs, Names.HeldIs, Names.AliveIs, Names.Codes, Names.Changed, Names.name_kept, Names.keeps_all, CodesAt.codes_at}
 
 -- the block after the step: it is given up with its walk, or is this
 abbrev pub Left : {A : Type 0} → Walk → Option (BlockState A) → BlockState A → Type 0
@@ -80,10 +79,6 @@ module _ {A : Type 0} {c : Chain A} {head tail : ℕ} {front last : Option ℕ} 
       (item ∙ is.slot i (omega arith))
       refl))
       codes
-
--- a walk that goes on waits for nobody
-pub after_waits : (who slot j : ℕ) → waits_at (walk_after who slot) j ≡ false
-after_waits who slot j = elim (eqb_tells (slot + 1) LAST) [ inl t ↦ rw t.0 refl | inr n ↦ rw n.0 refl ]
 
 -- a spare that is given up
 pub codes_given_spare : {A : Type 0} {c : Chain A} {head tail : ℕ} {front last : Option ℕ} {blocks after : List (Option (BlockState A))} (who f : ℕ)

@@ -4,7 +4,7 @@ use Rattle.std.proofs.lemmas.Bool.Decides.{eqb_tells}
 use Rattle.machine_replay.specs.{Vocabulary.Kind, Vocabulary.Answer, Vocabulary.Local, Vocabulary.Next, Vocabulary.BLOCK_SLOTS, Vocabulary.Running, Book.Open, Progress.Standing, Progress.IsToShow, Progress.NobodyShows, Progress.UnhinderedWithin}
 use Rattle.queue_steps.specs.{State.State, Next.next_of, Words.position_of, declared.steps.chain.ChainLocal.ChainLocal as chain}
 use Rattle.queue_laws.specs.{Common.Effects.with_effect, Common.Stand.Stand, Chain.ChainAfter.after_of, Chain.ChainAfter.left_by, Chain.ChainAnswers.tail_word, Chain.ChainAnswers.shown_of}
-use Rattle.machine_replay.proofs.{Engine.StandOf.running_of, Chain.Pops.is_pop, Chain.Pops.by_call, Chain.Pops.goes_as, Chain.Fits.ChainFits, Chain.Holding.ChainHolds, Chain.Laws.StepStands, Chain.Laws.chain_then, Chain.Laws.next_on, Chain.Stands.steps_stand, Chain.Stretch.chain_rules}
+use Rattle.machine_replay.proofs.{Engine.StandOf.running_of, Chain.Pops.is_pop, Chain.Pops.by_call, Chain.Pops.goes_as, Chain.Fits.ChainFits, Chain.Holding.ChainHolds, Chain.Laws.StepStands, Chain.Laws.chain_then, Chain.Laws.next_on, Chain.Stands.steps_stand, Chain.Kind.chain_rules}
 use Rattle.machine_replay.proofs.Chain.{Stretch.not_empty, Stretch.ready_on, Stretch.words_stay, Waits.holds_at, Waits.holder, Waits.unseen_if}
 use Rattle.machine_replay.proofs.Progress.Stretch.{Paces, Turns, Here, party-open, unhindered}
 use Rattle.queue_laws.specs.Chain.ChainAt.{At, Only, push_tail, push_block, asking, installing, showing, claiming, spending, pop_head, pop_block, pop_tail, taking, following, peeking, passing, entering, awaiting, reading, beginning, walking, destroying, count_tail, count_head, count_again}

@@ -6,7 +6,7 @@ use Rattle.queue_laws.specs.{Common.Effects.with_effect, Chain.ChainCells.Chain,
 use Rattle.queue_laws.specs.Chain.{ChainAnswers.Answers, ChainAnswers.tail_word, ChainAnswers.head_word, ChainAfter.chain_of, ChainAfter.after_of, ChainAfter.carried_of, ChainAfter.left_by}
 use Rattle.machine_replay.proofs.{Engine.StandOf.stand_of, Chain.Moments.chain_begun, Chain.Moments.allowed_in, Engine.Moments.same_moments}
 use Rattle.machine_replay.proofs.Progress.FewSteps.{FewSteps, few_begun, few_joined, few_watched, few_own, few_stays}
-use Rattle.queue_laws.proofs.Chain.{ChainFacts.holds_stays, ChainAt.at_stays, ChainStart.Begins, ChainStart.at_begun, ChainGiven.spares_stay, ChainRight.NextOkSpares, ChainRight.step_right, ChainRanksStep.lone_falls, ChainRanksStep.wait_free_falls, ChainRanksStep.wait_free_small}
+use Rattle.queue_laws.proofs.Chain.{ChainFacts.holds_stays, ChainAt.at_stays, ChainStart.Begins, ChainStart.at_begun, ChainGiven.spares_stay, ChainRight.NextOkSpares, ChainRight.step_right, ChainRanksStep.alone_falls, ChainRanksStep.wait_free_falls, ChainRanksStep.wait_free_small}
 use Rattle.queue_laws.proofs.Chain.ChainRanks.{rank, longest, rank_small, rank_some, Falls}
 use Rattle.machine_memory.specs.SharedMemory.{MemoryState}
 use Rattle.machine_steps.specs.Steps.{CanStep, step_of, start_of, running_after, reply_after}
@@ -57,7 +57,7 @@ module _ {A : Type 0} (Stands : MemoryState A → State A → Chain A → Type 0
       let r = after_of f.here a in
       let n = chain_next (chain_of x.local) a in
       goes_on t (left_by r n) p o n (carried_of f.here) (with_effect o.effects right.e) (rank g x.local) f.few
-      (λ one. falls_left r n (rank g x.local) (lone_falls f.here a ok found (λ j ne. (quiet one j ne).0)))
+      (λ one. falls_left r n (rank g x.local) (alone_falls f.here a ok found (λ j ne. (quiet one j ne).0)))
       (λ e. falls_left r n (rank g x.local) (wait_free_falls f.here a found e)) right.ends
 
 -- a call of another party stands where it stood

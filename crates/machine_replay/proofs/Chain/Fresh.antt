@@ -2,8 +2,8 @@
 use Rattle.std.proofs.Common.{ℕ, ◌+◌, ◌*◌, ◌≤◌, ◌≡◌, ◌≢◌, not, ◌∙◌, inl, inr, zero, suc, Some, None, refl, sym, ap, subst, arith}
 use Rattle.std.proofs.lemmas.List.{get_or-replicate, length-replicate}
 use Rattle.machine_replay.{specs.Vocabulary.BLOCK_SLOTS, proofs.Chain.Codes.BlockIs, proofs.Chain.Codes.lies}
-use Rattle.queue_laws.specs.Chain.ChainCells.{Free, Unread, Done, Mover, Rests, LinkState, Linked, Walk, Before, GivenUp, Chain, BlocksOk, LinkOk, WalkOk, ChainOk, item_at, LAST}
-use Rattle.queue_laws.proofs.Chain.ChainTransitions.{item_free}
+use Rattle.queue_laws.specs.Chain.ChainCells.{Free, Unread, Done, Mover, Rests, LinkState, Linked, Before, GivenUp, Chain, BlocksOk, LinkOk, ChainOk, item_at, LAST}
+use Rattle.queue_laws.proofs.Chain.{ChainTransitions.item_free, ChainStates.unwalked}
 use Rattle.queue_laws.specs.Chain.ChainAnswers.{last_of, linked_of, is_wrote, is_done, waits_at, IsState}
 use Rattle.machine_memory.specs.Blocks.{blank, fresh_block}
 
@@ -15,15 +15,6 @@ next_high tail blocks m h = let e = h.1 in omega arith
 
 pub block_free : {A : Type 0} (c : Chain A) (i : ℕ) → ChainOk c → (c.writers (item_at c.blocks i) ≡ Free) × (c.readers (item_at c.blocks i) ≡ Unread)
 block_free c i ok = item_free c (item_at c.blocks i) ok (let h = next_high c.tail c.blocks c.mover ok.laid in omega arith)
-
--- no walk began over a block whose last item is not read
-pub unwalked : {A : Type 0} (c : Chain A) (b : ℕ) → ChainOk c → c.readers (item_at b LAST) ≢ Done → c.walks b ≡ Before
-unwalked {A} c b ok unread = go (c.walks b) refl (ok.walk b)
-  where
-    go : (w : Walk) → c.walks b ≡ w → WalkOk c.readers b w → c.walks b ≡ Before
-    go Before e h = e
-    go GivenUp e h = absurd (unread h.0)
-    go w e h = absurd (unread h.1.0)
 
 next_unwalked : {A : Type 0} (c : Chain A) → ChainOk c → c.walks c.blocks ≡ Before
 next_unwalked c ok = unwalked c c.blocks ok (λ e. let z : Unread ≡ Done = sym (block_free c LAST ok).1 ∙ e in cc)

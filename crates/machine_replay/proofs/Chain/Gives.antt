@@ -1,12 +1,12 @@
 -- A block that is there, and one that is given up with a reply.
-use Rattle.std.proofs.Common.{ℕ, ◌<◌, ◌≡◌, ◌≢◌, ◌∙◌, inl, inr, Option, Some, None, List, length, refl, sym, ap, subst, arith, get_or, set, get_or-set_same, get_or-set_other}
+use Rattle.std.proofs.Common.{ℕ, ◌<◌, ◌≡◌, ◌≢◌, ◌∙◌, inl, inr, Option, Some, None, List, length, sym, ap, subst, arith, get_or, set, get_or-set_same, get_or-set_other}
 use Rattle.std.proofs.lemmas.{List.get_or_past, List.length-set, Bool.Decides.eqb_tells, Bool.cases_lt}
-use Rattle.machine_replay.specs.Vocabulary.{Answer, Next, BLOCK_SLOTS}
-use Rattle.queue_laws.specs.Chain.{ChainCells.Done, ChainCells.GivenUp, ChainCells.Chained, ChainCells.Chain, ChainCells.ChainOk, ChainCells.item_at, ChainCells.LAST, ChainFacts.IsNamed, ChainAnswers.IsState, ChainAnswers.StateAnswers, ChainAfter.left_by}
+use Rattle.machine_replay.specs.Vocabulary.{Next, BLOCK_SLOTS}
+use Rattle.queue_laws.specs.Chain.{ChainCells.GivenUp, ChainCells.Chain, ChainCells.ChainOk, ChainFacts.IsNamed, ChainAfter.left_by}
 use Rattle.queue_laws.proofs.Chain.ChainRight.{Gives}
 use Rattle.machine_memory.specs.Blocks.{BlockState, fresh_block, without, places_in, place_count}
 use Rattle.machine_steps.specs.Steps.{spare_in}
-use Rattle.machine_replay.proofs.Chain.{Codes.BlockIs, Names.NameIs, Names.HeldIs, Names.Codes, Names.alive_of, Names.name_of, CodesWalk.codes_given_spare, CodesWalk.codes_given_block, Blocks.there, Blocks.changed_set, Blocks.place_in}
+use Rattle.machine_replay.proofs.Chain.{Codes.BlockIs, Names.NameIs, Names.HeldIs, Names.Codes, Names.alive_of, Names.name_of, CodesWalk.codes_given_spare, CodesWalk.codes_given_block, Blocks.there, Blocks.changed_set}
 
 -- what stands under the name of the chain's block b
 held_of : {A : Type 0} {c : Chain A} {head tail : ℕ} {front last : Option ℕ} {blocks : List (Option (BlockState A))} (b f : ℕ) → ChainOk c → IsNamed c b f → Codes c head tail front last blocks → HeldIs c b (get_or blocks f None)
@@ -49,16 +49,6 @@ codes_left {c = c} {blocks = blocks} who (Next.Reply x (Some f)) ok (inr (b, nam
     let none : get_or blocks f None ≡ None = elim (held_of b f ok named codes) [ inl h ↦ h.1 | inr h ↦ absurd (h.0 over) ] in
     codes_reset f none (codes_given_block b f (ap c.uses named.1 ∙ ok.name b named.0) codes)
 
--- a name is that of one block
-pub one_block : {A : Type 0} (c : Chain A) (b i f : ℕ) → ChainOk c → IsNamed c b f → IsNamed c i f → i ≡ b
-one_block c b i f ok x y = let z : Chained i ≡ Chained b = sym (ap c.uses y.1 ∙ ok.name i y.0) ∙ (ap c.uses x.1 ∙ ok.name b x.0) in cc
-
 -- a block that is there has all its places
 pub has_place : {A : Type 0} {c : Chain A} (bs : List (Option (BlockState A))) (b f i : ℕ) (x : BlockState A) → get_or bs f None ≡ Some x → BlockIs c b x.places x.next → i < BLOCK_SLOTS → i < place_count bs f
 has_place bs b f i x is block low = subst (λ y. i < length (places_in y)) (sym is) (subst (λ n. i < n) (sym block.wide) low)
-
--- what the state of a slot answers
-pub state_answers : {A : Type 0} {c : Chain A} (bs : List (Option (BlockState A))) (b f i n : ℕ) (x : BlockState A) → ChainOk c → IsNamed c b f → BlockIs c b x.places x.next → i < BLOCK_SLOTS → (i ≡ LAST → c.readers (item_at b i) ≢ Done)
-    → n ≡ (place_in x i).state → StateAnswers c f i (Answer.Found n)
-state_answers {c = c} bs b f i n x ok named block low unread is j other =
-    (n, refl, subst (λ k. IsState c k i n) (sym (one_block c b j f ok named other)) (subst (λ m. IsState c b i m) (sym is) (block.state i low unread)))

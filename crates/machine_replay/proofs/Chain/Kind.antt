@@ -6,7 +6,7 @@ use Rattle.machine_memory.specs.SharedMemory.{MemoryState}
 use Rattle.machine_steps.specs.{Steps.CanStep, Steps.step_of, Steps.start_of, World.World, World.call_at}
 use Rattle.machine_replay.proofs.Engine.Events as engine
 use Rattle.machine_replay.proofs.Chain.{Holding.ChainHolds, Fits.ChainIdle, Fits.ChainFits, Laws.chain_steps, Stands.steps_stand, Opening.chain_opens, Opening.chain_all_idle, Counted.StandsAt, Counted.chain_counted, Left.chain_left}
-use Rattle.machine_replay.proofs.Engine.KindLaws.{KindLaws, SimulatesOf, IsCounted}
+use Rattle.machine_replay.proofs.Engine.KindLaws.{Rules, KindLaws, SimulatesOf, IsCounted}
 
 -- each party of a run on a chain stands between its calls or in one
 party_stands : {A : Type 0} (s : MemoryState A) (g : Chain A) (p : ℕ) (r : Option (Running A)) (o : Option (Open A)) (busy : ℕ) (b : Book A)
@@ -20,8 +20,8 @@ counts : {A : Type 0} (parties : ℕ) (w : World (MemoryState A) (Running A)) (b
 counts parties w b sim = chain_counted w b sim.g sim.holds sim.busy_is (λ p. party_stands w.shared sim.g p (call_at w p) (b.open_call p) b.busy b (sim.each p))
 
 -- a chain of blocks keeps the laws of the machine
-pub chain_laws : (T : Type 0) → KindLaws T Kind.Unbounded
-chain_laws T = record {
+abbrev pub chain_rules : (T : Type 0) → Rules T Kind.Unbounded
+chain_rules T = record {
   G = Chain T;
   Holds = ChainHolds;
   Idle = ChainIdle;
@@ -30,6 +30,12 @@ chain_laws T = record {
   first = first;
   opens = chain_opens T;
   all_idle = chain_all_idle T;
+}
+
+-- and owes no more
+pub chain_laws : (T : Type 0) → KindLaws T Kind.Unbounded
+chain_laws T = record {
+  rules = chain_rules T;
   leaves = λ parties w b sim. chain_left w b sim.g sim.holds (λ p. party_stands w.shared sim.g p (call_at w p) (b.open_call p) b.busy b (sim.each p));
   counts = counts;
 }

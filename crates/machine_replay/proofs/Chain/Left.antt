@@ -4,10 +4,10 @@ use Rattle.std.proofs.lemmas.{Bool.ltb-true, Bool.ltb-false, Bool.Decides.eqb_te
 use Rattle.queue_steps.specs.State.{State}
 use Rattle.machine_replay.specs.{Vocabulary.Kind, Vocabulary.BLOCK_SLOTS, Vocabulary.Running, Book.Book}
 use Rattle.queue_laws.specs.Chain.ChainCells.{Reading, Done, Passer, Stands, Passing, Entering, Shown, Hidden, Showing, Seen, GivenUp, Before, Unused, Spare, Chained, Chain, ChainOk, FrontOk, ShownOk, item_at, LAST, Head, passer_of}
-use Rattle.queue_laws.proofs.Chain.{ChainTransitions.no_block, ChainCount.number_of, ChainSpan.not_done, Count.count_all, Count.count_into}
+use Rattle.queue_laws.proofs.Chain.{ChainStates.unwalked, ChainTransitions.no_block, ChainCount.number_of, ChainSpan.not_done, Count.count_all, Count.count_into}
 use Rattle.machine_memory.specs.{Blocks.BlockState, Blocks.fresh_block, Blocks.places_in, Blocks.behind_in, Blocks.without, SharedMemory.MemoryState}
 use Rattle.machine_steps.specs.{ChainLeft.unread, ChainLeft.chained, ChainLeft.settled_blocks, Left.left_of, World.World, World.call_at}
-use Rattle.machine_replay.proofs.Chain.{Codes.BlockIs, Names.NameIs, Names.name_of, Names.alive_of, Fresh.next_high, Fresh.unwalked, Holding.ChainHolds, Counted.StandsAt, Done.all_done, Done.settled_block, Shows.AllStand, Shows.deed_at, Shows.in_call, Shows.block_shows}
+use Rattle.machine_replay.proofs.Chain.{Codes.BlockIs, Names.NameIs, Names.name_of, Names.alive_of, Fresh.next_high, Holding.ChainHolds, Counted.StandsAt, Done.all_done, Done.settled_block, Shows.AllStand, Shows.deed_at, Shows.in_call, Shows.block_shows}
 use Rattle.machine_replay.proofs.Chain.Links.{next_is, last_next, spare_empty, front_then, front_is}
 
 -- from no block on there is nothing

@@ -59,6 +59,18 @@ keeps_all c s b writers readers walks link = record {
   link = link;
 }
 
+-- a chain with other words, in which a name is for the same
+pub codes_kept : {A : Type 0} {c : Chain A} {head tail : ℕ} {front last : Option ℕ} {blocks : List (Option (BlockState A))} (s : Chain A) {h t : ℕ} {f l : Option ℕ} → s.uses ≡ c.uses → ((b g : ℕ) → IsNamed c b g → IsNamed s b g × SameBlock c s b)
+    → h ≡ head_word s → t ≡ tail_word s → f ≡ shown_of s.shown (s.names s.front) → l ≡ last_of s.names s.blocks → Codes c head tail front last blocks → Codes s h t f l blocks
+codes_kept {c = c} {blocks = blocks} s uses keeps head_is tail_is front_is last_is codes = record {
+  head_is = head_is;
+  tail_is = tail_is;
+  front_is = front_is;
+  last_is = last_is;
+  unused = λ g le. ap (λ u. u g) uses ∙ codes.unused g le;
+  name = λ g. subst (λ u. NameIs s g (u g) (get_or blocks g None)) (sym uses) (name_kept c s g (c.uses g) (get_or blocks g None) (λ b is. keeps b g is) (codes.name g));
+}
+
 -- the blocks of the machine, of which one changes
 pub record Changed {A : Type 0} (blocks after : List (Option (BlockState A))) (f : ℕ) (y : Option (BlockState A)) : Type 0 where
   pub size : length after ≡ length blocks

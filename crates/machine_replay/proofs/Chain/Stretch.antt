@@ -3,8 +3,8 @@ use Rattle.std.proofs.Common.{ℕ, if◌then◌else◌, ◌≡◌, ◌∙◌, Bo
 use Rattle.queue_steps.specs.{State.State, Words.is_shut, Words.tail_of}
 use Rattle.machine_replay.specs.Vocabulary.{Kind, Word, Link, Op, Touch, MARK, EffectKind, Running}
 use Rattle.queue_laws.specs.{Common.Stand.Stand, Chain.ChainCells.Chain, Chain.ChainAnswers.tail_place, Chain.ChainAnswers.tail_word, Common.Operations.op_word, Common.Operations.op_makes}
-use Rattle.queue_laws.proofs.{Common.Tails.mark_tail, Common.Tails.shut_tail, Chain.ChainFirst.first}
-use Rattle.machine_replay.proofs.{Engine.StandOf.running_of, Chain.Fits.ChainIdle, Chain.Fits.ChainFits, Chain.Holding.ChainHolds, Chain.Laws.chain_steps, Chain.Opening.chain_opens, Chain.Opening.chain_all_idle, Chain.Stands.steps_stand, Progress.Stretch.Rules}
+use Rattle.queue_laws.proofs.{Common.Tails.mark_tail, Common.Tails.shut_tail}
+use Rattle.machine_replay.proofs.{Engine.StandOf.running_of}
 use Rattle.queue_laws.specs.Chain.ChainAt.{At, push_tail, push_block, asking, installing, showing, claiming, spending, pop_head, pop_block, pop_tail, taking, count_tail, count_head, count_again, empty_head, empty_tail, closing, closed_tail}
 use prog.Atomic.{either}
 use Rattle.machine_memory.specs.SharedMemory.{MemoryState, word_at, put_word, put_at, touched, operated, granted_if, block_touched}
@@ -87,6 +87,3 @@ operated_front ok s o h = subst (λ b. IsSome b) (sym (put_word_front s (op_word
 module _ (A : Type 0) where
   pub ready_on : (ok : Bool) (s : MemoryState A) (r : Running A) → IsSome s.head_block → IsSome (step_of Kind.Unbounded ok s r).shared.head_block
   ready_on ok s r h = operated_front ok (after_touch s r) r.op (subst (λ b. IsSome b) (sym (touched_front r.touch (block_touched r.op) s r.carried)) h)
-
-  abbrev pub chain_rules : Rules A Kind.Unbounded
-  chain_rules = record { G = Chain A; Holds = ChainHolds; Idle = ChainIdle; Fits = ChainFits; laws = chain_steps (steps_stand A); first = first; opens = chain_opens A; all_idle = chain_all_idle A }

@@ -11,7 +11,7 @@ use Rattle.queue_laws.proofs.Chain.{ChainEarly.early, ChainAnswers.head_offset, 
 use Rattle.machine_replay.specs.{Book.Open, Progress.TakesReplyWithin}
 use Rattle.machine_memory.specs.SharedMemory.{MemoryState}
 use Rattle.machine_steps.specs.Steps.{answer_to, step_of, running_after, next_after, carried_then}
-use Rattle.machine_replay.proofs.{Chain.Fits.ChainFits, Chain.Holding.ChainHolds, Chain.Laws.next_on, Chain.Stands.steps_stand, Chain.Stretch.chain_rules, Progress.Appended.HasAppend, Progress.Taken.HasTake, Progress.Taken.takes_reply}
+use Rattle.machine_replay.proofs.{Chain.Fits.ChainFits, Chain.Holding.ChainHolds, Chain.Laws.next_on, Chain.Stands.steps_stand, Chain.Kind.chain_rules, Progress.Appended.HasAppend, Progress.Taken.HasTake, Progress.Taken.takes_reply}
 
 -- a part that a pop may hold
 abbrev IsPops : Part → Type 0

@@ -6,7 +6,7 @@ use Rattle.queue_steps.specs.{State.State, Next.next_of, Words.position_of, Chai
 use Rattle.queue_steps.specs.ChainNext.{chain_tail_found, chain_head_found, chain_pop_tail_found, followed, written_found, chain_next}
 use Rattle.queue_laws.specs.{Common.Stand.Stand, Chain.ChainAfter.chain_of, Chain.ChainFacts.head_of, Chain.ChainFacts.open_tail_of}
 use Rattle.queue_laws.specs.Chain.ChainAnswers.{Answers, IsState, tail_word, head_word, shown_of, linked_of, is_wrote}
-use Rattle.machine_replay.proofs.{Engine.StandOf.stand_of, Progress.Beside.apart, Progress.Beside.beside, Progress.Beside.not_back, Chain.Laws.next_on, Chain.Stands.steps_stand, Chain.Stretch.chain_rules}
+use Rattle.machine_replay.proofs.{Engine.StandOf.stand_of, Progress.Beside.apart, Progress.Beside.beside, Progress.Beside.not_back, Chain.Laws.next_on, Chain.Stands.steps_stand, Chain.Kind.chain_rules}
 use Rattle.machine_replay.proofs.Progress.Stretch.{Here, Party, reach, first, party-open}
 use Rattle.queue_laws.specs.Chain.ChainAt.{At, push_tail, showing, laying, opening, chaining, writing, pop_head, pop_tail, following, peeking, passing, entering, awaiting, reading, beginning, walking, destroying}
 use Rattle.queue_laws.proofs.Chain.{ChainEarly.early, ChainAnswers.head_offset, ChainRanks.rank, ChainRanks.late, ChainRanks.is_seen, ChainRanks.Falls, ChainRanks.rests_if, ChainRanks.stands_if, ChainRanksPop.head_falls, ChainRanksPop.unshown_place, ChainRanksPop.pop_tail_falls}

@@ -129,9 +129,9 @@ module _ (T S R G : Type 0) (cap : Option ℕ) (step : Bool → S → R → Step
   step_event laws parties w b ok p sim r o in_w in_b =
       let t = step ok w.shared r in
       let here : Party b.busy w.shared b.queue sim.g p (Some r) (Some o) = rw (in_w, in_b) at (sim.each p) in
-      let solo : b.busy ≡ 1 → (j : ℕ) → j ≢ p → Idle sim.g j = λ one j ne.
+      let alone : b.busy ≡ 1 → (j : ℕ) → j ≢ p → Idle sim.g j = λ one j ne.
       idle_if b.busy w.shared b.queue sim.g j (call_at w j) (b.open_call j) (one_busy w.calls p j r (sym sim.busy_is ∙ one) in_w ne) (sim.each j) in
-      let well = laws.steps_well b.busy ok w.shared b.queue sim.g p r o sim.holds here solo in
+      let well = laws.steps_well b.busy ok w.shared b.queue sim.g p r o sim.holds here alone in
       let lt : p < length w.calls = ltb-true p (length w.calls) (within w p r in_w) in
       let mine = after_own b.busy o well.after well.effects in
       let busy' = if is_some t.reply then b.busy - 1 else b.busy in

@@ -21,18 +21,22 @@ pub record IsCounted {T : Type 0} (w : World (MemoryState T) (Running T)) (b : B
   pub none : (n : ℕ) → b.queue.cap ≡ Some n → present w.shared.blocks ≡ 0
   pub held_is : 0 < present w.shared.blocks → held w.shared ≡ length b.queue.items
 
-pub record KindLaws (T : Type 0) (k : Kind) : Type 1 where
+-- what its proof keeps, that each step of a call is right, and the opening
+pub record Rules (T : Type 0) (k : Kind) : Type 1 where
   pub G : Type 0
   pub Holds : MemoryState T → State T → G → Type 0
   pub Idle : G → ℕ → Type 0
   pub Fits : ℕ → MemoryState T → State T → G → ℕ → Running T → Open T → Type 0
-  -- each step of a call is right
   pub laws : LawsOf T k G Holds Idle Fits
-  -- the opening
   pub first : G
   pub opens : Holds (opening_shared k) (start (capacity_of k) 0) first
   pub all_idle : (p : ℕ) → Idle first p
-  -- the list that is left, also where items are not yet written
-  pub leaves : (parties : ℕ) (w : World (MemoryState T) (Running T)) (b : Book T) → SimulatesOf T k G Holds Idle Fits parties w b → left_of k w ≡ b.queue.items
-  -- the blocks
-  pub counts : (parties : ℕ) (w : World (MemoryState T) (Running T)) (b : Book T) → SimulatesOf T k G Holds Idle Fits parties w b → IsCounted w b
+
+abbrev pub SimulatesBy : {T : Type 0} {k : Kind} → Rules T k → ℕ → World (MemoryState T) (Running T) → Book T → Type 0
+SimulatesBy {T} {k} r = SimulatesOf T k r.G r.Holds r.Idle r.Fits
+
+-- and what the machine tells beside: the list that is left, also where items are not yet written, and how many blocks there are
+pub record KindLaws (T : Type 0) (k : Kind) : Type 1 where
+  pub rules : Rules T k
+  pub leaves : (parties : ℕ) (w : World (MemoryState T) (Running T)) (b : Book T) → SimulatesBy rules parties w b → left_of k w ≡ b.queue.items
+  pub counts : (parties : ℕ) (w : World (MemoryState T) (Running T)) (b : Book T) → SimulatesBy rules parties w b → IsCounted w b

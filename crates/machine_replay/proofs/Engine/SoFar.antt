@@ -6,7 +6,7 @@ use Rattle.machine_replay.specs.{Conforms.share, Peaks.bound_of, Peaks.opening_p
 use Rattle.machine_memory.{specs.SharedMemory.MemoryState, specs.Present.present, proofs.Busy.nobody_calls, proofs.Busy.none_are_busy}
 use Rattle.machine_steps.specs.{Steps.CanStep, Steps.step_of, Steps.start_of, Left.left_of, Left.opening_world, Machine.event_of, World.World, World.call_at}
 use Rattle.machine_replay.proofs.Engine.Events as engine
-use Rattle.machine_replay.proofs.{Engine.KindLaws.KindLaws, Engine.KindLaws.SimulatesOf, Replays.Growing.run-grows, Replays.Growing.run-cap, Replays.Growing.happens-grows, Replays.Peaking.Run-length, Replays.Peaking.peak-first, Replays.Peaking.peak-more, Replays.Peaking.peaked-covers}
+use Rattle.machine_replay.proofs.{Engine.KindLaws.KindLaws, Engine.KindLaws.SimulatesBy, Replays.Growing.run-grows, Replays.Growing.run-cap, Replays.Growing.happens-grows, Replays.Peaking.Run-length, Replays.Peaking.peak-first, Replays.Peaking.peak-more, Replays.Peaking.peaked-covers}
 
 -- a run goes on by one event
 Run-more : {T : Type 0} (cap : Option ℕ) (parties : ℕ) (b : Book T) (es : List (Event T)) (ts : List (Told T)) (mid : Book T) (e : Event T) (t : Told T) (c : Book T)
@@ -34,7 +34,7 @@ noted entry n p past told e t xs ys same number party before after =
 pub record SoFar {T : Type 0} {k : Kind} (laws : KindLaws T k) (parties : ℕ) (past : List (Event T)) (told : List (Told T)) (w : World (MemoryState T) (Running T)) (peak : Peak) : Type 0 where
   pub book : Book T
   pub run : Run (capacity_of k) parties (opening (capacity_of k)) past told book
-  pub simulates : SimulatesOf T k laws.G laws.Holds laws.Idle laws.Fits parties w book
+  pub simulates : SimulatesBy laws.rules parties w book
   pub highest : IsPeak (capacity_of k) parties past told peak
   pub no_blocks : HasNoBlocks (capacity_of k) peak
   pub covers : present w.shared.blocks ≤ peak.blocks
@@ -45,11 +45,11 @@ so_far-first {T} {k} laws parties = record {
   book = opening (capacity_of k);
   run = refl;
   simulates = record {
-    g = laws.first;
+    g = laws.rules.first;
     parties_are = length-replicate parties None;
     busy_is = sym (none_are_busy (Running T) parties);
-    holds = laws.opens;
-    each = λ p. rw (nobody_calls {X = Running T} parties p) (laws.all_idle p);
+    holds = laws.rules.opens;
+    each = λ p. rw (nobody_calls {X = Running T} parties p) (laws.rules.all_idle p);
   };
   highest = peak-first (capacity_of k) parties;
   no_blocks = none-first (capacity_of k);
@@ -61,7 +61,7 @@ so_far-first {T} {k} laws parties = record {
     none-first (Some n) = (refl, refl)
 
 -- the blocks of the machine, and the bound on them, are those of the book
-bound-share : {T : Type 0} {k : Kind} (laws : KindLaws T k) (parties : ℕ) (w : World (MemoryState T) (Running T)) (b : Book T) → SimulatesOf T k laws.G laws.Holds laws.Idle laws.Fits parties w b → 0 < present w.shared.blocks → bound_of w ≡ share b
+bound-share : {T : Type 0} {k : Kind} (laws : KindLaws T k) (parties : ℕ) (w : World (MemoryState T) (Running T)) (b : Book T) → SimulatesBy laws.rules parties w b → 0 < present w.shared.blocks → bound_of w ≡ share b
 bound-share laws parties w b sim some =
     let items = (laws.counts parties w b sim).held_is some in
     ap (λ n. n / BLOCK_SLOTS + 2 + present w.calls) items ∙ ap (λ n. length b.queue.items / BLOCK_SLOTS + 2 + n) (sym sim.busy_is)
@@ -78,7 +78,7 @@ pub so_far-more : {T : Type 0} {k : Kind} (laws : KindLaws T k) (parties : ℕ) 
 so_far-more {T} {k} laws parties past told w peak ok e s =
     let t = (event_of k ok w e).1 in
     let after = (event_of k ok w e).0 in
-    let next = engine.simulates_event T (MemoryState T) (Running T) laws.G (capacity_of k) (step_of k) (start_of k) (CanStep k) laws.Holds laws.Idle laws.Fits laws.laws parties w s.book s.simulates ok e in
+    let next = engine.simulates_event T (MemoryState T) (Running T) laws.rules.G (capacity_of k) (step_of k) (start_of k) (CanStep k) laws.rules.Holds laws.rules.Idle laws.rules.Fits laws.rules.laws parties w s.book s.simulates ok e in
     let same = Run-length (capacity_of k) parties (opening (capacity_of k)) past told s.book s.run in
     let run = Run-more (capacity_of k) parties (opening (capacity_of k)) past told s.book e t next.0 s.run next.1 in
     let counts = laws.counts parties after next.0 next.2 in
@@ -95,7 +95,7 @@ so_far-more {T} {k} laws parties past told w peak ok e s =
 pub so_far-can : {T : Type 0} {k : Kind} (laws : KindLaws T k) (parties : ℕ) (past : List (Event T)) (told : List (Told T)) (w : World (MemoryState T) (Running T)) (peak : Peak)
     → SoFar laws parties past told w peak → (ok : Bool) (p : ℕ) (r : Running T) → call_at w p ≡ Some r → CanStep k ok w.shared r
 so_far-can {T} {k} laws parties past told w peak s ok p r in_call =
-    engine.can_take T (MemoryState T) (Running T) laws.G (capacity_of k) (step_of k) (start_of k) (CanStep k) laws.Holds laws.Idle laws.Fits laws.laws parties w s.book s.simulates ok p r in_call
+    engine.can_take T (MemoryState T) (Running T) laws.rules.G (capacity_of k) (step_of k) (start_of k) (CanStep k) laws.rules.Holds laws.rules.Idle laws.rules.Fits laws.rules.laws parties w s.book s.simulates ok p r in_call
 
 -- what is left is no more than the events
 pub so_far-room : {T : Type 0} {k : Kind} (laws : KindLaws T k) (parties : ℕ) (past : List (Event T)) (told : List (Told T)) (w : World (MemoryState T) (Running T)) (peak : Peak)
@@ -108,7 +108,7 @@ so_far-room {T} {k} laws parties past told w peak s =
 pub so_far-grows : {T : Type 0} {k : Kind} (laws : KindLaws T k) (parties : ℕ) (past : List (Event T)) (told : List (Told T)) (w : World (MemoryState T) (Running T)) (peak : Peak) (ok : Bool) (e : Event T)
     → SoFar laws parties past told w peak → length (left_of k (event_of k ok w e).0) ≤ length (left_of k w) + 1
 so_far-grows {T} {k} laws parties past told w peak ok e s =
-    let next = engine.simulates_event T (MemoryState T) (Running T) laws.G (capacity_of k) (step_of k) (start_of k) (CanStep k) laws.Holds laws.Idle laws.Fits laws.laws parties w s.book s.simulates ok e in
+    let next = engine.simulates_event T (MemoryState T) (Running T) laws.rules.G (capacity_of k) (step_of k) (start_of k) (CanStep k) laws.rules.Holds laws.rules.Idle laws.rules.Fits laws.rules.laws parties w s.book s.simulates ok e in
     let before = ap (λ l. length l) (laws.leaves parties w s.book s.simulates) in
     let after = ap (λ l. length l) (laws.leaves parties (event_of k ok w e).0 next.0 next.2) in
     omega (arith, before, after, happens-grows (capacity_of k) parties s.book e (event_of k ok w e).1 next.0 next.1)
@@ -122,4 +122,4 @@ so_far-left laws parties past told w peak s = laws.leaves parties w s.book s.sim
 pub so_far-none : {T : Type 0} {k : Kind} (laws : KindLaws T k) (parties : ℕ) (past : List (Event T)) (told : List (Told T)) (w : World (MemoryState T) (Running T)) (peak : Peak)
     → (s : SoFar laws parties past told w peak) → (p : ℕ) → is_none (s.book.open_call p) ≡ is_none (call_at w p)
 so_far-none {T} {k} laws parties past told w peak s p =
-    engine.party_none T (MemoryState T) (Running T) laws.G (capacity_of k) (step_of k) (start_of k) (CanStep k) laws.Holds laws.Idle laws.Fits s.book.busy w.shared s.book.queue s.simulates.g p (call_at w p) (s.book.open_call p) (s.simulates.each p)
+    engine.party_none T (MemoryState T) (Running T) laws.rules.G (capacity_of k) (step_of k) (start_of k) (CanStep k) laws.rules.Holds laws.rules.Idle laws.rules.Fits s.book.busy w.shared s.book.queue s.simulates.g p (call_at w p) (s.book.open_call p) (s.simulates.each p)

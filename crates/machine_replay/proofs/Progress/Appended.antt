@@ -5,7 +5,8 @@ use Rattle.machine_replay.specs.{Book.Open, Conforms.capacity_of, Played.told_of
 use Rattle.machine_replay.specs.Vocabulary.{Effect, Kind, Local, Event, EffectKind, Step, Ran, Running}
 use Rattle.machine_steps.specs.{Left.opening_world, Machine.event_of, Steps.step_of, World.World, World.call_at}
 use Rattle.machine_memory.specs.SharedMemory.{MemoryState}
-use Rattle.machine_replay.proofs.Progress.{Had.Had, Had.In, Had.in-next, Had.in-here, Had.nearer, Stretch.Rules, Stretch.Here, Stretch.next, Stretch.reach, Stretch.first, Stretch.call-there, Stretch.fits-at, Stretch.count-cons}
+use Rattle.machine_replay.proofs.Engine.KindLaws.{Rules}
+use Rattle.machine_replay.proofs.Progress.{Had.Had, Had.In, Had.in-next, Had.in-here, Had.nearer, Stretch.Here, Stretch.next, Stretch.reach, Stretch.first, Stretch.call-there, Stretch.fits-at, Stretch.count-cons}
 
 abbrev pub is_append : EffectKind → Bool
 is_append EffectKind.Append = true
@@ -49,3 +50,13 @@ appends_reply T k laws closes parties p past stretch granted appends open_ =
     let few = takes-few T k laws parties closes (event_of k true w e).0 (λ q. stands_then q (st q) e t) n.here p f.0 f.1 a stretch open_.1 in
     let low = closes.within n.here.b.busy (event_of k true w e).0.shared n.here.b.queue n.here.sim.g p f.0 a.0 f.2 a.2 in
     omega (arith, few, low.1)
+
+-- a call that ends at its next step
+pub appends_reply-next : (T : Type 0) (k : Kind) (laws : Rules T k)
+    → ((busy : ℕ) (ok : Bool) (s : MemoryState T) (Q : State T) (g : laws.G) (p : ℕ) (r r' : Running T) (o : Open T) → laws.Fits busy s Q g p r o → HasAppend o.effects → (step_of k ok s r).call ≡ Some r' → ⊥) → AppendsReplyWithin T k 1
+appends_reply-next T k laws last = appends_reply T k laws (record {
+  before = λ l. 1;
+  most = 1;
+  within = λ busy s Q g p r o f had. (omega arith, omega arith);
+  falls = λ busy ok s Q g p r r' o f had goes. absurd (last busy ok s Q g p r r' o f had goes);
+})

@@ -1,15 +1,15 @@
 -- A party in a call that has had an effect of some kind, from that step on. Nothing here knows a kind of queue.
-use Rattle.std.proofs.Common.{◌≡◌, ◌∙◌, ℕ, ◌+◌, ◌<◌, ◌≤◌, ◌&&◌, nat_lt, Bool, true, false, cond, Option, Some, None, is_none, List, [], ◌∷◌, ◌++◌, length, get_or-set_same, refl, sym, ap, subst, arith, inl, inr}
+use Rattle.std.proofs.Common.{◌≡◌, ◌∙◌, ℕ, ◌+◌, ◌<◌, ◌≤◌, ◌&&◌, Bool, true, false, cond, Option, Some, None, List, [], ◌∷◌, ◌++◌, length, get_or-set_same, refl, sym, ap, subst, arith, inl, inr}
 use Rattle.std.proofs.lemmas.Bool.{ltb-true, Decides.eqb_tells}
-use Rattle.queue_laws.proofs.Common.Tests.{is_none_true}
 use Rattle.queue_steps.specs.State.{State}
-use Rattle.machine_replay.specs.Vocabulary.{Reply, Effect, Kind, Local, Event, Told, EffectKind, Begin, Step, Skipped, Ran, Running}
-use Rattle.machine_replay.specs.Book.{Book, Open, Happens, Steps, Moves, kind_of, at_open, put, joined, watched, begun, after_own}
+use Rattle.machine_replay.specs.Vocabulary.{Effect, Kind, Local, Event, Told, EffectKind, Begin, Step, Ran, Running}
+use Rattle.machine_replay.specs.Book.{Book, Open, Happens, Moves, kind_of, at_open, watched, after_own}
 use Rattle.machine_replay.specs.{Conforms.capacity_of, Conforms.party_of, Progress.reply_told, Within.is_step_of}
 use Rattle.machine_steps.specs.{Machine.event_of, Steps.CanStep, Steps.step_of, Steps.start_of, World.World, World.call_at}
 use Rattle.machine_memory.specs.SharedMemory.{MemoryState}
 use Rattle.machine_replay.proofs.Engine.Events as engine
-use Rattle.machine_replay.proofs.Progress.{Solo.and-right, Solo.put-same, Solo.put-other, Stretch.Rules, Stretch.other-stays, Stretch.begin-stays, Stretch.own-step}
+use Rattle.machine_replay.proofs.Engine.KindLaws.{Rules}
+use Rattle.machine_replay.proofs.Progress.{Alone.put-same, PartyGoes.PartyGoes, PartyGoes.skips, PartyGoes.beside, PartyGoes.begins, PartyGoes.replies, PartyGoes.goes_on, PartyGoes.ends, PartyGoes.party_goes, Stretch.other-stays, Stretch.begin-stays, Stretch.own-step}
 
 -- one of the effects is of such a kind
 abbrev pub ThisOr : Bool → Type 0 → Type 0
@@ -48,27 +48,15 @@ same-open y o u e f = let g : Some o ≡ Some u = sym e ∙ f in cc
 
 -- it is so after any event that is not its reply
 pub in-next : {T : Type 0} (such : EffectKind → Bool) (cap : Option ℕ) (parties : ℕ) (b c : Book T) (e : Event T) (t : Told T) (q : ℕ) → Happens cap parties b e t c → (party_of e ≡ q → reply_told t ≡ None) → In such (b.open_call q) → In such (c.open_call q)
-in-next such cap parties b c e Skipped q h none a = rw h.1 a
-in-next such cap parties b c (Begin p k) (Ran None None) q h none a = rw h.2 (elim (eqb_tells p q) [
-  | inl same ↦
-      let free : b.open_call q ≡ None = ap b.open_call (sym same.1) ∙ is_none_true (b.open_call p) (and-right (nat_lt p parties) (is_none (b.open_call p)) h.0) in
-      let there = a.1 in cc
-  | inr ne ↦ rw (put-other (λ j. at_open joined (b.open_call j)) p q (Some (begun k)) (λ s. ne.1 (sym s))) (in-on such joined (λ o. refl) (b.open_call q) a)
-])
-in-next such cap parties b c (Begin p k) (Ran None (Some r)) q h none a = rw h.3 a
-in-next such cap parties b c (Begin p k) (Ran (Some z) r) q h none a = absurd h
-in-next {T} such cap parties b c (Step p granted) (Ran k r) q h none a = by_reply r none h.1
+in-next {T} such cap parties b c e t q h = go (party_goes cap parties b c e t q h)
   where
-    by_reply : (r : Option (Reply T)) → (p ≡ q → r ≡ None) → Steps b p k r c → In such (c.open_call q)
-    by_reply r none s = rw (ap (λ z. z q) s.calls) (elim (eqb_tells p q) [
-      | inl same ↦
-          let was : b.open_call q ≡ Some s.o = ap b.open_call (sym same.1) ∙ s.in_call in
-          let had : Had such s.o.effects = subst (λ z. Had such z.effects) (same-open (b.open_call q) a.0 s.o a.1 was) a.2 in
-          let mine = after_own b.busy s.o c.queue s.effects in
-          let here : put (λ j. at_open (watched c.queue) (b.open_call j)) p (Some mine) q ≡ Some mine = ap (put (λ j. at_open (watched c.queue) (b.open_call j)) p (Some mine)) (sym same.1) ∙ put-same (λ j. at_open (watched c.queue) (b.open_call j)) p (Some mine) in
-          rw (none same.1) (mine, here, moved such b.queue c.queue s.o k s.effects s.moves had)
-      | inr ne ↦ rw (put-other (λ j. at_open (watched c.queue) (b.open_call j)) p q _ (λ z. ne.1 (sym z))) (in-on such (watched c.queue) (λ o. refl) (b.open_call q) a)
-    ])
+    go : {t : Told T} {y z : Option (Open T)} → PartyGoes q e t y z → (party_of e ≡ q → reply_told t ≡ None) → In such y → In such z
+    go (skips y) none a = a
+    go (beside t f y ne same) none a = in-on such f same y a
+    go (begins k own_event) none a = let there = a.1 in cc
+    go (replies r own_event) none a = let there = a.1 in cc
+    go (goes_on o mine k Q R own_event m) none a = (mine, refl, moved such Q R o k mine.effects m (subst (λ z. Had such z.effects) (same-open (Some o) a.0 o a.1 refl) a.2))
+    go (ends o k r own_event) none a = let told = none own_event in cc
 
 -- where it has one
 pub in-here : {T : Type 0} (such : EffectKind → Bool) (cap : Option ℕ) (parties : ℕ) (b c : Book T) (p : ℕ) (granted : Bool) (x : EffectKind) → such x ≡ true → (t : Told T) → t ≡ Ran (Some x) None → Happens cap parties b (Step p granted) t c → In such (c.open_call p)

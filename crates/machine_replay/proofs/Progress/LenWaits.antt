@@ -6,12 +6,13 @@ use Rattle.machine_replay.specs.{Book.Open, Played.told_of, Played.world_after, 
 use Rattle.machine_replay.specs.Vocabulary.{Kind, Local, Next, RingLocal, MAX_CAPACITY, Event, Running}
 use Rattle.queue_laws.specs.{Slot.SlotHolder.SlotHolder, Common.Stand.Stand, Ring.RingCells.Ring, Chain.ChainCells.Chain}
 use Rattle.queue_laws.specs.Slot.SlotRows as slot
-use Rattle.machine_replay.proofs.{Engine.StandOf.running_of, Progress.Beside.same_call, Chain.Stretch.chain_rules, Progress.Had.nearer, Ring.Stretch.ring_rules, Slot.Stretch.slot_rules, Progress.Standings.Agrees, Progress.Standings.in_call-next}
+use Rattle.machine_replay.proofs.{Engine.StandOf.running_of, Progress.Beside.same_call, Chain.Kind.chain_rules, Progress.Had.nearer, Ring.Kind.ring_rules, Slot.Left.slot_rules, Progress.Standings.Agrees, Progress.Standings.in_call-next}
 use Rattle.queue_laws.specs.Ring.RingAt as ring
 use Rattle.queue_laws.specs.Chain.ChainAt as links
 use Rattle.machine_steps.specs.{Left.opening_world, Machine.event_of, Steps.step_of, Steps.running_after, World.World, World.call_at}
 use Rattle.machine_memory.specs.SharedMemory.{MemoryState}
-use Rattle.machine_replay.proofs.Progress.Stretch.{Rules, Here, next, reach, first, call-there, open-there, party-open, count-cons}
+use Rattle.machine_replay.proofs.Engine.KindLaws.{Rules}
+use Rattle.machine_replay.proofs.Progress.Stretch.{Here, next, reach, first, call-there, open-there, party-open, count-cons}
 
 -- how many steps more are before a call that has read another tail
 late : ℕ → ℕ → ℕ

@@ -1,12 +1,11 @@
 -- Where a party stands, as the book of a run has it.
-use Rattle.std.proofs.Common.{◌≡◌, ◌≢◌, ◌∙◌, ℕ, ◌==◌, nat_lt, true, false, if◌then◌else◌, Option, Some, None, is_none, List, [], ◌∷◌, ◌++◌, refl, sym, ap, inl, inr}
+use Rattle.std.proofs.Common.{◌≡◌, ◌≢◌, ◌∙◌, ℕ, ◌==◌, true, false, if◌then◌else◌, Option, Some, None, List, [], ◌∷◌, ◌++◌, refl, sym, ap, inl, inr}
 use Rattle.std.proofs.lemmas.Bool.Decides.{eqb_tells}
-use Rattle.queue_laws.proofs.Common.Tests.{is_none_true}
 use Rattle.queue_steps.specs.State.{State}
-use Rattle.machine_replay.specs.Vocabulary.{Reply, Effect, Event, Told, EffectKind, Begin, Step, Skipped, Ran}
-use Rattle.machine_replay.specs.Book.{Book, Open, Happens, Steps, Moves, at_open, put, joined, watched, begun, after_own}
+use Rattle.machine_replay.specs.Vocabulary.{Effect, Event, Told, EffectKind, Skipped, Ran}
+use Rattle.machine_replay.specs.Book.{Book, Open, Happens, Moves, at_open, begun}
 use Rattle.machine_replay.specs.{Conforms.party_of, Progress.Standing, Progress.Between, Progress.Undone, Progress.HalfDone, Progress.stands_after, Progress.stands_then, Progress.effect_told, Progress.reply_told}
-use Rattle.machine_replay.proofs.Progress.Solo.{and-right, put-same, put-other}
+use Rattle.machine_replay.proofs.Progress.PartyGoes.{PartyGoes, skips, beside, begins, replies, goes_on, ends, party_goes}
 
 -- the party's open call is as it stands
 abbrev pub Agrees : {T : Type 0} → Standing → Option (Open T) → Type 0
@@ -45,49 +44,21 @@ own q x e t y same a = elim (eqb_tells (party_of e) q) [ inl b ↦ rw b.0 a | in
 others : {T : Type 0} (q : ℕ) (x : Standing) (e : Event T) (t : Told T) (y : Option (Open T)) → party_of e ≢ q → Agrees x y → Agrees (stands_then q x e t) y
 others q x e t y ne a = elim (eqb_tells (party_of e) q) [ inl b ↦ absurd (ne b.1) | inr b ↦ rw b.0 a ]
 
-skips : {T : Type 0} (q : ℕ) (x : Standing) (e : Event T) → stands_then {T = T} q x e Skipped ≡ x
-skips q x e = elim (party_of e == q) as (λ b. (if b then x else x) ≡ x) [ true ↦ refl | false ↦ refl ]
+skipped : {T : Type 0} (q : ℕ) (x : Standing) (e : Event T) → stands_then {T = T} q x e Skipped ≡ x
+skipped q x e = elim (party_of e == q) as (λ b. (if b then x else x) ≡ x) [ true ↦ refl | false ↦ refl ]
 
 -- each party's call is as it stands after an event, if it was so before
 pub agrees-next : {T : Type 0} (cap : Option ℕ) (parties : ℕ) (b c : Book T) (e : Event T) (t : Told T) (q : ℕ) (x : Standing)
     → Happens cap parties b e t c → Agrees x (b.open_call q) → Agrees (stands_then q x e t) (c.open_call q)
-agrees-next cap parties b c e Skipped q x h a = rw (skips q x e, h.1) a
-agrees-next cap parties b c (Begin p k) (Ran None None) q x h a = rw h.2 (elim (eqb_tells p q) [
-  | inl same ↦
-      let free : b.open_call q ≡ None = ap b.open_call (sym same.1) ∙ is_none_true (b.open_call p) (and-right (nat_lt p parties) (is_none (b.open_call p)) h.0) in
-      let was = agrees-none x (b.open_call q) a free in
-      let here : put (λ j. at_open joined (b.open_call j)) p (Some (begun k)) q ≡ Some (begun k) = ap (put (λ j. at_open joined (b.open_call j)) p (Some (begun k))) (sym same.1) ∙ put-same (λ j. at_open joined (b.open_call j)) p (Some (begun k)) in
-      own q x (Begin p k) (Ran None None) _ same.1 (rw was (begun k, here, refl))
-  | inr ne ↦
-      others q x (Begin p k) (Ran None None) _ ne.1 (rw (put-other (λ j. at_open joined (b.open_call j)) p q (Some (begun k)) (λ s. ne.1 (sym s))) (agrees-on joined (λ o. refl) x (b.open_call q) a))
-])
-agrees-next cap parties b c (Begin p k) (Ran None (Some r)) q x h a = rw h.3 (elim (eqb_tells p q) [
-  | inl same ↦
-      let free : b.open_call q ≡ None = ap b.open_call (sym same.1) ∙ is_none_true (b.open_call p) (and-right (nat_lt p parties) (is_none (b.open_call p)) h.0) in
-      own q x (Begin p k) (Ran None (Some r)) (b.open_call q) same.1 free
-  | inr ne ↦ others q x (Begin p k) (Ran None (Some r)) (b.open_call q) ne.1 a
-])
-agrees-next cap parties b c (Begin p k) (Ran (Some z) r) q x h a = absurd h
-agrees-next {T} cap parties b c (Step p granted) (Ran k r) q x h a = by_reply r h.1
+agrees-next {T} cap parties b c e t q x h = go (party_goes cap parties b c e t q h)
   where
-    by_reply : (r : Option (Reply T)) → Steps b p k r c → Agrees (stands_then q x (Step p granted) (Ran k r)) (c.open_call q)
-    by_reply (Some y) s = rw (ap (λ z. z q) s.calls) (elim (eqb_tells p q) [
-      | inl same ↦
-          own q x (Step p granted) (Ran k (Some y)) _ same.1 (ap (put (λ j. at_open (watched c.queue) (b.open_call j)) p None) (sym same.1) ∙ put-same (λ j. at_open (watched c.queue) (b.open_call j)) p None)
-      | inr ne ↦
-          others q x (Step p granted) (Ran k (Some y)) _ ne.1 (rw (put-other (λ j. at_open (watched c.queue) (b.open_call j)) p q None (λ z. ne.1 (sym z))) (agrees-on (watched c.queue) (λ o. refl) x (b.open_call q) a))
-    ])
-    by_reply None s =
-        let mine = after_own b.busy s.o c.queue s.effects in
-        rw (ap (λ z. z q) s.calls) (elim (eqb_tells p q) [
-          | inl same ↦
-              let was : b.open_call q ≡ Some s.o = ap b.open_call (sym same.1) ∙ s.in_call in
-              own q x (Step p granted) (Ran k None) _ same.1
-              (rw (ap (put (λ j. at_open (watched c.queue) (b.open_call j)) p (Some mine)) (sym same.1) ∙ put-same (λ j. at_open (watched c.queue) (b.open_call j)) p (Some mine))
-              (stepped x (b.open_call q) s.o mine b.queue c.queue k a was s.moves))
-          | inr ne ↦
-              others q x (Step p granted) (Ran k None) _ ne.1 (rw (put-other (λ j. at_open (watched c.queue) (b.open_call j)) p q (Some mine) (λ z. ne.1 (sym z))) (agrees-on (watched c.queue) (λ o. refl) x (b.open_call q) a))
-        ])
+    go : {t : Told T} {y z : Option (Open T)} → PartyGoes q e t y z → Agrees x y → Agrees (stands_then q x e t) z
+    go (skips y) a = rw (skipped q x e) a
+    go (beside t f y ne same) a = others q x e t (at_open f y) ne (agrees-on f same x y a)
+    go (begins k own_event) a = own q x e (Ran None None) (Some (begun k)) own_event (rw (agrees-none x None a refl) (begun k, refl, refl))
+    go (replies r own_event) a = own q x e (Ran None (Some r)) None own_event refl
+    go (goes_on o mine k Q R own_event m) a = own q x e (Ran k None) (Some mine) own_event (stepped x (Some o) o mine Q R k a refl m)
+    go (ends o k r own_event) a = own q x e (Ran k (Some r)) None own_event refl
 
 -- a party that is in a call, and gets no reply, is in it still
 pub in_call-next : {T : Type 0} (p : ℕ) (x : Standing) (e : Event T) (t : Told T) → x ≢ Between → (party_of e ≡ p → reply_told t ≡ None) → stands_then p x e t ≢ Between

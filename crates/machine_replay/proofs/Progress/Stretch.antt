@@ -1,25 +1,14 @@
 -- A stretch of a run in which nobody hinders a call: each of its steps brings it nearer to its reply, and no other step takes it back. Nothing here knows a kind of queue.
 use Rattle.std.proofs.Common.{◌≡◌, ◌≢◌, ◌∙◌, ◌⊎◌, ℕ, ◌+◌, ◌<◌, ◌≤◌, ◌==◌, ◌&&◌, nat_lt, Bool, true, false, cond, if◌then◌else◌, Option, Some, None, is_none, List, [], ◌∷◌, length, set, get_or-set_same, get_or-set_other, count_by, refl, sym, ap, subst, arith, inl, inr}
 use Rattle.std.proofs.lemmas.{List.length-replicate, Bool.ltb-true, List.Sums.sum_by-append, Bool.Decides.eqb_tells}
-use Rattle.queue_steps.specs.State.{State, start}
+use Rattle.queue_steps.specs.State.{State}
 use Rattle.machine_replay.specs.Vocabulary.{Call, Reply, Kind, Event, Told, Begin, Step, Skipped, Ran, Running}
 use Rattle.machine_replay.specs.{Book.Book, Book.Open, Book.Happens, Book.opening, Conforms.capacity_of, Conforms.party_of, Played.told_of, Played.world_after, Within.is_step_of}
-use Rattle.machine_memory.{specs.Opening.opening_shared, specs.SharedMemory.MemoryState, proofs.Busy.nobody_calls, proofs.Busy.none_are_busy}
+use Rattle.machine_memory.{specs.SharedMemory.MemoryState, proofs.Busy.nobody_calls, proofs.Busy.none_are_busy}
 use Rattle.machine_steps.specs.{Left.opening_world, Machine.event_of, Steps.CanStep, Steps.step_of, Steps.start_of, World.World, World.call_at, World.can_begin, World.began, World.stepped_if}
 use Rattle.machine_replay.proofs.Engine.Events as engine
-use Rattle.machine_replay.proofs.{Engine.KindLaws.LawsOf, Engine.KindLaws.SimulatesOf, Progress.Standings.Agrees, Progress.Standings.agrees-next, Progress.Standings.in_call-next, Progress.Standings.not_half-next}
+use Rattle.machine_replay.proofs.{Engine.KindLaws.SimulatesOf, Engine.KindLaws.Rules, Progress.Standings.Agrees, Progress.Standings.agrees-next, Progress.Standings.in_call-next, Progress.Standings.not_half-next}
 use Rattle.machine_replay.specs.Progress.{Standing, Between, Undone, HalfDone, stands_after, stands_by, stands_then, effect_told, reply_told, IsLeftToIt, NobodyShows, IsSilent, HalfDoneTakesNone, UnhinderedWithin, NeverWaits}
-
--- what is used of the laws of a kind of queue: what its proof keeps, that each step is right, and the opening
-pub record Rules (T : Type 0) (k : Kind) : Type 1 where
-  pub G : Type 0
-  pub Holds : MemoryState T → State T → G → Type 0
-  pub Idle : G → ℕ → Type 0
-  pub Fits : ℕ → MemoryState T → State T → G → ℕ → Running T → Open T → Type 0
-  pub laws : LawsOf T k G Holds Idle Fits
-  pub first : G
-  pub opens : Holds (opening_shared k) (start (capacity_of k) 0) first
-  pub all_idle : (p : ℕ) → Idle first p
 
 -- another party took this step, before which it had had no effect, and which had none
 pub record Turns {T : Type 0} {k : Kind} (rules : Rules T k) (s s' : MemoryState T) (Q : State T) (g : rules.G) : Type 0 where

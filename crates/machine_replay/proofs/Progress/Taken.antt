@@ -1,15 +1,16 @@
 -- A call that has taken replies soon, while no other call is between its append and its reply. Nothing here knows a kind of queue.
-use Rattle.std.proofs.Common.{◌≡◌, ◌≢◌, ◌∙◌, ℕ, ◌<◌, ◌≤◌, ◌==◌, nat_lt, if◌then◌else◌, Bool, true, false, Option, Some, None, is_none, List, [], ◌∷◌, count_by, refl, sym, ap, subst, arith, inl, inr}
+use Rattle.std.proofs.Common.{◌≡◌, ◌≢◌, ◌∙◌, ℕ, ◌<◌, ◌≤◌, ◌==◌, if◌then◌else◌, Bool, true, false, Option, Some, None, List, [], ◌∷◌, count_by, refl, sym, ap, subst, arith, inl, inr}
 use Rattle.std.proofs.lemmas.Bool.Decides.{eqb_tells}
-use Rattle.queue_laws.proofs.Common.Tests.{is_none_true}
 use Rattle.queue_steps.specs.State.{State}
-use Rattle.machine_replay.specs.Vocabulary.{Reply, Effect, Kind, Local, Event, Told, EffectKind, Begin, Step, Skipped, Ran, Running}
-use Rattle.machine_replay.specs.Book.{Book, Open, Happens, Steps, Moves, at_open, put, joined, watched, begun, after_own}
+use Rattle.machine_replay.specs.Vocabulary.{Effect, Kind, Local, Event, Told, EffectKind, Step, Skipped, Ran, Running}
+use Rattle.machine_replay.specs.Book.{Book, Open, Happens, Moves, at_open, begun}
 use Rattle.machine_replay.{specs.Conforms.capacity_of, specs.Conforms.party_of, specs.Played.told_of, specs.Played.world_after, specs.Within.is_step_of, proofs.Progress.Stretch.count-cons}
 use Rattle.machine_steps.specs.{Left.opening_world, Machine.event_of, Steps.CanStep, Steps.step_of, Steps.start_of, World.World, World.call_at}
 use Rattle.machine_memory.specs.SharedMemory.{MemoryState}
 use Rattle.machine_replay.proofs.Engine.Events as engine
-use Rattle.machine_replay.proofs.Progress.{Solo.and-right, Solo.put-same, Solo.put-other, Appended.is_append, Appended.HasAppend, Had.Had, Had.In, Had.less, Had.in-next, Had.in-here, Had.nearer, Stretch.Rules, Stretch.Here, Stretch.next, Stretch.first, Stretch.call-there, Stretch.fits-at}
+use Rattle.machine_replay.proofs.Engine.KindLaws.{Rules}
+use Rattle.machine_replay.proofs.Progress.{PartyGoes.PartyGoes, PartyGoes.skips, PartyGoes.beside, PartyGoes.begins, PartyGoes.replies, PartyGoes.goes_on, PartyGoes.ends, PartyGoes.party_goes, Appended.is_append, Appended.HasAppend}
+use Rattle.machine_replay.proofs.Progress.{Had.Had, Had.In, Had.less, Had.in-next, Had.in-here, Had.nearer, Stretch.Here, Stretch.next, Stretch.first, Stretch.call-there, Stretch.fits-at}
 use Rattle.machine_replay.specs.Progress.{Standing, Between, effect_told, stands_by, stands_then, writes_after, writes_then, writes_by, IsNotHeldUp, TakesReplyWithin}
 
 abbrev pub is_take : EffectKind → Bool
@@ -60,44 +61,19 @@ own q b e t y same a = elim (eqb_tells (party_of e) q) [ inl z ↦ rw z.0 a | in
 others : {T : Type 0} (q : ℕ) (b : Bool) (e : Event T) (t : Told T) (y : Option (Open T)) → party_of e ≢ q → MayWrite b y → MayWrite (writes_then q b e t) y
 others q b e t y ne a = elim (eqb_tells (party_of e) q) [ inl z ↦ absurd (ne z.1) | inr z ↦ rw z.0 a ]
 
-skips : {T : Type 0} (q : ℕ) (b : Bool) (e : Event T) → writes_then {T = T} q b e Skipped ≡ b
-skips q b e = elim (party_of e == q) as (λ z. (if z then b else b) ≡ b) [ true ↦ refl | false ↦ refl ]
+skipped : {T : Type 0} (q : ℕ) (b : Bool) (e : Event T) → writes_then {T = T} q b e Skipped ≡ b
+skipped q b e = elim (party_of e == q) as (λ z. (if z then b else b) ≡ b) [ true ↦ refl | false ↦ refl ]
 
 may-next : {T : Type 0} (cap : Option ℕ) (parties : ℕ) (b c : Book T) (e : Event T) (t : Told T) (q : ℕ) (x : Bool) → Happens cap parties b e t c → MayWrite x (b.open_call q) → MayWrite (writes_then q x e t) (c.open_call q)
-may-next cap parties b c e Skipped q x h a = rw (skips q x e, h.1) a
-may-next cap parties b c (Begin p k) (Ran None None) q x h a = rw h.2 (elim (eqb_tells p q) [
-  | inl same ↦
-      let here : put (λ j. at_open joined (b.open_call j)) p (Some (begun k)) q ≡ Some (begun k) = ap (put (λ j. at_open joined (b.open_call j)) p (Some (begun k))) (sym same.1) ∙ put-same (λ j. at_open joined (b.open_call j)) p (Some (begun k)) in
-      own q x (Begin p k) (Ran None None) _ same.1 (may-begun x _ (begun k) here refl)
-  | inr ne ↦ others q x (Begin p k) (Ran None None) _ ne.1 (rw (put-other (λ j. at_open joined (b.open_call j)) p q (Some (begun k)) (λ s. ne.1 (sym s))) (may-on joined (λ o. refl) x (b.open_call q) a))
-])
-may-next cap parties b c (Begin p k) (Ran None (Some r)) q x h a = rw h.3 (elim (eqb_tells p q) [
-  | inl same ↦
-      let free : b.open_call q ≡ None = ap b.open_call (sym same.1) ∙ is_none_true (b.open_call p) (and-right (nat_lt p parties) (is_none (b.open_call p)) h.0) in
-      own q x (Begin p k) (Ran None (Some r)) (b.open_call q) same.1 (may-none false (b.open_call q) free)
-  | inr ne ↦ others q x (Begin p k) (Ran None (Some r)) (b.open_call q) ne.1 a
-])
-may-next cap parties b c (Begin p k) (Ran (Some z) r) q x h a = absurd h
-may-next {T} cap parties b c (Step p granted) (Ran k r) q x h a = by_reply r h.1
+may-next {T} cap parties b c e t q x h = go (party_goes cap parties b c e t q h)
   where
-    by_reply : (r : Option (Reply T)) → Steps b p k r c → MayWrite (writes_then q x (Step p granted) (Ran k r)) (c.open_call q)
-    by_reply (Some y) s = rw (ap (λ z. z q) s.calls) (elim (eqb_tells p q) [
-      | inl same ↦
-          own q x (Step p granted) (Ran k (Some y)) _ same.1 (may-none false _ (ap (put (λ j. at_open (watched c.queue) (b.open_call j)) p None) (sym same.1) ∙ put-same (λ j. at_open (watched c.queue) (b.open_call j)) p None))
-      | inr ne ↦
-          others q x (Step p granted) (Ran k (Some y)) _ ne.1 (rw (put-other (λ j. at_open (watched c.queue) (b.open_call j)) p q None (λ z. ne.1 (sym z))) (may-on (watched c.queue) (λ o. refl) x (b.open_call q) a))
-    ])
-    by_reply None s =
-        let mine = after_own b.busy s.o c.queue s.effects in
-        rw (ap (λ z. z q) s.calls) (elim (eqb_tells p q) [
-          | inl same ↦
-              let was : b.open_call q ≡ Some s.o = ap b.open_call (sym same.1) ∙ s.in_call in
-              own q x (Step p granted) (Ran k None) _ same.1
-              (rw (ap (put (λ j. at_open (watched c.queue) (b.open_call j)) p (Some mine)) (sym same.1) ∙ put-same (λ j. at_open (watched c.queue) (b.open_call j)) p (Some mine))
-              (own-step-may x (b.open_call q) s.o mine k b.queue c.queue was s.moves a))
-          | inr ne ↦
-              others q x (Step p granted) (Ran k None) _ ne.1 (rw (put-other (λ j. at_open (watched c.queue) (b.open_call j)) p q (Some mine) (λ z. ne.1 (sym z))) (may-on (watched c.queue) (λ o. refl) x (b.open_call q) a))
-        ])
+    go : {t : Told T} {y z : Option (Open T)} → PartyGoes q e t y z → MayWrite x y → MayWrite (writes_then q x e t) z
+    go (skips y) a = rw (skipped q x e) a
+    go (beside t f y ne same) a = others q x e t (at_open f y) ne (may-on f same x y a)
+    go (begins k own_event) a = own q x e (Ran None None) (Some (begun k)) own_event (may-begun x (Some (begun k)) (begun k) refl refl)
+    go (replies r own_event) a = own q x e (Ran None (Some r)) None own_event (may-none false None refl)
+    go (goes_on o mine k Q R own_event m) a = own q x e (Ran k None) (Some mine) own_event (own-step-may x (Some o) o mine k Q R refl m a)
+    go (ends o k r own_event) a = own q x e (Ran k (Some r)) None own_event (may-none false None refl)
 
 -- a party that is not writing and does not append is not writing
 not_writing-next : {T : Type 0} (q : ℕ) (b : Bool) (e : Event T) (t : Told T) → b ≡ false → (party_of e ≡ q → effect_told t ≢ Some EffectKind.Append) → writes_then q b e t ≡ false
@@ -173,3 +149,18 @@ takes_reply T k laws reads parties p past stretch granted takes idle open_ =
     (λ q. may-next (capacity_of k) parties h.b n.here.b e t q (wr q) n.happens (r.1 q)) p f.0 f.1 a idle' stretch open_.2 in
     let low = reads.within n.here.b.busy (event_of k true w e).0.shared n.here.b.queue n.here.sim.g p f.0 a.0 n.here.sim.holds f.2 a.2 in
     omega (arith, few, low.1)
+
+-- a call that ends at its next step
+pub takes_reply-next : (T : Type 0) (k : Kind) (laws : Rules T k)
+    → ((busy : ℕ) (ok : Bool) (s : MemoryState T) (Q : State T) (g : laws.G) (p : ℕ) (r r' : Running T) (o : Open T) → laws.Fits busy s Q g p r o → HasTake o.effects → (step_of k ok s r).call ≡ Some r' → ⊥) → TakesReplyWithin T k 1
+takes_reply-next T k laws last = takes_reply T k laws (record {
+  before = λ l. 1;
+  most = 1;
+  Clear = λ g q. Unit {0};
+  Ready = λ g. Unit {0};
+  within = λ busy s Q g p r o holds f had. (omega arith, omega arith);
+  ready = λ busy s Q g p r o holds f had. tt;
+  rests = λ g q h. tt;
+  clears = λ busy s Q g q r o ready f none. tt;
+  falls = λ busy ok s Q g p r r' o holds f had clear goes. absurd (last busy ok s Q g p r r' o f had goes);
+})

@@ -7,7 +7,7 @@ use Rattle.queue_steps.specs.{State.State, State.start, Effect.Runs, Effect.IsHi
 use Rattle.queue_laws.proofs.Common.Runs.{cap_made}
 use Rattle.machine_replay.specs.{Book.Book, Book.Run, Book.kind_of, Book.opening, Meaning.Entry, Meaning.chosen, Meaning.effects_in, Meaning.kinds_in, OneOwner.begun_calls, OneOwner.calls_from, OneOwner.is_among, PeakTold.state_before, PeakTold.in_progress, PeakTold.PeakIsOfTheRun}
 use Rattle.machine_replay.specs.Conforms.{party_of, entries_from, effect_entry, reply_entry, skipped_entry}
-use Rattle.machine_replay.proofs.{Engine.Entries.each-all, Replays.Growing.run-cap, Progress.Solo.Counts, Progress.Solo.counts-first, Progress.Solo.counts-happens, Progress.Solo.some-busy, Replays.OwnersReplay.among-later, Replays.OwnersReplay.begun-listed, Replays.Peaking.Run-length}
+use Rattle.machine_replay.proofs.{Engine.Entries.each-all, Replays.Growing.run-cap, Progress.Alone.Counts, Progress.Alone.counts-first, Progress.Alone.counts-happens, Progress.Alone.some-busy, Replays.OwnersReplay.among-later, Replays.OwnersReplay.begun-listed, Replays.Peaking.Run-length}
 use Rattle.machine_replay.proofs.Replays.Counting.{accepted_by, length_by, counts_all, made-accepted, made-length, run-accepted, run-length}
 use Rattle.machine_replay.proofs.Replays.Rising.{effects-early, effects-late, replies-early, replies-late, skipped-late}
 

@@ -3,7 +3,7 @@ use Rattle.std.proofs.Common.{◌≡◌, ◌⊎◌, ◌∙◌, ℕ, ◌+◌, ◌
 use Rattle.machine_replay.specs.Vocabulary.{Call, Reply, Event, Told, Replay, Begin, Step, Skipped, Ran}
 use Rattle.machine_replay.specs.Book.{Book, Open, Happens, Run, begun, joined, watched, at_open, after_own, opening}
 use Rattle.machine_replay.specs.{Conforms.Conforms, Conforms.party_of, Conforms.entries_from, Conforms.reply_entry, Conforms.skipped_entry, InCall.IsInCall, Skips.IsExact, Skips.SkippedIsExact}
-use Rattle.machine_replay.proofs.{Progress.Solo.put-same, Progress.Solo.put-other, Engine.Calls.with_reply, Engine.Entries.each-all, Replays.Skips.noted}
+use Rattle.machine_replay.proofs.{Progress.Alone.put-same, Progress.Alone.put-other, Engine.Calls.with_reply, Engine.Entries.each-all, Replays.Skips.noted}
 use Rattle.machine_replay.proofs.Replays.SkipsRun.{Fair, is_skipped, reply_told, fair-skipped, fair-begun, fair-at-once, fair-step}
 
 -- where a party stands after its own step: in its call, or between calls where it replied

@@ -5,7 +5,7 @@ use Rattle.std.proofs.lemmas.{List.Elements.Contains-push, Option.slice_get_with
 use Rattle.queue_laws.proofs.Common.Tests.{is_none_true}
 use Rattle.machine_replay.specs.Vocabulary.{Call, Reply, Event, Told, EffectKind, Begin, Step, Skipped, Ran}
 use Rattle.machine_replay.specs.{Book.Book, Book.Open, Book.fits, Book.joined, Book.watched, Book.at_open, Conforms.party_of, Conforms.entries_from, Conforms.reply_entry, Conforms.skipped_entry, InCall.IsInCall, Skips.ShouldRun, Skips.IsExact}
-use Rattle.machine_replay.proofs.{Engine.Calls.with_reply, Engine.Calls.early-with_reply, Engine.Entries.each-more, Engine.Entries.each-all, Engine.Entries.event-last, Engine.Entries.length-one, Progress.Solo.and-left, Progress.Solo.and-right, Engine.SoFar.entries-more}
+use Rattle.machine_replay.proofs.{Engine.Calls.with_reply, Engine.Calls.early-with_reply, Engine.Entries.each-more, Engine.Entries.each-all, Engine.Entries.event-last, Engine.Entries.length-one, Progress.Alone.and-left, Progress.Alone.and-right, Engine.SoFar.entries-more}
 use Rattle.machine_replay.proofs.Replays.Skips.{noted, event-less, not-in-later, earlier-now, earlier-before, exact-now, goes-on, there-before, was-there, is-over, last-or-earlier}
 
 -- what is known of the skipped events so far

@@ -3,11 +3,12 @@ use Rattle.std.proofs.Common.{ℕ, ◌+◌, ◌%◌, ◌<◌, ◌≤◌, ◌≡�
 use Rattle.std.proofs.{Math.Nat.min-eq_left, Math.Nat.min-eq_right, lemmas.Bool.ne_eqb, lemmas.Bool.Decides.eqb_tells, lemmas.Option.none-some}
 use Rattle.queue_steps.specs.{State.State, RingNext.lap_found, RingNext.loads, RingNext.push_stamp_found, Words.IsRing, Words.position_of, Words.is_shut, Words.slot_at, Words.stamp_filled, Words.stamp_free, Words.tail_of, Next.next_of}
 use Rattle.machine_replay.specs.Vocabulary.{Call, Effect, Kind, Word, Op, Touch, Local, Next, PushKind, RingLocal, TAIL_STEP, Running}
-use Rattle.queue_laws.specs.{Common.Effects.with_effect, Common.Stand.Stand, Ring.RingOpening.opening_ring, Ring.RingWords.Codes, Ring.RingWords.stamp_in}
+use Rattle.queue_laws.specs.{Common.Effects.with_effect, Common.Stand.Stand, Ring.RingWords.Codes, Ring.RingWords.stamp_in}
 use Rattle.queue_laws.proofs.{Common.Ranks.either_small, Common.Tails.position_tail, Common.Tails.shut_tail, Ring.RingStart.holds_none, Ring.RingStepOk.NextOk, Ring.RingStepOk.IsQuiet, Ring.RingRanks.rank, Ring.RingRanks.rank_some, Ring.RingSlots.nobody, Ring.RingTransitions.in_ring}
 use Rattle.queue_laws.proofs.Ring.RingStep.{step_good}
-use Rattle.machine_replay.proofs.{Engine.StandOf.running_of, Engine.Plain.plain-step, Ring.Coded.part, Ring.Coded.same_step, Ring.Laws.RingHolds, Ring.Laws.RingIdle, Ring.Laws.RingFits, Ring.Laws.ring_steps, Ring.Opening.ring_opens, Ring.Opening.ring_all_idle, Progress.Appended.HasAppend}
-use Rattle.machine_replay.proofs.Progress.{Appended.appends_reply, Taken.HasTake, Taken.takes_reply, Stretch.Rules, Stretch.Paces, Stretch.unhindered, Stretch.never_waits, Stretch.waits_take_none}
+use Rattle.machine_replay.proofs.{Engine.StandOf.running_of, Engine.Plain.plain-step, Ring.Coded.part, Ring.Coded.same_step, Ring.Laws.RingHolds, Ring.Laws.RingIdle, Ring.Laws.RingFits, Progress.Appended.HasAppend}
+use Rattle.machine_replay.proofs.Ring.Kind.{ring_rules}
+use Rattle.machine_replay.proofs.Progress.{Appended.appends_reply-next, Taken.HasTake, Taken.takes_reply-next, Stretch.Paces, Stretch.unhindered, Stretch.never_waits, Stretch.waits_take_none}
 use Rattle.queue_laws.specs.Ring.RingShared as ring
 use Rattle.queue_laws.specs.Ring.RingCells.{Cell, Free, Written, Read, Coming, Swapped, Ring, RingOk, CellOk, owner, queue_of}
 use Rattle.queue_laws.specs.Ring.RingAt.{At, push_stamp, claiming, filling, push_head, displacing, arriving, swapping, pop_stamp, taking, emptying, pop_tail, count_head, count_again}
@@ -169,10 +170,7 @@ module _ {A : Type 0} (cap : ℕ) where
   tail_is : (s : MemoryState A) (Q : State A) (g : Ring A) → RingHolds cap s Q g → s.tail ≡ tail_of Q.accepted Q.closed
   tail_is s Q g holds = holds.codes.tail ∙ ap (λ q. tail_of q.accepted q.closed) (sym holds.queue_is)
 
-  abbrev pub ring_rules : IsRing cap → Rules A (Kind.Bounded cap)
-  ring_rules ring = record { G = Ring A; Holds = RingHolds cap; Idle = RingIdle; Fits = RingFits cap; laws = ring_steps cap; first = opening_ring A; opens = ring_opens A cap ring; all_idle = ring_all_idle A }
-
-  ring_paces : (ring : IsRing cap) → Paces A (Kind.Bounded cap) (ring_rules ring)
+  ring_paces : (ring : IsRing cap) → Paces A (Kind.Bounded cap) (ring_rules cap ring)
   ring_paces ring = record {
     rank = λ s r. near (far cap s r.local);
     most = 6;
@@ -191,7 +189,7 @@ module _ {A : Type 0} (cap : ℕ) where
 
   pub ring_unhindered : IsRing cap → UnhinderedWithin A (Kind.Bounded cap) 6
   unfolding ring_paces
-  ring_unhindered ring = unhindered A (Kind.Bounded cap) (ring_rules ring) (ring_paces ring) (λ parties w st h p r is nobody. tt)
+  ring_unhindered ring = unhindered A (Kind.Bounded cap) (ring_rules cap ring) (ring_paces ring) (λ parties w st h p r is nobody. tt)
 
 -- a call that holds a slot ends at its next step, but for the arrival of its item
 half_ends : {A : Type 0} {cap : ℕ} {r : Ring A} {who : ℕ} {ms : List (State A)} {was : Bool} {c : Stand A} (ok : Bool) (s : MemoryState A) (r' : Running A) → At cap r who ms was c → c.effects ≢ []
@@ -215,12 +213,7 @@ append_ends ok s r' (filling d v q one) had goes = none-some r' goes
 append_ends ok s r' x had goes = absurd had
 
 pub ring_appends : (A : Type 0) (cap : ℕ) → IsRing cap → AppendsReplyWithin A (Kind.Bounded cap) 1
-ring_appends A cap ring = appends_reply A (Kind.Bounded cap) (ring_rules cap ring) (record {
-  before = λ l. 1;
-  most = 1;
-  within = λ busy s Q g p r o f had. (omega arith, omega arith);
-  falls = λ busy ok s Q g p r r' o f had goes. absurd (append_ends ok s r' f.here had goes);
-})
+ring_appends A cap ring = appends_reply-next A (Kind.Bounded cap) (ring_rules cap ring) (λ busy ok s Q g p r r' o f had goes. append_ends ok s r' f.here had goes)
 
 -- a call that has taken ends at its next step
 take_ends : {A : Type 0} {cap : ℕ} {r : Ring A} {who : ℕ} {ms : List (State A)} {was : Bool} {c : Stand A} (ok : Bool) (s : MemoryState A) (r' : Running A) → At cap r who ms was c → HasTake c.effects
@@ -229,14 +222,4 @@ take_ends ok s r' (emptying x h one) had goes = none-some r' goes
 take_ends ok s r' x had goes = absurd had
 
 pub ring_takes : (A : Type 0) (cap : ℕ) → IsRing cap → TakesReplyWithin A (Kind.Bounded cap) 1
-ring_takes A cap ring = takes_reply A (Kind.Bounded cap) (ring_rules cap ring) (record {
-  before = λ l. 1;
-  most = 1;
-  Clear = λ g q. Unit {0};
-  Ready = λ g. Unit {0};
-  within = λ busy s Q g p r o holds f had. (omega arith, omega arith);
-  ready = λ busy s Q g p r o holds f had. tt;
-  rests = λ g q h. tt;
-  clears = λ busy s Q g q r o ready f none. tt;
-  falls = λ busy ok s Q g p r r' o holds f had clear goes. absurd (take_ends ok s r' f.here had goes);
-})
+ring_takes A cap ring = takes_reply-next A (Kind.Bounded cap) (ring_rules cap ring) (λ busy ok s Q g p r r' o f had goes. take_ends ok s r' f.here had goes)

@@ -9,7 +9,7 @@ use Rattle.queue_laws.specs.Ring.RingCells.{Cell, Free, Written, Full, Read, Com
 use Rattle.machine_steps.specs.{Left.opening_world, Steps.step_of, Steps.running_after, World.World, World.call_at}
 use Rattle.machine_memory.specs.SharedMemory.{MemoryState, word_at}
 use Rattle.machine_replay.specs.{Book.Open, Played.told_of, Played.world_after, Progress.Standing, Progress.Between, Progress.stands_by, Waits.RingCallsWait, Waits.IsBeside, Waits.GoesOn, Waits.GoesOnTwice, Waits.IsPushToStamp, Waits.HasFront, Waits.HasLastLap, Waits.IsToFill}
-use Rattle.machine_replay.proofs.{Progress.Beside.apart, Progress.Beside.beside, Progress.Beside.not_back, Progress.Beside.same_call, Ring.Stretch.ring_rules, Progress.Stretch.Here, Progress.Stretch.Party, Progress.Stretch.reach, Progress.Stretch.first, Progress.Stretch.party-open}
+use Rattle.machine_replay.proofs.{Progress.Beside.apart, Progress.Beside.beside, Progress.Beside.not_back, Progress.Beside.same_call, Ring.Kind.ring_rules, Progress.Stretch.Here, Progress.Stretch.Party, Progress.Stretch.reach, Progress.Stretch.first, Progress.Stretch.party-open}
 
 -- where a call stands that has a slot
 abbrev HolderAt : {A : Type 0} → Cell A → Local ℕ → Type 0

@@ -8,7 +8,7 @@ use Rattle.queue_laws.specs.Slot.SlotRows.{Codes, free_empty, free_full, filling
 use Rattle.machine_memory.specs.SharedMemory.{MemoryState}
 use Rattle.machine_steps.specs.{Steps.CanStep, Steps.step_of, Steps.start_of, Left.left_of, Left.all_written, World.World, World.call_at}
 use Rattle.machine_replay.proofs.Engine.Events as engine
-use Rattle.machine_replay.proofs.{Engine.KindLaws.SimulatesOf, Engine.KindLaws.KindLaws, Engine.Counted.counted-none, Slot.Laws.SlotHolds, Slot.Laws.FitsIn, Slot.Laws.slot_engine}
+use Rattle.machine_replay.proofs.{Engine.KindLaws.SimulatesOf, Engine.KindLaws.Rules, Engine.KindLaws.KindLaws, Engine.Counted.counted-none, Slot.Laws.SlotHolds, Slot.Laws.FitsIn, Slot.Laws.slot_engine}
 use Rattle.machine_replay.proofs.Engine.AllWritten.{writes, writes_slot, all_written-none, all_written-one}
 
 -- what the lock's holder is about to write
@@ -87,9 +87,9 @@ slot_left {T} parties w b sim =
     (λ none. slot_kept w.calls (holds.slot ∷ []) sim.g writing none)
     (λ v some. slot_filled w.calls (holds.slot ∷ []) sim.g v (omega arith) writing some))
 
--- a queue of one slot owes no more
-pub slot_laws : (T : Type 0) → KindLaws T Kind.Single
-slot_laws T = record {
+-- a queue of one slot keeps the laws of the machine
+abbrev pub slot_rules : (T : Type 0) → Rules T Kind.Single
+slot_rules T = record {
   G = LockHolder T;
   Holds = SlotHolds;
   Idle = Idle;
@@ -98,6 +98,12 @@ slot_laws T = record {
   first = record { who = 0; hold = Nobody };
   opens = record { word = 0; slot = None; items = []; c = false; n = 0; shared_is = refl; queue_is = refl; stands = free_empty false };
   all_idle = λ p. elim (p == 0) as (λ b. if◌then◌else◌ {A = SlotHolder T} b Nobody Nobody ≡ Nobody) [ true ↦ refl | false ↦ refl ];
+}
+
+-- and owes no more
+pub slot_laws : (T : Type 0) → KindLaws T Kind.Single
+slot_laws T = record {
+  rules = slot_rules T;
   leaves = λ parties w b sim. slot_left parties w b sim;
   counts = λ parties w b sim. counted-none w b 1 (ap (λ s. s.blocks) sim.holds.shared_is) (ap (λ q. q.cap) sim.holds.queue_is);
 }

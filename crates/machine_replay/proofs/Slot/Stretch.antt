@@ -1,11 +1,12 @@
 -- One slot: a call that nobody hinders replies by its third step.
-use Rattle.std.proofs.Common.{ℕ, ◌==◌, if◌then◌else◌, ◌<◌, ◌≡◌, ◌≢◌, ◌∙◌, Bool, true, false, Option, Some, None, List, [], ◌∷◌, refl, sym, ap, subst, arith}
+use Rattle.std.proofs.Common.{ℕ, ◌<◌, ◌≡◌, ◌≢◌, ◌∙◌, Bool, true, false, Option, Some, List, [], ◌∷◌, refl, sym, ap, subst}
 use Rattle.std.proofs.lemmas.Option.{none-some}
 use Rattle.queue_steps.specs.{State.State, Next.next_of, declared.steps.slot.SlotLocal.TheVariants.Pushed, declared.steps.slot.SlotLocal.TheVariants.Forced, declared.steps.slot.SlotLocal.TheVariants.Popped}
 use Rattle.machine_replay.specs.{Vocabulary.Kind, Vocabulary.Local, Vocabulary.Next, Vocabulary.Running, Book.Open, Progress.AppendsReplyWithin, Progress.TakesReplyWithin, Progress.HalfDoneTakesNone, Progress.UnhinderedWithin, Progress.NeverWaits}
 use Rattle.queue_laws.specs.{Common.Stand.Stand, Slot.SlotHolder.SlotHolder, Slot.SlotHolder.Nobody, Slot.SlotHolder.Taking, Slot.SlotHolder.LockHolder, Slot.SlotHolder.Idle}
-use Rattle.machine_replay.proofs.{Engine.StandOf.running_of, Slot.Coded.one_slot, Slot.Coded.same_step, Slot.Coded.shared_same, Slot.Laws.SlotHolds, Slot.Laws.FitsIn, Slot.Laws.slot_engine, Progress.Appended.HasAppend, Progress.Appended.appends_reply, Progress.Taken.HasTake}
-use Rattle.machine_replay.proofs.Progress.{Taken.takes_reply, Stretch.Rules, Stretch.Paces, Stretch.unhindered, Stretch.never_waits, Stretch.waits_take_none}
+use Rattle.machine_replay.proofs.{Engine.StandOf.running_of, Slot.Coded.one_slot, Slot.Coded.same_step, Slot.Coded.shared_same, Slot.Laws.SlotHolds, Slot.Laws.FitsIn, Progress.Appended.HasAppend, Progress.Appended.appends_reply-next, Progress.Taken.HasTake}
+use Rattle.machine_replay.proofs.Slot.Left.{slot_rules}
+use Rattle.machine_replay.proofs.Progress.{Taken.takes_reply-next, Stretch.Paces, Stretch.unhindered, Stretch.never_waits, Stretch.waits_take_none}
 use Rattle.queue_laws.specs.Slot.SlotShared as slot
 use Rattle.queue_laws.specs.Slot.SlotRows.{Codes, free_empty, At, push_try, push_put, force_put_empty, force_put_full, pop_take, code}
 use Rattle.queue_laws.proofs.Slot.{SlotHolder.own_alone, SlotRanks.rank, SlotRanks.rank_small, SlotRanks.rank_some, SlotRanks.Falls, SlotRanks.step_falls}
@@ -72,18 +73,6 @@ module _ {T : Type 0} where
           subst (λ w. rank r'.local w < rank r.local holds.word) (sym (ap (λ c. c.lock) left))
           (goes_on _ (carried_then memory r) r' (rank r.local holds.word) after.lock (subst (λ n. running_after n (carried_then memory r) ≡ Some r') went goes) falls)
 
-abbrev pub slot_rules : (T : Type 0) → Rules T Kind.Single
-slot_rules T = record {
-  G = LockHolder T;
-  Holds = SlotHolds;
-  Idle = Idle;
-  Fits = FitsIn;
-  laws = slot_engine;
-  first = record { who = 0; hold = Nobody };
-  opens = record { word = 0; slot = None; items = []; c = false; n = 0; shared_is = refl; queue_is = refl; stands = free_empty false };
-  all_idle = λ p. elim (p == 0) as (λ b. if◌then◌else◌ {A = SlotHolder T} b Nobody Nobody ≡ Nobody) [ true ↦ refl | false ↦ refl ];
-}
-
 slot_paces : (T : Type 0) → Paces T Kind.Single (slot_rules T)
 slot_paces T = record {
   rank = λ s r. rank r.local s.lock;
@@ -124,23 +113,8 @@ append_ends ok s r' (force_put_empty v) had goes = none-some r' goes
 append_ends ok s r' x had goes = absurd had
 
 pub slot_appends : (T : Type 0) → AppendsReplyWithin T Kind.Single 1
-slot_appends T = appends_reply T Kind.Single (slot_rules T) (record {
-  before = λ l. 1;
-  most = 1;
-  within = λ busy s Q g p r o f had. (omega arith, omega arith);
-  falls = λ busy ok s Q g p r r' o f had goes. absurd (append_ends ok s r' f.here had goes);
-})
+slot_appends T = appends_reply-next T Kind.Single (slot_rules T) (λ busy ok s Q g p r r' o f had goes. append_ends ok s r' f.here had goes)
 
 -- a call that has taken ends at its next step
 pub slot_takes : (T : Type 0) → TakesReplyWithin T Kind.Single 1
-slot_takes T = takes_reply T Kind.Single (slot_rules T) (record {
-  before = λ l. 1;
-  most = 1;
-  Clear = λ g q. Unit {0};
-  Ready = λ g. Unit {0};
-  within = λ busy s Q g p r o holds f had. (omega arith, omega arith);
-  ready = λ busy s Q g p r o holds f had. tt;
-  rests = λ g q h. tt;
-  clears = λ busy s Q g q r o ready f none. tt;
-  falls = λ busy ok s Q g p r r' o holds f had clear goes. absurd (half_ends ok s r' f.here (λ e. subst HasTake e had) goes);
-})
+slot_takes T = takes_reply-next T Kind.Single (slot_rules T) (λ busy ok s Q g p r r' o f had goes. half_ends ok s r' f.here (λ e. subst HasTake e had) goes)

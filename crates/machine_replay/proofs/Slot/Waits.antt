@@ -6,7 +6,7 @@ use Rattle.queue_steps.specs.declared.steps.slot.SlotLocal.TheVariants.{Pushing,
 use Rattle.machine_replay.specs.{Vocabulary.Kind, Vocabulary.Answer, Vocabulary.Local, Vocabulary.Running, Book.Open, Played.told_of, Played.world_after, Progress.Standing, Progress.Between, Progress.stands_by}
 use Rattle.machine_replay.specs.Waits.{SlotWaits, SlotCallsWait, IsBeside, GoesOn, IsToUnlock, IsPushToUnlock, IsPopToUnlock}
 use Rattle.queue_laws.specs.{Common.Stand.Stand, Slot.SlotHolder.SlotHolder, Slot.SlotHolder.Nobody, Slot.SlotHolder.Taking, Slot.SlotHolder.LockHolder}
-use Rattle.machine_replay.proofs.{Engine.StandOf.stand_of, Progress.Beside.beside, Progress.Beside.not_back, Slot.Coded.one_slot, Slot.Coded.same_step, Slot.Stretch.slot_rules, Progress.Stretch.Here, Progress.Stretch.Party, Progress.Stretch.reach, Progress.Stretch.first, Progress.Stretch.party-open}
+use Rattle.machine_replay.proofs.{Engine.StandOf.stand_of, Progress.Beside.beside, Progress.Beside.not_back, Slot.Coded.one_slot, Slot.Coded.same_step, Slot.Left.slot_rules, Progress.Stretch.Here, Progress.Stretch.Party, Progress.Stretch.reach, Progress.Stretch.first, Progress.Stretch.party-open}
 use Rattle.queue_laws.specs.Slot.SlotShared as slot
 use Rattle.queue_laws.specs.Slot.SlotRows.{Codes, free_empty, free_full, filling, swapping, taking, At, push_try, push_put, force_put_empty, force_put_full, pop_take}
 use Rattle.machine_steps.specs.{Left.opening_world, Steps.step_of, Steps.running_after, Steps.carried_then, World.World, World.call_at}

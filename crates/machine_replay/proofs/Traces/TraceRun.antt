@@ -6,7 +6,7 @@ use Rattle.queue_steps.specs.Replies.{IsRightAt}
 use Rattle.machine_replay.specs.Vocabulary.{Call, Reply, Effect, Event, Told, EffectKind, Begin, Step, Skipped, Ran}
 use Rattle.machine_replay.specs.Book.{Book, Open, IsBegun, Steps, GoesOn, Happens, Run, has_steps, begun, joined, watched, after_own, put, at_open, opening}
 use Rattle.machine_replay.specs.{Conforms.entries_from, Conforms.reply_entry, Conforms.skipped_entry, InCall.IsInCall, Meaning.Entry, Meaning.state_after, Meaning.own_effects, Meaning.RepliesAtOnce, Meaning.ConformingHasHistory}
-use Rattle.machine_replay.proofs.{Engine.Calls.with_reply, Traces.Displacing.pending, Engine.Moments.begun_none, Engine.Entries.each-all, Engine.Entries.each-more, Engine.Entries.event-last, Engine.Entries.state-last, Engine.Entries.own-none, Progress.Solo.and-right, Replays.Rising.replies-rise}
+use Rattle.machine_replay.proofs.{Engine.Calls.with_reply, Traces.Displacing.pending, Engine.Moments.begun_none, Engine.Entries.each-all, Engine.Entries.each-more, Engine.Entries.event-last, Engine.Entries.state-last, Engine.Entries.own-none, Progress.Alone.and-right, Replays.Rising.replies-rise}
 use Rattle.machine_replay.proofs.{Replays.Rising.skipped-late, Replays.Rising.skipped-rise, Replays.SkipsAll.in-call-at-end, Traces.Trace.Since, Traces.Trace.Trace, Traces.Trace.ReplyOwes, Traces.Trace.FitsIf, Traces.Trace.trace-more, Traces.Trace.added, Traces.Trace.leads-added}
 use Rattle.machine_replay.proofs.Traces.TraceSteps.{put-cases, at_open-cases, since-other, since-joined, since-watched, moves-does, Does, since-own, answer-own, entry-owes, others-wait}
 

@@ -128,15 +128,15 @@ good_laying {A} c who ms d v n name f ok holds mine lays_it fresh =
     next_is : c.blocks ≡ n / BLOCK_SLOTS + 1
     next_is = let x = at in let y = some in omega arith
 
-    solo : c.links (c.blocks - 1) ≡ Unlinked
-    solo = go (c.links (c.blocks - 1)) refl (ok.link (c.blocks - 1))
+    unlinked : c.links (c.blocks - 1) ≡ Unlinked
+    unlinked = go (c.links (c.blocks - 1)) refl (ok.link (c.blocks - 1))
       where
         go : (l : LinkState) → c.links (c.blocks - 1) ≡ l → LinkOk c.blocks (c.blocks - 1) l → c.links (c.blocks - 1) ≡ Unlinked
         go Unlinked is h = is
         go l is h = absurd (let y = some in omega arith)
 
     pass : Passes who c (moves.laid_out c who f)
-    pass = passes_laid_out c who f ok lays_it.0 solo fresh
+    pass = passes_laid_out c who f ok lays_it.0 unlinked fresh
 
 -- U7: the tail moves on to the next block
 pub good_opening : {A : Type 0} (c : Chain A) (who : ℕ) (ms : List (State A)) (d : PushKind) (v : A) (n name f : ℕ)

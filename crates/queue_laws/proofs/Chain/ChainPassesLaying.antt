@@ -7,11 +7,11 @@ use Rattle.queue_laws.proofs.Chain.ChainPasses.{passes_push}
 
 -- U6
 pub passes_laid_out : {A : Type 0} (c : Chain A) (who : ℕ) (f : ℕ) → ChainOk c → c.mover ≡ Laying who → c.links (c.blocks - 1) ≡ Unlinked → c.uses f ≡ Spare who → Passes who c (laid_out c who f)
-passes_laid_out c who f ok is solo spare = passes_push who (record {
+passes_laid_out c who f ok is unlinked spare = passes_push who (record {
   tail = record { moves = inl refl; rests = λ e. absurd (let z : Laying who ≡ Rests = sym is ∙ e in cc); left = leaves_own (free_own (ap mover_of is)) (free_own refl) };
   places = λ n. item_same who (c.writers n);
   blocks = blocks_more who c.blocks c.names c.uses f spare;
-  links = row_put (Once who linker_of Linked) c.links (c.blocks - 1) (Linking who) (λ l. once_same) (rw solo links_it);
+  links = row_put (Once who linker_of Linked) c.links (c.blocks - 1) (Linking who) (λ l. once_same) (rw unlinked links_it);
   front = once_same;
 }) refl
   where

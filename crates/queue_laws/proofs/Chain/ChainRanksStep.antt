@@ -83,9 +83,9 @@ quiet_ready {c = c} {who = who} (pop_block n more none is room) ok quiet = unsho
 quiet_ready _ ok quiet = tt
 
 -- so does each step of a call that is alone
-pub lone_falls : {A : Type 0} {c : Chain A} {who : ℕ} {ms : List (State A)} {k : Stand A} (at : At c who ms k) (a : Answer ℕ)
+pub alone_falls : {A : Type 0} {c : Chain A} {who : ℕ} {ms : List (State A)} {k : Stand A} (at : At c who ms k) (a : Answer ℕ)
     → ChainOk c → Answers c k.op a → IsQuiet c who → Falls (after_of at a) (chain_next (chain_of k.local) a) (rank c k.local)
-lone_falls at a ok found quiet = step_falls at a ok found (λ j ne x e. absurd (quiet j ne x e)) (quiet_ready at ok quiet)
+alone_falls at a ok found quiet = step_falls at a ok found (λ j ne x e. absurd (quiet j ne x e)) (quiet_ready at ok quiet)
 
 -- each step of a wait-free call leaves fewer steps before it, whoever holds a part
 pub wait_free_falls : {A : Type 0} {c : Chain A} {who : ℕ} {ms : List (State A)} {k : Stand A} (at : At c who ms k) (a : Answer ℕ)

@@ -1,12 +1,12 @@
 -- The steps of a pop that reads its item, and of the walk over a passed block.
 use Rattle.queue_laws.specs.Chain.{ChainTransitions.walk_after, ChainFacts.IsNamed, ChainAt.Only, ChainAt.walking, ChainAt.destroying, ChainAnswers.IsState, ChainAnswers.is_done, ChainAfter.if_walked, ChainAfter.if_destroyed}
-use Rattle.queue_laws.specs.Common.Vocabulary.{Call, Reply, Effect, Answer, BLOCK_SLOTS}
+use Rattle.queue_laws.specs.Common.Vocabulary.{Call, Reply, Effect, Answer, Next, Touch, BLOCK_SLOTS}
 use Rattle.std.proofs.lemmas.Bool.{Decides.eqb_tells, lt-ltb, le-ltb}
-use Rattle.queue_steps.specs.{State.State, declared.steps.chain.ChainLocal.ChainLocal as chain, ChainNext.walks_on}
+use Rattle.queue_steps.specs.{State.State, declared.steps.chain.ChainLocal.ChainLocal as chain, ChainNext.walks, ChainNext.walks_on}
 use Rattle.queue_laws.proofs.{Chain.ChainReads.walk_after_ok, Chain.ChainReads.walk_ok, Chain.ChainPassesReads.passes_walked, Chain.ChainAnswers.done_is, Chain.ChainHolds.after_walk, Chain.ChainHolds.after_walk_on, Common.Puts.put_same}
 use Rattle.queue_laws.proofs.Chain.ChainStepOk.{NextOk, StepOk, still, silent}
 use Rattle.std.proofs.Common.{ℕ, ◌+◌, ◌<◌, ◌≡◌, ◌≢◌, not, ◌∙◌, ◌⊎◌, inl, inr, Bool, true, false, if◌then◌else◌, Some, None, Ok, List, [], ◌∷◌, refl, sym, ap, subst, arith}
-use Rattle.queue_laws.specs.Chain.ChainCells.{Reader, Unread, Done, Walker, Waits, GivenUp, Chain, queue_of, WalkOk, IsWalked, item_at, LAST, ChainOk, Passed, walker_of, HoldsOnly, Nothing}
+use Rattle.queue_laws.specs.Chain.ChainCells.{Reader, Unread, Done, Walker, Waits, Walk, GivenUp, Chain, queue_of, WalkOk, IsWalked, item_at, LAST, ChainOk, Passed, walker_of, HoldsOnly, Nothing}
 use Rattle.queue_laws.specs.Chain.ChainTransitions as moves
 
 -- whose the walk is after a slot
@@ -20,14 +20,20 @@ after_mine who other slot ne e = elim (after_walker who slot) [
   | inr h ↦ (let z : Some who ≡ Some other = ap walker_of (sym h.0) ∙ e in absurd (ne (let y : other ≡ who = cc in y)))
 ]
 
+-- what is so of a walk that goes on behind a slot, and of one that ends there and gives the block up
+pub behind_slot : (P : Walk → Next ℕ → Type 0) (who name slot : ℕ) → slot < LAST → (slot + 1 ≢ LAST → P (Walker who (slot + 1)) (walks name (slot + 1) Touch.Nothing))
+    → (slot + 1 ≡ LAST → P GivenUp (Next.Reply (Reply.Pop (Ok tt)) (Some name))) → P (walk_after who slot) (walks_on name slot)
+behind_slot P who name slot lt on over = elim (eqb_tells (slot + 1) LAST) [
+  | inl t ↦ rw (t.0, le-ltb (slot + 2) BLOCK_SLOTS (let e = t.1 in omega arith)) (over t.1)
+  | inr t ↦ rw (t.0, lt-ltb (slot + 2) BLOCK_SLOTS (let ne = t.1 in omega arith)) (on t.1)
+]
+
 -- the walk goes on after a slot, or ends and gives the block up
 pub on_goes : {A : Type 0} (s : Chain A) (who : ℕ) (ms : List (State A)) (x : A) (b name slot : ℕ) → slot < LAST → IsNamed s b name → s.walks b ≡ walk_after who slot
     → (walk_after who slot ≡ GivenUp → HoldsOnly s who Nothing) → HoldsOnly s who (Only (Passed b)) → NextOk s who ms (walks_on name slot) (Some x) Call.Pop (Effect.Take x ∷ [])
-on_goes {A} s who ms x b name slot lt named is over on = go (after_walker who slot)
-  where
-    go : ((walk_after who slot ≡ GivenUp) × (slot + 1 ≡ LAST)) ⊎ ((walk_after who slot ≡ Walker who (slot + 1)) × (slot + 1 ≢ LAST)) → NextOk s who ms (walks_on name slot) (Some x) Call.Pop (Effect.Take x ∷ [])
-    go (inl h) = rw (le-ltb (slot + 2) BLOCK_SLOTS (let e = h.1 in omega arith)) (over h.0, inr (b, named, is ∙ h.0), (Reply.Pop (Ok x), refl, refl, λ e. cc))
-    go (inr h) = rw (lt-ltb (slot + 2) BLOCK_SLOTS (let ne = h.1 in omega arith)) (walking x b name (slot + 1) on (is ∙ h.0) named)
+on_goes s who ms x b name slot lt named is over on =
+    behind_slot (λ w n. s.walks b ≡ w → (w ≡ GivenUp → HoldsOnly s who Nothing) → NextOk s who ms n (Some x) Call.Pop (Effect.Take x ∷ [])) who name slot lt
+    (λ more is over. walking x b name (slot + 1) on is named) (λ last is over. (over refl, inr (b, named, is), (Reply.Pop (Ok x), refl, refl, λ e. cc))) is over
 
 -- the walk is at this slot
 walker_ok : {A : Type 0} (c : Chain A) (who b slot : ℕ) → ChainOk c → c.walks b ≡ Walker who slot → (slot < LAST) × IsWalked c.readers b slot

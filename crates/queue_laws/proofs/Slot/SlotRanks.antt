@@ -1,4 +1,4 @@
--- One slot: a solo call comes nearer to its reply, a wait-free call replies at once, and a step touches what is there.
+-- One slot: a call alone comes nearer to its reply, a wait-free call replies at once, and a step touches what is there.
 use Rattle.std.proofs.Common.{◌≡◌, ℕ, ◌<◌, ◌≤◌, ◌==◌, Bool, true, false, Option, List, if◌then◌else◌, refl, arith}
 use Rattle.queue_steps.specs.{Next.CanNext, Next.next_of, WaitFree.is_wait_free, SlotNext.is_marked, SlotNext.is_pushed, declared.steps.slot.SlotLocal.TheVariants.Pushing, declared.steps.slot.SlotLocal.TheVariants.Forcing, declared.steps.slot.SlotLocal.TheVariants.Popping}
 use Rattle.queue_laws.specs.{Common.Vocabulary.Kind, Common.Vocabulary.Look, Common.Vocabulary.Local, Common.Vocabulary.Next, Common.Stand.Stand, Slot.SlotHolder.SlotHolder}

@@ -6,7 +6,7 @@ use Rattle.queue_steps.proofs.LookLaws.{reply_filled, reply_tells, reply_right}
 use Rattle.queue_laws.specs.Common.Vocabulary.{Call, Reply, Effect, Kind, Answer, PopError, PushError, ForcePushError, Op, Look, Local, PushKind, LOCKED, PUSHED, CLOSED}
 use Rattle.queue_laws.specs.{Common.Stand.Stand, Common.Stand.empty_handed, Common.Stand.brings, Slot.SlotHolder.SlotHolder, Slot.SlotHolder.Nobody, Common.Moments.SeenIn, Common.Effects.Leads, Common.Effects.with_effect}
 use Rattle.queue_laws.specs.Slot.SlotShared.{one_slot, answered, operated, touched, handed}
-use Rattle.queue_laws.specs.Slot.SlotRows.{Codes, free_empty, free_full, filling, swapping, taking, code, At, push_try, push_put, force_try_empty, force_try_full, force_put_empty, force_put_full, pop_try, pop_take, close_try, look_at, Share, idle, fills, swaps, takes, stays, changes, single}
+use Rattle.queue_laws.specs.Slot.SlotRows.{Codes, free_empty, free_full, filling, swapping, taking, code, At, push_try, push_put, force_try_empty, force_try_full, force_put_empty, force_put_full, pop_try, pop_take, close_try, look_at, Share, idle, fills, swaps, takes, Passes, stays, changes, single}
 use Rattle.queue_laws.specs.Slot.SlotRows.{IsEffect, NextOk, StepOk}
 
 -- a reply without effect that is right now
@@ -32,92 +32,53 @@ module _ {T : Type 0} (word : ℕ) (slot : Option T) (x : Stand T) where
   abbrev Lands : SlotHolder T → Option (Effect T) → List (State T) → Type 0
   Lands own e ms = NextOk (next_of Kind.Single x.local found) (handed (one_slot word slot) x.touch x.carried) own x.call (with_effect x.effects e) ms
 
+-- a step, by what it leaves, its effect, how the call goes on, and who has the lock then
+makes_step : {T : Type 0} {word word' : ℕ} {slot slot' : Option T} {own own' h h' : SlotHolder T} {items items' : List T} {c c' : Bool} {n : ℕ} {x : Stand T} (ms : List (State T)) (n' : ℕ) (e : Option (Effect T))
+    → Codes word' slot' h' items' c' → Leaves word slot x word' slot' → HasEffect word slot x e → Leads (single items c n) e (single items' c' n') → Lands word slot x own' e (single items' c' n' ∷ ms) → Passes own h own' h'
+    → StepOk word slot own h items c n x ms
+makes_step {word' = word'} {slot' = slot'} {own' = own'} {h' = h'} {items' = items'} {c' = c'} ms n' e stands leaves told makes lands passes = record {
+  word' = word';
+  slot' = slot';
+  items' = items';
+  c' = c';
+  n' = n';
+  e = e;
+  own' = own';
+  h' = h';
+  leaves = leaves;
+  stands = stands;
+  told = told;
+  makes = makes;
+  lands = lands;
+  passes = passes;
+}
+
 -- a step without effect, which leaves the word and the slot
 silent : {T : Type 0} {word : ℕ} {slot : Option T} {h : SlotHolder T} {items : List T} {c : Bool} {x : Stand T} (n : ℕ) (ms : List (State T))
     → Codes word slot h items c → Leaves word slot x word slot → HasEffect word slot x None → Lands word slot x Nobody None (single items c n ∷ ms)
     → StepOk word slot Nobody h items c n x ms
-silent {word = word} {slot = slot} {h = h} {items = items} {c = c} n ms st leaves told lands = record {
-  word' = word;
-  slot' = slot;
-  items' = items;
-  c' = c;
-  n' = n;
-  e = None;
-  own' = Nobody;
-  h' = h;
-  leaves = leaves;
-  stands = st;
-  told = told;
-  makes = refl;
-  lands = lands;
-  passes = stays Nobody h;
-}
+silent {h = h} n ms st leaves told lands = makes_step ms n None st leaves told refl lands (stays Nobody h)
 
 -- one with an effect, by which the party gets the lock
 locks : {T : Type 0} {word word' : ℕ} {slot slot' : Option T} {h : SlotHolder T} {items items' : List T} {c : Bool} {n : ℕ} {x : Stand T} (ms : List (State T)) (n' : ℕ) (e : Effect T)
     → Codes word' slot' h items' c → Leaves word slot x word' slot' → HasEffect word slot x (Some e)
     → Leads (single items c n) (Some e) (single items' c n') → Lands word slot x h (Some e) (single items' c n' ∷ ms)
     → StepOk word slot Nobody Nobody items c n x ms
-locks {word' = word'} {slot' = slot'} {h = h} {items' = items'} {c = c} ms n' e st leaves told makes lands = record {
-  word' = word';
-  slot' = slot';
-  items' = items';
-  c' = c;
-  n' = n';
-  e = Some e;
-  own' = h;
-  h' = h;
-  leaves = leaves;
-  stands = st;
-  told = told;
-  makes = makes;
-  lands = lands;
-  passes = changes Nobody h;
-}
+locks {h = h} ms n' e st leaves told makes lands = makes_step ms n' (Some e) st leaves told makes lands (changes Nobody h)
 
 -- one without effect, by which the party gives the lock back
 frees : {T : Type 0} {word word' : ℕ} {slot slot' : Option T} {h : SlotHolder T} {items : List T} {c : Bool} {x : Stand T} (n : ℕ) (ms : List (State T))
     → Codes word' slot' Nobody items c → Leaves word slot x word' slot' → HasEffect word slot x None
     → Lands word slot x Nobody None (single items c n ∷ ms)
     → StepOk word slot h h items c n x ms
-frees {word' = word'} {slot' = slot'} {h = h} {items = items} {c = c} n ms st leaves told lands = record {
-  word' = word';
-  slot' = slot';
-  items' = items;
-  c' = c;
-  n' = n;
-  e = None;
-  own' = Nobody;
-  h' = Nobody;
-  leaves = leaves;
-  stands = st;
-  told = told;
-  makes = refl;
-  lands = lands;
-  passes = changes h Nobody;
-}
+frees {h = h} n ms st leaves told lands = makes_step ms n None st leaves told refl lands (changes h Nobody)
 
 -- the close
 closes : {T : Type 0} {word word' : ℕ} {slot : Option T} {h : SlotHolder T} {items : List T} {x : Stand T} (n : ℕ) (ms : List (State T))
     → Codes word' slot h items true → Leaves word slot x word' slot → HasEffect word slot x (Some Effect.Close)
     → Lands word slot x Nobody (Some Effect.Close) (single items true n ∷ ms)
     → StepOk word slot Nobody h items false n x ms
-closes {word' = word'} {slot = slot} {h = h} {items = items} n ms st leaves told lands = record {
-  word' = word';
-  slot' = slot;
-  items' = items;
-  c' = true;
-  n' = n;
-  e = Some Effect.Close;
-  own' = Nobody;
-  h' = h;
-  leaves = leaves;
-  stands = st;
-  told = told;
-  makes = (refl, refl);
-  lands = lands;
-  passes = stays Nobody h;
-}
+closes {h = h} n ms st leaves told lands = makes_step ms n (Some Effect.Close) st leaves told (refl, refl) lands (stays Nobody h)
 
 push_step : {T : Type 0} {word : ℕ} {slot : Option T} {h : SlotHolder T} {items : List T} {c : Bool} (v : T) → Codes word slot h items c
     → Row word slot Nobody h items c (brings (Local.Slot Pushing) (Op.Exchange Lock 0 (bit_or LOCKED PUSHED)) PushKind.Push v)

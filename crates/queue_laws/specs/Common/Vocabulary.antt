@@ -18,7 +18,7 @@ pub use Rattle.queue_steps.specs.declared.steps.slot.SlotLocal.{SlotLocal}
 pub use Rattle.queue_steps.specs.declared.steps.ring.PushKind.{PushKind}
 pub use Rattle.queue_steps.specs.declared.steps.ring.RingLocal.{RingLocal}
 pub use Rattle.queue_steps.specs.declared.steps.chain.ChainLocal.{ChainLocal}
-pub use Rattle.queue_steps.specs.declared.sizes.TheConstants.{LIMIT, MAX_CAPACITY, BLOCK_SLOTS, BLOCK_POSITIONS, SOLO_STEPS, MAX_PARTIES, WAIT_FREE_STEPS}
+pub use Rattle.queue_steps.specs.declared.sizes.TheConstants.{LIMIT, MAX_CAPACITY, BLOCK_SLOTS, BLOCK_POSITIONS, STEPS_ALONE, MAX_PARTIES, WAIT_FREE_STEPS}
 pub use Rattle.queue_steps.specs.declared.steps.slot.TheConstants.{LOCKED, PUSHED, CLOSED, UNLOCKED, UNPUSHED}
 pub use Rattle.queue_steps.specs.declared.steps.ring.TheConstants.{MARK, TAIL_STEP}
 pub use Rattle.queue_steps.specs.declared.steps.chain.TheConstants.{WRITE, READ, DESTROY}

@@ -1,6 +1,6 @@
 -- The laws of `Site` for a shared chain: where a call stands after a step is what the step told.
 use Rattle.std.proofs.Common.{◌≡◌, ℕ, suc, Option, Some, None, refl, sym, ap, subst}
-use Rattle.queue_laws.specs.Common.Vocabulary.{Call, Kind, Answer, Local, Next, SOLO_STEPS}
+use Rattle.queue_laws.specs.Common.Vocabulary.{Call, Kind, Answer, Local, Next, STEPS_ALONE}
 use Rattle.queue_steps.specs.{Kinds.call_kind, Kinds.call_value, Next.next_of, Next.first_local}
 use Rattle.mem_blocks.specs.{Web.sitter, declared.block.BlockPtr.BlockPtr as Place, declared.web.Seat.Seat}
 use Rattle.shared_parties.specs.declared.known.CallState.{CallState}
@@ -40,5 +40,5 @@ module _ {T A M S : Type 0} (chain : M → ChainWeb T A) (seat : S → Seat T (C
   pub site_goes_on : (n : ℕ) (m : M) (first : S) (c : Call T) (l : Local (Place T)) (a : Answer (Place T)) (s : S) (x : Option T) → ChainOnWay (suc n) (chain m) (seat first) c l a (seat s) x → SiteGoesOn n m first c l a s x
   site_goes_on n m first c l a s x h = through n m first s c l a x (chain_goes_on n (chain m) (seat first) c l a (seat s) x h)
 
-  pub site_begins : (m : M) (s : S) (c : Call T) → ChainRests (chain m) (seat s) → (n : ℕ) → suc n ≡ SOLO_STEPS → SiteGoesOn n m s c (first_local (call_kind c)) Answer.Start s (call_value c)
+  pub site_begins : (m : M) (s : S) (c : Call T) → ChainRests (chain m) (seat s) → (n : ℕ) → suc n ≡ STEPS_ALONE → SiteGoesOn n m s c (first_local (call_kind c)) Answer.Start s (call_value c)
   site_begins m s c rests n all = through n m s s c (first_local (call_kind c)) Answer.Start (call_value c) (chain_begins n (chain m) (seat s) c rests)

@@ -55,17 +55,17 @@ module _ {A : Type 0} (te he : Ptr) (bs : List (Block A)) (last : LastBlocks (Ru
   two = let s = codes.size in omega arith
 
   taken_is : items_before (position_of (word_of bs 1 HEAD)) ≡ c.head
-  taken_is = ap (λ w. items_before (position_of w)) codes.head_is ∙ head_items c ok
+  taken_is = ap (λ w. items_before (position_of w)) codes.head.word ∙ head_items c ok
 
   accepted_is : items_before (position_of (word_of bs 0 TAIL)) ≡ c.tail
-  accepted_is = ap (λ w. items_before (position_of w)) codes.tail_is ∙ tail_items c ok
+  accepted_is = ap (λ w. items_before (position_of w)) codes.tail.word ∙ tail_items c ok
 
   module _ (rests : offset_of (word_of bs 1 HEAD) ≢ BLOCK_SLOTS) where
     stands : c.passer ≡ Stands
-    stands = head_is_standing c ok (λ e. rests (ap offset_of codes.head_is ∙ e))
+    stands = head_is_standing c ok (λ e. rests (ap offset_of codes.head.word ∙ e))
 
     from_is : block_of (word_of bs 1 HEAD) ≡ c.front
-    from_is = ap block_of codes.head_is ∙ word_front c ok stands
+    from_is = ap block_of codes.head.word ∙ word_front c ok stands
 
     alive_at_front : (b : ℕ) → c.front ≤ b → b < c.blocks → Lives bs (b + 2) (spot (c.names b)) × BlockIs g b (block bs (b + 2))
     alive_at_front b from lt = alive_is te he g bs b codes lt (λ e. let z : Before ≡ GivenUp = sym (front_before c ok stands b from) ∙ e in cc)
@@ -112,6 +112,6 @@ module _ {A : Type 0} (te he : Ptr) (bs : List (Block A)) (last : LastBlocks (Ru
 
     pub front_left : (p : Ptr) → p ≡ (block bs 1).next → InBlock p → Lives (without (without bs 0) 1) (block_of (word_of bs 1 HEAD) + 2) p
     front_left p is inside =
-        let shown = front_shown c.blocks c.head c.front c.known c.passer c.shown (c.names c.front) ok.seen (subst InBlock (is ∙ codes.front_is) inside) in
+        let shown = front_shown c.blocks c.head c.front c.known c.passer c.shown (c.names c.front) ok.seen (subst InBlock (is ∙ codes.head.next) inside) in
         let a = alive_at_front c.front (omega arith) shown.0 in
-        subst (λ (z : Block A). (z.alive ≡ true) × (z.at ≡ p)) (sym (ap (λ b. block (inner bs two) (b + 2)) from_is ∙ inner_else bs two c.front)) (a.0.0, a.0.1 ∙ sym (is ∙ (codes.front_is ∙ shown.1)))
+        subst (λ (z : Block A). (z.alive ≡ true) × (z.at ≡ p)) (sym (ap (λ b. block (inner bs two) (b + 2)) from_is ∙ inner_else bs two c.front)) (a.0.0, a.0.1 ∙ sym (is ∙ (codes.head.next ∙ shown.1)))

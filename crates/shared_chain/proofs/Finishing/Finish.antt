@@ -51,15 +51,15 @@ module _ {A : Type 0} (te he : Ptr) (g : OutChain A) (bs : List (Block A)) (ok :
           start = refl;
           none = ap (pieces_of 0) (nil_if xs none);
           unused = no_item;
-          front = lead_none 0 front in_front (subst (LeadsTo front) (codes.front_is ∙ ap lead_of (none_shown c.blocks c.head c.front c.known c.passer c.shown (c.names c.front) no_block ok.seen)) to_front);
-          back = lead_none (length xs - 1) back in_back (subst (LeadsTo back) (codes.last_is ∙ ap (λ n. lead_of (last_of c.names n)) no_block) to_back);
+          front = lead_none 0 front in_front (subst (LeadsTo front) (codes.head.next ∙ ap lead_of (none_shown c.blocks c.head c.front c.known c.passer c.shown (c.names c.front) no_block ok.seen)) to_front);
+          back = lead_none (length xs - 1) back in_back (subst (LeadsTo back) (codes.tail.next ∙ ap (λ n. lead_of (last_of c.names n)) no_block) to_back);
         }
 
     laid : c.blocks ≡ c.tail / BLOCK_SLOTS + 1 → IsLaid 0 ps (named_by 0 front) (named_by (length xs - 1) back) c.head c.tail
     laid some = record {
       count = let l = long te he g bs ok codes rest in let p = long_pieces te he g bs ok codes rest in let f = rest.front in omega arith;
       linked = linked te he g bs ok codes rest;
-      front = lead_named 0 front (c.names c.front) (subst (LeadsTo front) (codes.front_is ∙ ap (λ s. lead_of (shown_of s (c.names c.front))) (rest.seen (omega arith))) to_front)
+      front = lead_named 0 front (c.names c.front) (subst (LeadsTo front) (codes.head.next ∙ ap (λ s. lead_of (shown_of s (c.names c.front))) (rest.seen (omega arith))) to_front)
           ∙ (let first : c.front ≡ c.front + 0 = omega arith in ap (λ b. Some (name_at 0 (spot (c.names b)))) first ∙ sym (named 0 (let l = long te he g bs ok codes rest in let f = rest.front in let o = rest.order in omega arith)));
       back = back_is;
       holds = subst (λ b. HoldsItems ps b c.head c.tail) rest.front (holds te he g bs ok codes rest (omega arith));
@@ -75,7 +75,7 @@ module _ {A : Type 0} (te he : Ptr) (g : OutChain A) (bs : List (Block A)) (ok :
             let end : c.blocks ≡ suc (c.front + i) = omega arith in
             let at : length xs - 1 ≡ i = omega arith in
             ap (λ n. named_by n back) at
-            ∙ (lead_named i back (c.names (c.front + i)) (subst (LeadsTo back) (codes.last_is ∙ ap (λ n. lead_of (last_of c.names n)) end) to_back)
+            ∙ (lead_named i back (c.names (c.front + i)) (subst (LeadsTo back) (codes.tail.next ∙ ap (λ n. lead_of (last_of c.names n)) end) to_back)
             ∙ sym (named i (omega arith)))
 
     forms : IsBare 0 ps (named_by 0 front) (named_by (length xs - 1) back) c.tail ⊎ IsLaid 0 ps (named_by 0 front) (named_by (length xs - 1) back) c.head c.tail
@@ -124,7 +124,7 @@ module _ {A : Type 0} (te he : Ptr) (g : OutChain A) (bs : List (Block A)) (ok :
     }
 
     pub finish_idle : IsIdle (own_chain_in (word_of bs 1 HEAD) (word_of bs 0 TAIL) front back xs)
-    finish_idle = subst (λ (z : ℕ × ℕ). IsIdle (own_chain_in z.0 z.1 front back xs)) (λ i. (sym codes.head_is i, sym codes.tail_is i)) idle_words
+    finish_idle = subst (λ (z : ℕ × ℕ). IsIdle (own_chain_in z.0 z.1 front back xs)) (λ i. (sym codes.head.word i, sym codes.tail.word i)) idle_words
 
     pub finish_shown : IsShown (own_chain_queue (own_chain_in (word_of bs 1 HEAD) (word_of bs 0 TAIL) front back xs)) (queue_of c)
-    finish_shown = subst (λ (z : ℕ × ℕ). IsShown (own_chain_queue (own_chain_in z.0 z.1 front back xs)) (queue_of c)) (λ i. (sym codes.head_is i, sym codes.tail_is i)) shown_words
+    finish_shown = subst (λ (z : ℕ × ℕ). IsShown (own_chain_queue (own_chain_in z.0 z.1 front back xs)) (queue_of c)) (λ i. (sym codes.head.word i, sym codes.tail.word i)) shown_words

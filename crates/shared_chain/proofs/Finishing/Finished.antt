@@ -7,7 +7,7 @@ use Rattle.queue_steps.specs.{Effect.after, Legal.IsShown, Parties.IsWhole, Stat
 use Rattle.queue_laws.specs.Chain.ChainCells.{Before, GivenUp, queue_of}
 use Rattle.mem_blocks.specs.{Web.Block, Web.block, Web.gone, Web.AllGone, Web.without, Web.word_of, Web.LastBlocksBy, declared.block.BlockPtr.BlockPtr, declared.hub.TheConstants.TAIL, declared.hub.TheConstants.PARTIES, declared.hub.TheConstants.HEAD}
 use Rattle.own_cells.specs.OneChain.{OwnChainOwned.own_chain_queue, OwnChainOwned.IsIdle, ChainMemory.own_chain_in, ChainMemory.AreHeld}
-use Rattle.shared_parties.{specs.declared.known.CallState.CallState, specs.Known.view_of, specs.CallStates.IsLoneSeat, proofs.Endings.OnlyParty, proofs.Endings.calls_end}
+use Rattle.shared_parties.{specs.declared.known.CallState.CallState, specs.Known.view_of, specs.CallStates.IsSeatAlone, proofs.Endings.OnlyParty, proofs.Endings.calls_end}
 use Rattle.shared_chain.specs.{ChainCalls.OutChain, ChainCalls.chain_calls, Ending.LeadsTo, Ending.IntoBlock, Ending.gone_first, Rule.IsThere, Rule.Codes, Rule.Rule}
 use Rattle.shared_chain.proofs.Frames.{Blocks.gone_here, Blocks.gone_else, Blocks.alive_is, Resting.AtRest, Resting.at_rest}
 use Rattle.shared_chain.proofs.Finishing.{Ended.all_held, Ended.left, Ended.within, Finish.finish_idle, Finish.finish_shown}
@@ -62,7 +62,7 @@ module _ {A : Type 0} (bs : List (Block A)) (two : 1 < length bs) where
   pub inner_drop : (n : ℕ) → drop (n + 2) inner ≡ drop (n + 2) bs
   inner_drop n = drop-set-lt (n + 2) (without bs 0) 1 (gone (block (without bs 0) 1)) (omega arith) ∙ drop-set-lt (n + 2) bs 0 (gone (block bs 0)) (omega arith)
 
-module _ {A : Type 0} (te he : Ptr) (id : ℕ) (d : CallState A) (bs : List (Block A)) (is : IsLoneSeat d) (last : LastBlocksBy (Rule te he) id d bs) where
+module _ {A : Type 0} (te he : Ptr) (id : ℕ) (d : CallState A) (bs : List (Block A)) (is : IsSeatAlone d) (last : LastBlocksBy (Rule te he) id d bs) where
   abbrev rule : Rule te he record { blocks = bs; views = last.0 }
   rule = last.1
 

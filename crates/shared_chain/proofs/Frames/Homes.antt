@@ -1,5 +1,5 @@
 -- What a step on one slot leaves of the blocks: every other slot, link and block is as it was.
-use Rattle.std.proofs.Common.{ℕ, suc, ◌+◌, ◌<◌, ◌≡◌, ◌≢◌, ◌∙◌, not, inl, inr, Bool, List, [], ◌∷◌, length, refl, sym, ap, subst, arith, slice_index_or, get_or-set_same, get_or-set_other, length-set}
+use Rattle.std.proofs.Common.{ℕ, suc, ◌+◌, ◌/◌, ◌<◌, ◌≡◌, ◌≢◌, ◌∙◌, inl, inr, Bool, List, [], ◌∷◌, length, refl, sym, ap, subst, arith, slice_index_or, get_or-set_same, get_or-set_other, length-set}
 use Rattle.std.proofs.lemmas.Bool.Decides.{eqb_tells}
 use mathlib.Core.Option.{some, some-injective}
 use mathlib.Core.Option as maybe
@@ -7,17 +7,11 @@ use lib.ListN.{get_elem?}
 use denote.RawPtr.{Ptr}
 use Rattle.atomic_table.proofs.Lists.{set_here, set_else}
 use Rattle.queue_laws.specs.{Common.Vocabulary.BLOCK_SLOTS, Chain.ChainAnswers.waits_at, Chain.ChainAnswers.is_wrote, Chain.ChainAnswers.is_done, Chain.ChainAnswers.IsState}
-use Rattle.queue_laws.specs.Chain.ChainCells.{Writer, Writing, Reader, Done, Walk, Before, GivenUp, Chain, ChainOk, ItemOk, WalkOk, IsWalked, item_at, LAST}
+use Rattle.queue_laws.proofs.Chain.{ChainReads.not_given_up, ChainStates.other_slot, ChainStates.other_block, ChainStates.state_same}
+use Rattle.queue_laws.specs.Chain.ChainCells.{Writer, Writing, Reader, Done, Walk, Before, GivenUp, Chain, ChainOk, ItemOk, IsWalked, item_at, LAST}
 use Rattle.mem_blocks.specs.Web.{Block, Home, block, worded, homed, gone, with_word, with_home, without, word_of, vacant, AllVacant}
 use Rattle.shared_chain.specs.{ChainCalls.OutChain, Rule.home_of, Rule.plain_state, Rule.BlockIs, Rule.IsThere, Rule.Codes}
-use Rattle.shared_chain.proofs.Frames.Blocks.{SameBlock, there_same, alive_is, word_here, word_else, home_here, home_else, gone_here, gone_else}
-
--- no other slot of this block has the item, and no slot of another block
-other_slot : (b i j : ℕ) → j ≢ i → item_at b j ≢ item_at b i
-other_slot b i j ne e = ne (omega arith)
-
-other_block : (b i k j : ℕ) → i < BLOCK_SLOTS → j < BLOCK_SLOTS → k ≢ b → item_at k j ≢ item_at b i
-other_block b i k j low less ne e = ne (omega arith)
+use Rattle.shared_chain.proofs.Frames.Blocks.{SameBlock, there_same, end_as, alive_is, word_here, word_else, home_here, home_else, gone_here, gone_else}
 
 -- with the last slot passed, each other item of the block is read
 pub others_read : (readers : ℕ → Reader) (b slot : ℕ) → IsWalked readers b slot → slot + 1 ≡ LAST → (j : ℕ) → j < BLOCK_SLOTS → j ≢ slot → readers (item_at b j) ≡ Done
@@ -43,10 +37,13 @@ module _ {A : Type 0} where
     name = refl;
     link = refl;
     walk = but.walks k ne;
-    writers = λ j less. but.writers (item_at k j) (other_block b i k j low less ne);
-    readers = λ j less. but.readers (item_at k j) (other_block b i k j low less ne);
-    out = λ j less. but.out (item_at k j) (other_block b i k j low less ne);
+    writers = λ j less. but.writers (item_at k j) (apart j less);
+    readers = λ j less. but.readers (item_at k j) (apart j less);
+    out = λ j less. but.out (item_at k j) (apart j less);
   }
+    where
+      apart : (j : ℕ) → j < BLOCK_SLOTS → item_at k j ≢ item_at b i
+      apart j less = other_block b k j (item_at b i) ne less (omega (arith, low))
 
   -- all but the slot i is the same
   pub record IsTurned (i : ℕ) (x y : Block A) : Type 0 where
@@ -129,11 +126,7 @@ module _ {A : Type 0} where
   slot_same : (g r : OutChain A) (b i n : ℕ) (h : maybe.Option (Home A)) → r.chain.writers (item_at b i) ≡ g.chain.writers (item_at b i) → r.chain.readers (item_at b i) ≡ g.chain.readers (item_at b i) → r.out (item_at b i) ≡ g.out (item_at b i)
       → waits_at (r.chain.walks b) i ≡ waits_at (g.chain.walks b) i → (r.chain.walks b ≡ Before → g.chain.walks b ≡ Before) → SlotIs g b i n h → SlotIs r b i n h
   slot_same g r b i n h writer reader out waits begun s = record {
-    state = λ ne. let z = s.state (λ last e. ne last (reader ∙ e)) in record {
-      written = z.written ∙ ap (λ w. not (is_wrote w)) (sym writer);
-      read = z.read ∙ ap (λ w. not (is_done w)) (sym reader);
-      destroyed = λ u. z.destroyed (λ e. u (reader ∙ e)) ∙ ap not (sym waits);
-    };
+    state = λ ne. state_same g.chain r.chain b i n (ap (λ w. is_wrote w) writer) (ap is_done reader) waits (s.state (λ last e. ne last (reader ∙ e)));
     plain = λ before. s.plain (begun before) ∙ (λ j. plain_state (sym writer j) (sym reader j));
     slot = s.slot ∙ (λ j. some (home_of (sym writer j) (sym reader j) (sym out j)));
   }
@@ -157,7 +150,7 @@ module _ {A : Type 0} where
       each : (j : ℕ) → j < BLOCK_SLOTS → SlotIs (turned g ws rs wk out) b j (slice_index_or y.words j 0) (get_elem? y.homes j)
       each j low = elim (eqb_tells j i) [
         | inl e ↦ subst (λ k. SlotIs (turned g ws rs wk out) b k (slice_index_or y.words k 0) (get_elem? y.homes k)) (sym e.1) s
-        | inr e ↦ let ne = other_slot b i j e.1 in
+        | inr e ↦ let ne = other_slot b i j (item_at b i) e.1 refl in
             subst (λ n. SlotIs (turned g ws rs wk out) b j n (get_elem? y.homes j)) (sym (t.word j e.1)) (subst (λ h. SlotIs (turned g ws rs wk out) b j (slice_index_or x.words j 0) h) (sym (t.home j e.1))
             (slot_same g (turned g ws rs wk out) b j (slice_index_or x.words j 0) (get_elem? x.homes j) (but.writers (item_at b j) ne) (but.readers (item_at b j) ne) (but.out (item_at b j) ne) (walk.waits j e.1) walk.begun (slot_is g b x is j low)))
       ]
@@ -169,14 +162,8 @@ module _ {A : Type 0} where
       let at_tail = other 0 (λ e. absurd (omega arith)) in
       let at_head = other 1 (λ e. absurd (omega arith)) in
       record {
-        tail = rw at_tail codes.tail;
-        head = rw at_head codes.head;
-        tail_words = rw at_tail codes.tail_words;
-        head_words = rw at_head codes.head_words;
-        tail_is = rw at_tail codes.tail_is;
-        head_is = rw at_head codes.head_is;
-        last_is = rw at_tail codes.last_is;
-        front_is = rw at_head codes.front_is;
+        tail = end_as codes.tail at_tail refl refl;
+        head = end_as codes.head at_head refl refl;
         size = size ∙ codes.size;
         there = λ k lt. elim (eqb_tells k b) [
           | inl e ↦ subst (λ j. IsThere (turned g ws rs wk out) j (block cs (j + 2))) (sym e.1) here
@@ -230,9 +217,9 @@ module _ {A : Type 0} where
 
   -- a block with an item that is not read is not given up
   pub not_given : (c : Chain A) (b i : ℕ) → ChainOk c → i < BLOCK_SLOTS → c.readers (item_at b i) ≢ Done → c.walks b ≢ GivenUp
-  not_given c b i ok low unread over =
-      let walked : IsWalked c.readers b LAST = subst (λ w. WalkOk c.readers b w) over (ok.walk b) in
-      unread (elim (eqb_tells i LAST) [ inl t ↦ subst (λ j. c.readers (item_at b j) ≡ Done) (sym t.1) walked.0 | inr t ↦ walked.1 i (let no = t.1 in omega arith) ])
+  not_given c b i ok low unread =
+      let own : item_at b i / BLOCK_SLOTS ≡ b = omega (arith, low) in
+      subst (λ k. c.walks k ≢ GivenUp) own (not_given_up c (item_at b i) ok unread)
 
   -- what lies in the slot and in the word that were set
   pub home_set : (bs : List (Block A)) (k i : ℕ) (h : Home A) → k < length bs → i < length (block bs k).homes → get_elem? (block (with_home bs k i h) k).homes i ≡ some h

@@ -1,14 +1,15 @@
 -- What the steps on links share: what a step leaves for the next one, which blocks are alive, and what another link of an end or of a block leaves of the blocks.
-use Rattle.std.proofs.Common.{◌<◌, ℕ, ◌+◌, ◌≡◌, ◌≢◌, ◌∙◌, inl, inr, Option, List, [], refl, sym, ap, subst}
+use Rattle.std.proofs.Common.{◌<◌, ℕ, ◌+◌, ◌≡◌, ◌≢◌, inl, inr, Option, List, [], refl, sym, ap, subst}
 use denote.RawPtr.{Ptr}
 use Rattle.queue_laws.specs.Common.{Vocabulary.Op, Vocabulary.Touch, Vocabulary.Local, Vocabulary.Next, Stand.Stand, Operations.op_word}
 use Rattle.queue_laws.specs.Chain.{ChainFacts.IsNamed, ChainAt.At, ChainAnswers.Answers, ChainAfter.left_by, ChainAfter.chain_of, ChainAfter.after_of}
 use Rattle.queue_steps.specs.{State.State, ChainNext.chain_next}
-use Rattle.queue_laws.specs.Chain.ChainCells.{GivenUp, Chained, Chain, ChainOk, Write, Read, reader_of, HoldsOnly, Nothing}
+use Rattle.queue_laws.specs.Chain.ChainCells.{GivenUp, Write, Read, reader_of, HoldsOnly, Nothing}
 use Rattle.mem_blocks.specs.Web.{Block, Sitter, Act, block, Lives, Mays, blocks_after, sitter_after}
 use Rattle.shared_parties.specs.declared.known.CallState.{CallState}
 use Rattle.shared_chain.{specs.Spots.spot, specs.ChainCalls.OutChain, specs.ChainCalls.SlotsAs, specs.ChainCalls.ChainLent, specs.Rule.BlockIs, specs.Rule.Codes, proofs.Frames.Blocks.alive_is}
 use Rattle.shared_chain.specs.Steps.{HoldsBy, HoldsFor, op_place, word_index, blocks_made, answered, LeadsThere, SlotsFor, BlockStep}
+use Rattle.shared_chain.proofs.Frames.{Slots.step_by as step_told}
 
 -- the chain once a call that goes on so has given up what its reply gives up
 abbrev pub left : {A : Type 0} → OutChain A → Next ℕ → OutChain A
@@ -21,10 +22,6 @@ pub record Leaves {A : Type 0} (tail_end head_end : Ptr) (r : OutChain A) (who :
   pub lends : List (ℕ × Option A)
   pub lent : ChainLent (left r n) who lends
   pub holds : HoldsFor lends n m
-
--- two blocks of a chain have two names
-pub same_block : {A : Type 0} (c : Chain A) (a b name : ℕ) → ChainOk c → IsNamed c a name → IsNamed c b name → a ≡ b
-same_block c a b name ok one two = let e : Chained a ≡ Chained b = sym (ok.name a one.0) ∙ (ap c.uses (sym one.1 ∙ two.1) ∙ ok.name b two.0) in cc
 
 -- a party that holds nothing has no slot
 pub nothing_lent : {A : Type 0} (g : OutChain A) (who : ℕ) (xs : List (ℕ × Option A)) → HoldsOnly g.chain who Nothing → ChainLent g who xs → xs ≡ []
@@ -45,22 +42,10 @@ module _ (tail_end head_end : Ptr) {A : Type 0} where
       → Leaves tail_end head_end (record { chain = after_of here (answered g.chain bs k.op number); out = g.out }) who (blocks_after (blocks_made k.op number bs) acts) (sitter_after (blocks_made k.op number bs) m acts)
       (chain_next (chain_of k.local) (answered g.chain bs k.op number))
       → BlockStep tail_end head_end g who bs m here
-  step_by g who bs m here number lives counts leads found acts mays leaves = record {
-    number = number;
-    lives = lives;
-    counts = counts;
-    leads = leads;
-    found = found;
-    out = g.out;
-    acts = acts;
-    mays = mays;
-    codes = leaves.codes;
-    others = λ j ne n e. refl;
-    slots = leaves.slots;
-    lends = leaves.lends;
-    lent = leaves.lent;
-    holds = leaves.holds;
-  }
+  step_by g who bs m {k = k} here number lives counts leads found acts mays leaves =
+      let a = answered g.chain bs k.op number in
+      step_told tail_end head_end g who bs m here number lives counts leads found (blocks_made k.op number bs) refl (after_of here a) refl (chain_next (chain_of k.local) a) refl
+      g.out acts mays leaves.codes (λ j ne n e. refl) leaves.slots leaves.lends leaves.lent leaves.holds
 
   -- the block of this name, which is not given up
   pub named_alive : (g : OutChain A) (bs : List (Block A)) (b name : ℕ) → Codes tail_end head_end g bs → IsNamed g.chain b name → g.chain.walks b ≢ GivenUp → Lives bs (b + 2) (spot name) × BlockIs g b (block bs (b + 2))

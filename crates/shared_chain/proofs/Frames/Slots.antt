@@ -1,33 +1,22 @@
 -- Blocks of a web under a chain that changed: the block of a slot that went or came back, the ends, and the slots of a party that holds nothing.
-use Rattle.std.proofs.Common.{ℕ, ◌+◌, ◌<◌, ◌≡◌, ◌≢◌, ◌∙◌, not, inl, inr, Bool, true, false, Option, Some, None, List, [], length, replicate, zero, suc, refl, sym, ap, subst, arith, set, length-set, get_or-set_same}
+use Rattle.std.proofs.Common.{ℕ, ◌+◌, ◌<◌, ◌≡◌, ◌≢◌, ◌∙◌, inl, inr, Bool, Option, Some, None, List, [], length, replicate, zero, suc, refl, sym, ap, subst, arith, set, length-set}
 use Rattle.std.proofs.lemmas.Bool.Decides.{eqb_tells}
 use mathlib.Core.Option.{some}
 use lib.ListN.{get_elem?}
 use denote.RawPtr.{Ptr}
 use Rattle.atomic_table.proofs.Lists.{set_here, set_else}
-use Rattle.queue_laws.specs.Common.{Vocabulary.Op, Vocabulary.Local, Vocabulary.Next, Vocabulary.BLOCK_SLOTS, Vocabulary.WRITE, Vocabulary.READ, Stand.Stand, Operations.op_word}
+use Rattle.queue_laws.specs.Common.{Vocabulary.Op, Vocabulary.Local, Vocabulary.Next, Vocabulary.BLOCK_SLOTS, Stand.Stand, Operations.op_word}
 use Rattle.queue_laws.specs.Chain.{ChainAt.At, ChainAfter.chain_of, ChainAfter.after_of, ChainAfter.left_by, ChainPasses.spare_in}
 use Rattle.queue_steps.specs.{State.State, ChainNext.chain_next}
-use Rattle.queue_laws.specs.Chain.ChainCells.{Writer, Free, Wrote, Reader, Unread, Reading, Done, Chain, Write, Read, reader_of, HoldsOnly, Nothing, item_at}
-use Rattle.queue_laws.specs.Chain.ChainAnswers.{Answers, linked_of, last_of, shown_of, tail_word, head_word, is_wrote, is_done, waits_at}
-use Rattle.queue_laws.proofs.Chain.{ChainAnswers.done_is, ChainGiven.holds_given}
+use Rattle.queue_laws.specs.Chain.ChainCells.{Reading, Chain, Write, Read, reader_of, HoldsOnly, Nothing}
+use Rattle.queue_laws.specs.Chain.ChainAnswers.{Answers, last_of, shown_of, tail_word, head_word}
+use Rattle.queue_laws.proofs.Chain.ChainGiven.{holds_given}
 use Rattle.mem_blocks.specs.Web.{Block, Home, Sitter, Act, Mays, blocks_after, sitter_after, Lives, block, worded, homed, with_word, vacant, AllVacant}
 use Rattle.mem_blocks.specs.declared.hub.TheConstants.{TAIL, HEAD}
 use Rattle.shared_parties.specs.declared.known.CallState.{CallState}
-use Rattle.shared_chain.specs.{Spots.spot, ChainCalls.OutChain, ChainCalls.HasOut, ChainCalls.ChainLent, Rule.home_of, Rule.plain_state, Rule.lead_of, Rule.IsThere, Rule.Codes}
+use Rattle.shared_chain.specs.{Spots.spot, ChainCalls.OutChain, ChainCalls.HasOut, ChainCalls.ChainLent, Rule.lead_of, Rule.IsThere, Rule.Codes}
 use Rattle.shared_chain.specs.Steps.{fresh_at, carried_by, slot_block, hand_by, HoldsBy, HoldsFor, op_place, word_index, blocks_made, answered, LeadsThere, SlotsFor, BlockStep}
-use Rattle.shared_chain.proofs.Frames.Blocks.{word_here, word_else, codes_left}
-
--- a state that no walk waited for, by whether the slot is written and read
-abbrev plain_by : Bool → Bool → ℕ
-plain_by true true = WRITE + READ
-plain_by true false = WRITE
-plain_by false d = 0
-
-plain_tells : {A : Type 0} (w : Writer A) (r : Reader) → plain_state w r ≡ plain_by (is_wrote w) (is_done r)
-plain_tells Free r = refl
-plain_tells (Wrote v) Unread = refl
-plain_tells w r = refl
+use Rattle.shared_chain.proofs.Frames.Blocks.{word_here, word_else, end_as, end_worded, home_in, LikeBlock, there_with, codes_left}
 
 -- the spare that a call goes on with, or gives up
 abbrev pub spare_on : Next ℕ → Option ℕ
@@ -39,51 +28,6 @@ all_vacant A zero = tt
 all_vacant A (suc n) = (refl, all_vacant A n)
 
 module _ {A : Type 0} where
-  -- the home of the slot i of the block b
-  abbrev pub home_in : OutChain A → ℕ → ℕ → Home A
-  home_in g b i = home_of (g.chain.writers (item_at b i)) (g.chain.readers (item_at b i)) (g.out (item_at b i))
-
-  -- what of a chain the block b depends on but for the homes of its slots: its name, its link, its walk, and which slots are written and read
-  pub record LikeBlock (g r : OutChain A) (b : ℕ) : Type 0 where
-    pub name : r.chain.names b ≡ g.chain.names b
-    pub link : lead_of (linked_of (r.chain.links b) (r.chain.names (b + 1))) ≡ lead_of (linked_of (g.chain.links b) (g.chain.names (b + 1)))
-    pub walk : r.chain.walks b ≡ g.chain.walks b
-    pub wrote : (i : ℕ) → i < BLOCK_SLOTS → is_wrote (r.chain.writers (item_at b i)) ≡ is_wrote (g.chain.writers (item_at b i))
-    pub done : (i : ℕ) → i < BLOCK_SLOTS → is_done (r.chain.readers (item_at b i)) ≡ is_done (g.chain.readers (item_at b i))
-
-  -- where none of that changed, and these are the homes now, the block stands for the chain with them
-  pub there_with : (g r : OutChain A) (b : ℕ) (x : Block A) (hs : List (Home A)) → LikeBlock g r b → length hs ≡ length x.homes
-      → ((i : ℕ) → i < BLOCK_SLOTS → length x.homes ≡ BLOCK_SLOTS → get_elem? x.homes i ≡ some (home_in g b i) → get_elem? hs i ≡ some (home_in r b i)) → IsThere g b x
-      → IsThere r b (record { at = x.at; alive = x.alive; next = x.next; words = x.words; homes = hs })
-  there_with g r b x hs s long home (lies, inl gone) = (lies ∙ ap spot (sym s.name), inl (s.walk ∙ gone.0, gone.1))
-  there_with g r b x hs s long home (lies, inr on) = (
-    lies ∙ ap spot (sym s.name),
-    inr (
-      (λ e. on.0 (sym s.walk ∙ e)),
-      on.1,
-      record {
-        words = on.2.words;
-        homes = long ∙ on.2.homes;
-        state = λ i low ne. let z = on.2.state i low (λ last e. ne last (still i low e)) in record {
-          written = z.written ∙ ap not (sym (s.wrote i low));
-          read = z.read ∙ ap not (sym (s.done i low));
-          destroyed = λ u. z.destroyed (λ e. u (still i low e)) ∙ ap (λ w. not (waits_at w i)) (sym s.walk);
-        };
-        plain = λ before i low. on.2.plain (sym s.walk ∙ before) i low ∙ plain_tells (g.chain.writers (item_at b i)) (g.chain.readers (item_at b i))
-            ∙ (λ j. plain_by (sym (s.wrote i low) j) (sym (s.done i low) j)) ∙ sym (plain_tells (r.chain.writers (item_at b i)) (r.chain.readers (item_at b i)));
-        slot = λ i low. home i low on.2.homes (on.2.slot i low);
-        linked = on.2.linked ∙ sym s.link;
-      },
-    ),
-  )
-    where
-      still : (i : ℕ) → i < BLOCK_SLOTS → g.chain.readers (item_at b i) ≡ Done → r.chain.readers (item_at b i) ≡ Done
-      still i low e = done_is (r.chain.readers (item_at b i)) (s.done i low ∙ ap is_done e)
-
-  -- all homes are the same
-  pub there_like : (g r : OutChain A) (b : ℕ) (x : Block A) → LikeBlock g r b → ((i : ℕ) → i < BLOCK_SLOTS → home_in r b i ≡ home_in g b i) → IsThere g b x → IsThere r b x
-  there_like g r b x s same there = there_with g r b x x.homes s refl (λ i low long at. at ∙ ap (λ h. some h) (sym (same i low))) there
-
   -- the home of the slot k is this now, and all others are the same
   pub there_homed : (g r : OutChain A) (b k : ℕ) (x : Block A) (h : Home A) → LikeBlock g r b → h ≡ home_in r b k → ((i : ℕ) → i < BLOCK_SLOTS → i ≢ k → home_in r b i ≡ home_in g b i) → IsThere g b x
       → IsThere r b (homed x k h)
@@ -107,14 +51,8 @@ module _ {A : Type 0} where
       → block cs 0 ≡ worded (block bs 0) TAIL x → block cs 1 ≡ block bs 1 → x ≡ tail_word r.chain → head_word r.chain ≡ head_word g.chain
       → ((b : ℕ) → b < g.chain.blocks → IsThere r b (block cs (b + 2))) → Codes te he r cs
   codes_tail te he g r bs cs x codes s long at_tail at_head tail_is head_is there = record {
-    tail = rw at_tail codes.tail;
-    head = rw at_head codes.head;
-    tail_words = rw (at_tail, length-set (block bs 0).words TAIL x) codes.tail_words;
-    head_words = rw at_head codes.head_words;
-    tail_is = rw at_tail (get_or-set_same (block bs 0).words TAIL x 0 (let h = codes.tail_words in omega arith)) ∙ tail_is;
-    head_is = rw at_head codes.head_is ∙ sym head_is;
-    last_is = rw at_tail codes.last_is ∙ ap lead_of (sym s.last);
-    front_is = rw at_head codes.front_is ∙ ap lead_of (sym s.front);
+    tail = end_as (end_worded codes.tail x) at_tail tail_is (ap lead_of (sym s.last));
+    head = end_as codes.head at_head (sym head_is) (ap lead_of (sym s.front));
     size = long ∙ (codes.size ∙ ap (λ n. n + 2) (sym s.blocks));
     there = λ b lt. there b (let e = s.blocks in omega arith);
     tested = λ f used. codes.tested f (rw (s.uses f) at used);
@@ -135,14 +73,8 @@ module _ {A : Type 0} where
       let at_tail = word_else bs 1 HEAD x 0 (λ e. absurd (omega arith)) in
       let at_head = word_here bs 1 HEAD x (let n = codes.size in omega arith) in
       record {
-        tail = rw at_tail codes.tail;
-        head = rw at_head codes.head;
-        tail_words = rw at_tail codes.tail_words;
-        head_words = rw (at_head, length-set (block bs 1).words HEAD x) codes.head_words;
-        tail_is = rw at_tail codes.tail_is ∙ sym tail_is;
-        head_is = rw at_head (get_or-set_same (block bs 1).words HEAD x 0 (let h = codes.head_words in omega arith)) ∙ head_is;
-        last_is = rw at_tail codes.last_is ∙ ap lead_of (sym s.last);
-        front_is = rw at_head codes.front_is ∙ ap lead_of (sym s.front);
+        tail = end_as codes.tail at_tail (sym tail_is) (ap lead_of (sym s.last));
+        head = end_as (end_worded codes.head x) at_head head_is (ap lead_of (sym s.front));
         size = length-set bs 1 (worded (block bs 1) HEAD x) ∙ (codes.size ∙ ap (λ n. n + 2) (sym s.blocks));
         there = λ b lt. subst (λ (y : Block A). IsThere r b y) (sym (word_else bs 1 HEAD x (b + 2) (λ e. absurd (omega arith)))) (there b (block bs (b + 2)) (let e = s.blocks in omega arith) (codes.there b (let e = s.blocks in omega arith)));
         tested = λ f used. codes.tested f (rw (s.uses f) at used);

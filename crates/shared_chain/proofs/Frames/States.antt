@@ -1,33 +1,21 @@
 -- A step on the state of a slot: what it finds there, what it makes of it, and what is left to say of the acts beside it.
-use Rattle.std.proofs.Common.{ℕ, ◌+◌, ◌<◌, ◌≡◌, ◌≢◌, ◌==◌, ◌∙◌, ◌⊎◌, inl, inr, Bool, Option, Ok, Some, None, List, [], ◌∷◌, length, refl, sym, ap, subst, arith, bit_and, bit_or}
-use Rattle.std.proofs.lemmas.{Bool.lt-ltb, Bool.le-ltb, Nat.and_or_apart}
+use Rattle.std.proofs.Common.{ℕ, ◌+◌, ◌<◌, ◌≡◌, ◌≢◌, ◌∙◌, inl, inr, Bool, Option, Ok, Some, None, List, [], ◌∷◌, length, refl, sym, ap, subst, arith, bit_or}
 use denote.RawPtr.{Ptr}
 use Rattle.queue_laws.specs.Common.{Puts.put, Stand.Stand, Stand.stand, Operations.op_word}
-use Rattle.queue_laws.specs.Chain.{ChainTransitions.walk_after, ChainFacts.IsNamed, ChainAt.At, ChainAt.Only, ChainAnswers.StateAnswers, ChainAnswers.IsState, ChainAnswers.Answers, ChainAfter.chain_of, ChainAfter.after_of, ChainAfter.left_by}
-use Rattle.queue_laws.proofs.{Common.Puts.put_other, Chain.ChainWalk.after_walker}
+use Rattle.queue_laws.specs.Chain.{ChainTransitions.walk_after, ChainFacts.IsNamed, ChainAt.At, ChainAt.Only, ChainAnswers.IsState, ChainAnswers.Answers, ChainAfter.chain_of, ChainAfter.after_of, ChainAfter.left_by}
+use Rattle.queue_laws.proofs.{Common.Puts.put_other, Chain.ChainWalk.behind_slot, Chain.ChainStates.state_answers}
 use Rattle.queue_laws.specs.Common.Vocabulary.{Call, Reply, Effect, Word, Op, Touch, Answer, Local, Next, BLOCK_SLOTS}
-use Rattle.queue_steps.specs.{State.State, declared.steps.chain.ChainLocal.ChainLocal as chain, ChainNext.chain_next, ChainNext.walks_on}
-use Rattle.queue_laws.specs.Chain.ChainCells.{Reading, Done, Walk, Walker, GivenUp, Chained, Chain, ChainOk, Part, Write, Read, Passed, HoldsOnly, reader_of, item_at, LAST}
+use Rattle.queue_steps.specs.{State.State, ChainNext.chain_next, ChainNext.walks, ChainNext.walks_on}
+use Rattle.queue_laws.specs.Chain.ChainCells.{Reading, Done, Walk, Walker, GivenUp, Chain, ChainOk, Part, Write, Read, Passed, HoldsOnly, reader_of, item_at, LAST}
 use Rattle.mem_blocks.specs.Web.{Block, Sitter, Act, lifts, block, Lives, word_of, with_word, without, AllVacant, acted, May, Mays, blocks_after, sitter_acted, sitter_after}
 use Rattle.shared_parties.specs.declared.known.CallState.{CallState}
 use Rattle.shared_chain.specs.{Spots.spot, ChainCalls.OutChain, ChainCalls.HasOut, ChainCalls.ChainLent, Rule.Codes, Steps.BlockStep, Steps.SlotsFor, Steps.HoldsFor, Steps.op_place, Steps.word_index, Steps.blocks_made, Steps.answered, Steps.LeadsThere}
-use Rattle.shared_chain.proofs.Frames.Blocks.{alive_is, word_same, codes_left}
-
--- a bit that is set leaves the other tests
-pub still_tested : (n x m : ℕ) → bit_and m n ≡ 0 → (bit_and (bit_or x m) n == 0) ≡ (bit_and x n == 0)
-still_tested n x m apart = ap (λ z. z == 0) (and_or_apart n x m apart)
+use Rattle.shared_chain.proofs.Frames.{Blocks.alive_is, Blocks.word_same, Blocks.codes_left, Slots.step_by}
 
 module _ {A : Type 0} (te he : Ptr) where
   -- the state of a slot, where the web has it
   pub state_is : (g : OutChain A) (bs : List (Block A)) (b i : ℕ) → Codes te he g bs → b < g.chain.blocks → g.chain.walks b ≢ GivenUp → i < BLOCK_SLOTS → (i ≡ LAST → g.chain.readers (item_at b i) ≢ Done) → IsState g.chain b i (word_of bs (b + 2) i)
   state_is g bs b i codes lt on low unread = (alive_is te he g bs b codes lt on).1.state i low unread
-
-  -- it is what the operation answers
-  pub state_answers : (g : OutChain A) (bs : List (Block A)) (b name i : ℕ) → ChainOk g.chain → IsNamed g.chain b name → IsState g.chain b i (word_of bs (b + 2) i) → StateAnswers g.chain name i (Answer.Found (word_of bs (b + 2) i))
-  state_answers g bs b name i ok named state j other = (word_of bs (b + 2) i, refl, subst (λ k. IsState g.chain k i (word_of bs (b + 2) i)) (sym same) state)
-    where
-      same : j ≡ b
-      same = let z : Chained j ≡ Chained b = sym (ap g.chain.uses other.1 ∙ ok.name j other.0) ∙ (ap g.chain.uses named.1 ∙ ok.name b named.0) in cc
 
   -- what is left to say of a step once its operation is done: what the acts beside it make of the blocks cs and of the seat m, where the chain is r then and the call goes on as x says
   pub record Leaves (g : OutChain A) (who : ℕ) (cs : List (Block A)) (m : Sitter A (CallState A)) (r : Chain A) (x : Next ℕ) : Type 0 where
@@ -64,22 +52,10 @@ module _ {A : Type 0} (te he : Ptr) where
     op_step : (number : ℕ) {ms : List (State A)} {k : Stand A} (here : At g.chain who ms k)
         → Lives bs number (op_place te he k.op) → (number < 2 → word_index (op_word k.op) ≡ 0) → LeadsThere g.chain bs k.op number → Answers g.chain k.op (answered g.chain bs k.op number)
         → Leaves g who (blocks_made k.op number bs) m (after_of here (answered g.chain bs k.op number)) (chain_next (chain_of k.local) (answered g.chain bs k.op number)) → BlockStep te he g who bs m here
-    op_step number here lives counts leads found left = record {
-      number = number;
-      lives = lives;
-      counts = counts;
-      leads = leads;
-      found = found;
-      out = left.out;
-      acts = left.acts;
-      mays = left.mays;
-      codes = left.codes;
-      others = left.others;
-      slots = left.slots;
-      lends = left.lends;
-      lent = left.lent;
-      holds = left.holds;
-    }
+    op_step number {k = k} here lives counts leads found left =
+        let a = answered g.chain bs k.op number in
+        step_by te he g who bs m here number lives counts leads found (blocks_made k.op number bs) refl (after_of here a) refl (chain_next (chain_of k.local) a) refl
+        left.out left.acts left.mays left.codes left.others left.slots left.lends left.lent left.holds
 
     -- a load of a slot's state
     pub load_step : (b name i : ℕ) {ms : List (State A)} {l : Local ℕ} {t : Touch} {v : Option A} {k : Call A} {es : List (Effect A)} (here : At g.chain who ms (stand l t (Op.Load (Word.State name i)) v k es))
@@ -89,7 +65,7 @@ module _ {A : Type 0} (te he : Ptr) where
         let there = alive_is te he g bs b codes named.0 on in
         let r = after_of here (Answer.Found (word_of bs (b + 2) i)) in
         let x = chain_next (chain_of l) (Answer.Found (word_of bs (b + 2) i)) in
-        op_step (b + 2) here (subst (λ f. Lives bs (b + 2) (spot f)) (sym named.1) there.0) (λ e. absurd (omega arith)) tt (state_answers g bs b name i ok named state)
+        op_step (b + 2) here (subst (λ f. Lives bs (b + 2) (spot f)) (sym named.1) there.0) (λ e. absurd (omega arith)) tt (state_answers g.chain b name i (word_of bs (b + 2) i) ok named state)
         (subst (λ (cs : List (Block A)). Leaves g who cs m r x) (sym (word_same bs (b + 2) i)) left)
 
     -- bits of a slot's state that are set
@@ -98,7 +74,7 @@ module _ {A : Type 0} (te he : Ptr) where
         → Leaves g who (with_word bs (b + 2) i (bit_or (word_of bs (b + 2) i) y)) m (after_of here (Answer.Found (word_of bs (b + 2) i))) (chain_next (chain_of l) (Answer.Found (word_of bs (b + 2) i))) → BlockStep te he g who bs m here
     or_step b name i y here ok codes named on state z =
         let there = alive_is te he g bs b codes named.0 on in
-        op_step (b + 2) here (subst (λ f. Lives bs (b + 2) (spot f)) (sym named.1) there.0) (λ e. absurd (omega arith)) tt (state_answers g bs b name i ok named state) z
+        op_step (b + 2) here (subst (λ f. Lives bs (b + 2) (spot f)) (sym named.1) there.0) (λ e. absurd (omega arith)) tt (state_answers g.chain b name i (word_of bs (b + 2) i) ok named state) z
 
   -- a party that holds no item has no slot
   pub none_out : (r : OutChain A) (who : ℕ) (P : Part → Type 0) → HoldsOnly r.chain who P → ((n : ℕ) → ¬ (P (Write n))) → ((n : ℕ) → ¬ (P (Read n))) → (n : ℕ) → ¬ (HasOut r who n)
@@ -145,18 +121,15 @@ module _ {A : Type 0} (te he : Ptr) where
       → ((j : ℕ) → j ≢ who → (n : ℕ) → g.chain.readers n ≡ Reading j → out n ≡ g.out n) → ((w : Walk) → HoldsOnly (r w) who (Only (Passed b)))
       → (slot + 1 ≢ LAST → Codes te he (record { chain = r (Walker who (slot + 1)); out = out }) cs) → (slot + 1 ≡ LAST → Codes te he (record { chain = r GivenUp; out = out }) (without cs (b + 2)) × Emptied cs (b + 2) name)
       → Leaves g who cs m (r (walk_after who slot)) (walks_on name slot)
-  walks_left g who cs m b name slot r out low free others holds on over = go (after_walker who slot)
-    where
-      go : ((walk_after who slot ≡ GivenUp) × (slot + 1 ≡ LAST)) ⊎ ((walk_after who slot ≡ Walker who (slot + 1)) × (slot + 1 ≢ LAST)) → Leaves g who cs m (r (walk_after who slot)) (walks_on name slot)
-      go (inl h) =
-          let last = over h.1 in
-          let x : Next ℕ = Next.Reply (Reply.Pop (Ok tt)) (Some name) in
-          rw (h.0, le-ltb (slot + 2) BLOCK_SLOTS (let e = h.1 in omega arith))
-          (acts_first g who cs m (r GivenUp) x (lifts (b + 2)) last.1.lives.0
-          (idles g who (without cs (b + 2)) (sitter_acted cs m (lifts (b + 2))) (r GivenUp) x out last.0 others tt (walks_none (record { chain = r GivenUp; out = out }) who b (holds GivenUp))
-          (free.0, (block cs (b + 2), refl, last.1.lives.1, last.1.lives.0, last.1.homes, last.1.vacant))))
-      go (inr h) =
-          let x : Next ℕ = Next.Step (Local.Chain (chain.Walking name (slot + 1))) Touch.Nothing (Op.Load (Word.State name (slot + 1))) in
-          let none = walks_none (record { chain = r (Walker who (slot + 1)); out = out }) who b (holds (Walker who (slot + 1))) in
-          rw (h.0, lt-ltb (slot + 2) BLOCK_SLOTS (let ne = h.1 in omega arith))
-          (idles g who cs m (r (Walker who (slot + 1))) x out (on h.1) others (λ n e. absurd (let z : Read n ≡ Passed b = holds (Walker who (slot + 1)) (Read n) (ap reader_of e) in cc)) none free)
+  walks_left g who cs m b name slot r out low free others holds on over =
+      behind_slot (λ w x. Leaves g who cs m (r w) x) who name slot low
+      (λ more.
+      let w = Walker who (slot + 1) in
+      let none = walks_none (record { chain = r w; out = out }) who b (holds w) in
+      idles g who cs m (r w) (walks name (slot + 1) Touch.Nothing) out (on more) others (λ n e. absurd (let z : Read n ≡ Passed b = holds w (Read n) (ap reader_of e) in cc)) none free)
+      (λ last.
+      let gone = over last in
+      let x : Next ℕ = Next.Reply (Reply.Pop (Ok tt)) (Some name) in
+      acts_first g who cs m (r GivenUp) x (lifts (b + 2)) gone.1.lives.0
+      (idles g who (without cs (b + 2)) (sitter_acted cs m (lifts (b + 2))) (r GivenUp) x out gone.0 others tt (walks_none (record { chain = r GivenUp; out = out }) who b (holds GivenUp))
+      (free.0, (block cs (b + 2), refl, gone.1.lives.1, gone.1.lives.0, gone.1.homes, gone.1.vacant))))

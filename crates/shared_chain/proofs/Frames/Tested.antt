@@ -38,8 +38,8 @@ module _ {A : Type 0} where
 
     -- where a link of a living block leads can be compared with null
     pub next_tested : (k : ℕ) → (block bs k).alive ≡ true → Testable (block bs k).next
-    next_tested zero alive = subst Testable (sym codes.last_is) (last_tested g.chain.blocks refl)
-    next_tested (suc zero) alive = subst Testable (sym codes.front_is) (shown_tested g.chain.shown ok.seen)
+    next_tested zero alive = subst Testable (sym codes.tail.next) (last_tested g.chain.blocks refl)
+    next_tested (suc zero) alive = subst Testable (sym codes.head.next) (shown_tested g.chain.shown ok.seen)
     next_tested (suc (suc b)) alive =
         let within : b < g.chain.blocks = (let l = alive_within bs (suc (suc b)) alive in let s = codes.size in omega arith) in
         let at : b + 2 ≡ suc (suc b) = omega arith in
@@ -51,8 +51,8 @@ module _ {A : Type 0} where
 
   -- a living block has the word of a step: of an end that is its first
   pub word_held : (te he : Ptr) (g : OutChain A) (bs : List (Block A)) → Codes te he g bs → (k i : ℕ) → (block bs k).alive ≡ true → (k < 2 → i ≡ 0) → i < BLOCK_SLOTS → i < length (block bs k).words
-  word_held te he g bs codes zero i alive first low = omega (arith, first (omega arith), codes.tail_words)
-  word_held te he g bs codes (suc zero) i alive first low = omega (arith, first (omega arith), codes.head_words)
+  word_held te he g bs codes zero i alive first low = omega (arith, first (omega arith), codes.tail.words)
+  word_held te he g bs codes (suc zero) i alive first low = omega (arith, first (omega arith), codes.head.words)
   word_held te he g bs codes (suc (suc b)) i alive first low =
       let within : b < g.chain.blocks = (let l = alive_within bs (suc (suc b)) alive in let s = codes.size in omega arith) in
       let at : b + 2 ≡ suc (suc b) = omega arith in
@@ -64,7 +64,7 @@ module _ {A : Type 0} where
 
   -- both ends have their positions, wherever they are said to lie
   pub ends_hold : {te he p q : Ptr} {g : OutChain A} {bs : List (Block A)} → te ≡ p → he ≡ q → Codes te he g bs → HoldsWord bs 0 p TAIL × HoldsWord bs 1 q HEAD
-  ends_hold at_tail at_head codes = (((codes.tail.0, codes.tail.1 ∙ at_tail), omega (arith, codes.tail_words)), ((codes.head.0, codes.head.1 ∙ at_head), omega (arith, codes.head_words)))
+  ends_hold at_tail at_head codes = (((codes.tail.lives.0, codes.tail.lives.1 ∙ at_tail), omega (arith, codes.tail.words)), ((codes.head.lives.0, codes.head.lives.1 ∙ at_head), omega (arith, codes.head.words)))
 
   -- one word is kept by a change of a slot, by a block more, and by a lift
   home_word : (bs : List (Block A)) (b j : ℕ) (h : Home A) (k i : ℕ) → k < length bs → word_of (with_home bs b j h) k i ≡ word_of bs k i

@@ -40,7 +40,7 @@ module _ {A : Type 0} (te he : Ptr) where
         let st = standing ready s r at in
         let g = granted r.cells id s.blocks m st.here.0 asks r.codes st.here.2 c.lends st.lent hand b i lies.1 spare in
         let w = follows te he s r id m.view c at st (Answer.Granted g.0) s.blocks m refl g.2 in
-        (0, (r.codes.tail, omega (arith, r.codes.tail_words)), λ small. subst (λ (bs : List (Block A)). KeepsRule (Rule te he) s bs id m (λ q. FollowsGrant c (block_ptr b i) q)) (sym (word_same s.blocks 0 TAIL)) (w.0, [], tt, w.1, (g.0, g.1, w.2)))
+        (0, (r.codes.tail.lives, omega (arith, r.codes.tail.words)), λ small. subst (λ (bs : List (Block A)). KeepsRule (Rule te he) s bs id m (λ q. FollowsGrant c (block_ptr b i) q)) (sym (word_same s.blocks 0 TAIL)) (w.0, [], tt, w.1, (g.0, g.1, w.2)))
     allows_grant null_ptr ready hand spare lies asks s r at = absurd lies.0
 
     pub allows_refusal : Ready chain_calls m.view c → m.hand ≡ None → m.spare ≡ None → c.op ≡ Op.Ask → Allows (Rule te he) id m te TAIL (λ n. n) (λ n q. Follows c Answer.Refused q)
@@ -48,4 +48,4 @@ module _ {A : Type 0} (te he : Ptr) where
         let st = standing ready s r at in
         let f = refused r.cells id s.blocks m st.here.0 asks r.codes c.lends st.lent hand spare in
         let w = follows te he s r id m.view c at st Answer.Refused s.blocks m refl f in
-        (0, (r.codes.tail, omega (arith, r.codes.tail_words)), λ small. subst (λ (bs : List (Block A)). KeepsRule (Rule te he) s bs id m (λ q. Follows c Answer.Refused q)) (sym (word_same s.blocks 0 TAIL)) (w.0, [], tt, w.1, w.2))
+        (0, (r.codes.tail.lives, omega (arith, r.codes.tail.words)), λ small. subst (λ (bs : List (Block A)). KeepsRule (Rule te he) s bs id m (λ q. Follows c Answer.Refused q)) (sym (word_same s.blocks 0 TAIL)) (w.0, [], tt, w.1, w.2))

@@ -1,28 +1,29 @@
 -- What each step of a call does to the blocks of the web, wherever the call stands.
-use Rattle.std.proofs.Common.{ℕ, Option, List}
+use Rattle.std.proofs.Common.{ℕ, Option, List, false, refl}
 use denote.RawPtr.{Ptr}
 use Rattle.queue_steps.specs.State.{State}
-use Rattle.queue_laws.specs.{Common.Stand.Stand, Chain.ChainCells.ChainOk}
-use Rattle.queue_laws.specs.Chain.ChainAt.{At, push_tail, push_block, asking, installing, showing, claiming, laying, opening, chaining, writing, spending, pop_head, pop_block, pop_tail, taking, following, peeking}
-use Rattle.queue_laws.specs.Chain.ChainAt.{passing, entering, awaiting, reading, beginning, walking, destroying, count_tail, count_head, count_again, empty_head, empty_tail, closing, closed_tail}
-use Rattle.mem_blocks.specs.Web.{Block, Sitter}
+use Rattle.queue_laws.specs.{Common.Stand.Stand, Chain.ChainCells.ChainOk, Chain.ChainFacts.head_of}
+use Rattle.queue_laws.specs.Chain.ChainAt.{At, push_tail, push_block, asking, installing, showing, claiming, laying, opening, chaining, writing, spending, pop_head, pop_block, pop_tail, taking, following, peeking, passing, entering, awaiting, reading, beginning, walking, destroying}
+use Rattle.queue_laws.specs.Chain.ChainAt.{count_tail, count_head, count_again, empty_head, empty_tail, closing, closed_tail}
+use Rattle.mem_blocks.specs.Web.{Block, Sitter, word_of}
 use Rattle.shared_parties.specs.{declared.known.CallState.CallState, Calling.touched_list}
-use Rattle.shared_chain.{specs.ChainCalls.OutChain, specs.ChainCalls.SlotsAs, specs.ChainCalls.ChainLent, specs.Rule.Codes, specs.Steps.HoldsBy, specs.Steps.BlockStep, proofs.CallLaws.OnBlocks}
-use Rattle.shared_chain.proofs.Steps.{Marking.step_opening, Marking.step_spending, Marking.step_closing, Linking.step_showing, Linking.step_passing, Linking.step_chaining, Linking.step_entering, Follows.step_push_block, Follows.step_pop_block, Follows.step_following, Follows.step_peeking}
-use Rattle.shared_chain.proofs.Steps.{Taking.step_taking, Claiming.step_claiming, Awaiting.step_awaiting, Laying.step_installing, Laying.step_laying, Writing.OutWrote, Writing.step_writing, Reading.step_reading, Reading.step_beginning, Walking.step_walking, Walking.step_destroying}
-use Rattle.shared_chain.proofs.Steps.Loads.{step_push_tail, step_closed_tail, step_pop_tail, step_empty_tail, step_count_tail, step_count_again, step_pop_head, step_count_head, step_empty_head}
+use Rattle.shared_chain.specs.{ChainCalls.OutChain, ChainCalls.SlotsAs, ChainCalls.ChainLent, Rule.Codes, Steps.HoldsBy, Steps.BlockStep}
+use Rattle.shared_chain.proofs.CallLaws.{OnBlocks}
+use Rattle.shared_chain.proofs.Steps.{Marking.step_opening, Marking.step_spending, Marking.step_closing, Taking.step_taking, Claiming.step_claiming, Follows.step_push_block, Follows.step_pop_block, Follows.step_following, Follows.step_peeking, Laying.step_installing, Laying.step_laying}
+use Rattle.shared_chain.proofs.Steps.{Linking.step_showing, Linking.step_passing, Linking.step_chaining, Linking.step_entering, Writing.OutWrote, Writing.step_writing, Awaiting.step_awaiting, Reading.step_reading, Reading.step_beginning, Walking.step_walking, Walking.step_destroying}
+use Rattle.shared_chain.proofs.Steps.Loads.{load_tail, load_head, tail_spare, head_spare, pop_spare, again_spare}
 
 pub block_steps : {A : Type 0} (te he : Ptr) (g : OutChain A) (who : ℕ) (bs : List (Block A)) (m : Sitter A (CallState A)) {ms : List (State A)} {k : Stand A} (here : At g.chain who ms k)
     → OnBlocks k.op → ChainOk g.chain → OutWrote g → Codes te he g bs → SlotsAs g who k.local → (xs : List (ℕ × Option A)) → ChainLent g who xs → HoldsBy k.local k.op (touched_list k.touch k.carried xs) m → BlockStep te he g who bs m here
-block_steps te he g who bs m {ms = ms} (push_tail d x spare none spare_is) on ok wrote codes slots xs lent held = step_push_tail te he g who bs m ms d x spare none spare_is codes xs lent held
-block_steps te he g who bs m {ms = ms} (closed_tail none) on ok wrote codes slots xs lent held = step_closed_tail te he g who bs m ms none codes xs lent held
-block_steps te he g who bs m {ms = ms} (pop_tail n block none is front) on ok wrote codes slots xs lent held = step_pop_tail te he g who bs m ms n block none is front codes xs lent held
-block_steps te he g who bs m {ms = ms} (empty_tail h none small saw) on ok wrote codes slots xs lent held = step_empty_tail te he g who bs m ms h none small saw codes xs lent held
-block_steps te he g who bs m {ms = ms} (count_tail l count none) on ok wrote codes slots xs lent held = step_count_tail te he g who bs m ms l count none codes xs lent held
-block_steps te he g who bs m {ms = ms} (count_again l w h count none small seen) on ok wrote codes slots xs lent held = step_count_again te he g who bs m ms l w h count none small seen codes xs lent held
-block_steps te he g who bs m {ms = ms} (pop_head none) on ok wrote codes slots xs lent held = step_pop_head te he g who bs m ms none codes xs lent held
-block_steps te he g who bs m {ms = ms} (count_head l w count none small low) on ok wrote codes slots xs lent held = step_count_head te he g who bs m ms l w count none small low codes xs lent held
-block_steps te he g who bs m {ms = ms} (empty_head none) on ok wrote codes slots xs lent held = step_empty_head te he g who bs m ms none codes xs lent held
+block_steps te he g who bs m {ms = ms} (push_tail d x spare none spare_is) on ok wrote codes slots xs lent held = load_tail te he g who bs m ms (push_tail d x spare none spare_is) refl none (tail_spare d (word_of bs 0 0) spare) codes xs lent held
+block_steps te he g who bs m {ms = ms} (closed_tail none) on ok wrote codes slots xs lent held = load_tail te he g who bs m ms (closed_tail none) refl none refl codes xs lent held
+block_steps te he g who bs m {ms = ms} (pop_tail n block none is front) on ok wrote codes slots xs lent held = load_tail te he g who bs m ms (pop_tail n block none is front) refl none (pop_spare (head_of n false) block (word_of bs 0 0)) codes xs lent held
+block_steps te he g who bs m {ms = ms} (empty_tail h none small saw) on ok wrote codes slots xs lent held = load_tail te he g who bs m ms (empty_tail h none small saw) refl none refl codes xs lent held
+block_steps te he g who bs m {ms = ms} (count_tail l count none) on ok wrote codes slots xs lent held = load_tail te he g who bs m ms (count_tail l count none) refl none refl codes xs lent held
+block_steps te he g who bs m {ms = ms} (count_again l w h count none small seen) on ok wrote codes slots xs lent held = load_tail te he g who bs m ms (count_again l w h count none small seen) refl none (again_spare l w h (word_of bs 0 0)) codes xs lent held
+block_steps te he g who bs m {ms = ms} (pop_head none) on ok wrote codes slots xs lent held = load_head te he g who bs m ms (pop_head none) refl none (head_spare (word_of bs 1 0)) codes xs lent held
+block_steps te he g who bs m {ms = ms} (count_head l w count none small low) on ok wrote codes slots xs lent held = load_head te he g who bs m ms (count_head l w count none small low) refl none refl codes xs lent held
+block_steps te he g who bs m {ms = ms} (empty_head none) on ok wrote codes slots xs lent held = load_head te he g who bs m ms (empty_head none) refl none refl codes xs lent held
 block_steps te he g who bs m {ms = ms} (opening d x n name f holds mine opens links named) on ok wrote codes slots xs lent held = step_opening te he g who bs m ms d x n name f holds mine opens links named ok codes slots xs lent held
 block_steps te he g who bs m {ms = ms} (spending d x spare none spare_is spent) on ok wrote codes slots xs lent held = step_spending te he g who bs m ms d x spare none spare_is spent codes xs lent held
 block_steps te he g who bs m {ms = ms} (closing none) on ok wrote codes slots xs lent held = step_closing te he g who bs m ms none codes xs lent held

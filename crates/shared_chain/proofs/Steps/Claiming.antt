@@ -12,8 +12,8 @@ use Rattle.queue_laws.specs.Chain.ChainCells.{Free, Writing, Unread, Done, Mover
 use Rattle.mem_blocks.specs.{Web.Block, Web.Sitter, Web.block, Web.Lives, Web.Rests as AtHome, Web.worded, Web.homed, Web.takes, Web.away, Web.word_of, Web.with_word, Web.with_home, declared.hub.TheConstants.TAIL}
 use Rattle.shared_parties.specs.declared.known.CallState.{CallState}
 use Rattle.shared_chain.specs.{Spots.spot, ChainCalls.OutChain, ChainCalls.ChainLent, ChainCalls.has_slot, Rule.home_of, Rule.BlockIs, Rule.IsThere, Rule.Codes, Steps.carried_by, Steps.slot_block, Steps.HoldsBy, Steps.BlockStep}
-use Rattle.shared_chain.proofs.Frames.{Blocks.word_here, Blocks.word_else, Blocks.word_same, Blocks.home_here, Blocks.home_else, Blocks.alive_is, Slots.LikeBlock, Slots.home_in, Slots.there_like, Slots.there_homed, Slots.codes_tail, Slots.none_held, Slots.step_by, Slots.step_none}
 use Rattle.shared_chain.proofs.Steps.Loads.{tail_spare}
+use Rattle.shared_chain.proofs.Frames.{Blocks.word_here, Blocks.word_else, Blocks.word_same, Blocks.home_here, Blocks.home_else, Blocks.alive_is, Blocks.LikeBlock, Blocks.home_in, Blocks.there_like, Slots.there_homed, Slots.codes_tail, Slots.none_held, Slots.step_by, Slots.step_none}
 
 -- where the mover is after the item n was claimed: the party, where that is the last of its block
 abbrev Moves_on : ℕ → ℕ → Mover → Type 0
@@ -96,7 +96,7 @@ module _ {A : Type 0} (te he : Ptr) (g : OutChain A) (who : ℕ) (bs : List (Blo
         | inl t ↦ won e.0 e.1 (Laying who) (inr (refl, (let last = t.1 in omega arith))) (rw (same_bit true e.0, t.0) refl) (lays d (open_tail_of q) name spare) (rw (e.0, t.0) refl) (lays_on d (open_tail_of q) name spare)
         | inr t ↦ won e.0 e.1 Rests (inl (refl, (λ z. t.1 (omega arith)))) (rw (same_bit true e.0, t.0) refl) (writes d (open_tail_of q) name spare) (rw (e.0, t.0) refl) (refl, refl, refl)
       ]
-      | inr e ↦ step_none te he g who bs m here 0 codes.tail (λ z. refl) tt answers bs (rw e.0 (word_same bs 0 TAIL)) g.chain (rw (same_bit false e.0) refl) (chain_tail_found d (word_of bs 0 TAIL) spare) (rw e.0 refl)
+      | inr e ↦ step_none te he g who bs m here 0 codes.tail.lives (λ z. refl) tt answers bs (rw e.0 (word_same bs 0 TAIL)) g.chain (rw (same_bit false e.0) refl) (chain_tail_found d (word_of bs 0 TAIL) spare) (rw e.0 refl)
           codes none (tail_spare d (word_of bs 0 TAIL) spare) empty
     ]
       where
@@ -104,10 +104,10 @@ module _ {A : Type 0} (te he : Ptr) (g : OutChain A) (who : ℕ) (bs : List (Blo
         here = claiming d v q name spare none spare_is saw found enough
 
         answers : Answers g.chain (Op.Exchange Word.Tail (open_tail_of q) (open_tail_of q + TAIL_STEP)) (Answer.Found (word_of bs 0 TAIL))
-        answers = ap (λ w. Answer.Found w) codes.tail_is
+        answers = ap (λ w. Answer.Found w) codes.tail.word
 
         same_bit : (b : Bool) → (word_of bs 0 TAIL == open_tail_of q) ≡ b → (tail_word g.chain == open_tail_of q) ≡ b
-        same_bit b e = ap (λ w. w == open_tail_of q) (sym codes.tail_is) ∙ e
+        same_bit b e = ap (λ w. w == open_tail_of q) (sym codes.tail.word) ∙ e
 
         empty : (m.hand ≡ None) × (m.spare ≡ carried_by spare)
         empty = none_held g who (Local.Chain (chain.Claiming d (open_tail_of q) name spare)) (Op.Exchange Word.Tail (open_tail_of q) (open_tail_of q + TAIL_STEP)) xs m none lent held
@@ -116,7 +116,7 @@ module _ {A : Type 0} (te he : Ptr) (g : OutChain A) (who : ℕ) (bs : List (Blo
             → (n : Next ℕ) → chain_next (chain.Claiming d (open_tail_of q) name spare) (Answer.Found (word_of bs 0 TAIL)) ≡ n → HoldsOn name spare n → BlockStep te he g who bs m here
         won bit e p moves claimed_is (Next.Reply y s) goes on = absurd on
         won bit e p moves claimed_is (Next.Step l t o) goes on =
-            step_by te he g who bs m here 0 codes.tail (λ z. refl) tt answers ws (rw bit refl) (appended g.chain who v p) claimed_is (Next.Step l t o) goes
+            step_by te he g who bs m here 0 codes.tail.lives (λ z. refl) tt answers ws (rw bit refl) (appended g.chain who v p) claimed_is (Next.Step l t o) goes
             g.out (takes (b + 2) i None ∷ []) ((lives.0, rests), tt) (codes_claimed v p b i new at low free named.0 word_is codes) (λ j ne n z. refl)
             (λ n z. absurd (none (Read n) (ap reader_of z))) ((i, None) ∷ []) (inr (q, None, inl (mine, refl), refl)) (ap (λ (z : Ptr). Some (z, i, None)) lies, empty.1 ∙ ap carried_by (sym on.1))
           where
@@ -133,7 +133,7 @@ module _ {A : Type 0} (te he : Ptr) (g : OutChain A) (who : ℕ) (bs : List (Blo
             ws = with_word bs 0 TAIL new
 
             same : (g.chain.closed ≡ false) × (g.chain.tail ≡ q) × (g.chain.mover ≡ Rests)
-            same = same_tail g.chain q ok saw.is (sym codes.tail_is ∙ e)
+            same = same_tail g.chain q ok saw.is (sym codes.tail.word ∙ e)
 
             at : item_at b i ≡ g.chain.tail
             at = let z = same.1 in omega arith

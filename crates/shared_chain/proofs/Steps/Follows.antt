@@ -6,11 +6,11 @@ use Rattle.queue_steps.specs.{declared.steps.chain.ChainLocal.ChainLocal as chai
 use Rattle.queue_laws.specs.{Common.Stand.stand, Chain.ChainFacts.head_of, Chain.ChainFacts.open_tail_of, Chain.ChainFacts.HeadIs, Chain.ChainFacts.IsMore, Chain.ChainFacts.IsNamed, Chain.ChainFacts.HasSpare, Chain.ChainFacts.SawTail, Chain.ChainFacts.Got}
 use Rattle.queue_laws.specs.Chain.{ChainAt.Either, ChainAt.At, ChainAt.IsBehind, ChainAt.push_block, ChainAt.pop_block, ChainAt.following, ChainAt.peeking, ChainAnswers.Answers, ChainAnswers.last_of, ChainAnswers.shown_of, ChainAnswers.linked_of, ChainAfter.chain_of, ChainAfter.after_of}
 use Rattle.queue_laws.specs.Chain.ChainCells.{Reading, Done, Passing, GivenUp, Chain, item_at, ChainOk, Read, Head, HoldsOnly, Nothing}
-use Rattle.queue_laws.proofs.Chain.{ChainPush.none_spare, ChainSpan.not_done, ChainReads.not_given_up}
+use Rattle.queue_laws.proofs.Chain.{ChainPush.none_spare, ChainSpan.not_done, ChainReads.not_given_up, ChainStates.one_block}
 use Rattle.mem_blocks.specs.Web.{Block, Sitter, block, Lives}
 use Rattle.shared_parties.specs.declared.known.CallState.{CallState}
 use Rattle.shared_chain.specs.{Spots.spot, ChainCalls.OutChain, ChainCalls.SlotsAs, ChainCalls.ChainLent, Rule.lead_of, Rule.Codes, Steps.HoldsBy, Steps.link_place, Steps.link_found, Steps.BlockStep}
-use Rattle.shared_chain.proofs.Frames.{Blocks.next_same, Links.Leaves, Links.same_block, Links.goes_on, Links.step_by, Links.named_alive}
+use Rattle.shared_chain.proofs.Frames.{Blocks.next_same, Links.Leaves, Links.goes_on, Links.step_by, Links.named_alive}
 
 module _ (tail_end head_end : Ptr) {A : Type 0} where
   -- a load of a link, which leaves the blocks as they are
@@ -28,7 +28,7 @@ module _ (tail_end head_end : Ptr) {A : Type 0} where
         → Codes tail_end head_end g bs → SlotsAs g who (Local.Chain (chain.PushBlock d (open_tail_of q) spare)) → (xs : List (ℕ × Option A)) → ChainLent g who xs
         → HoldsBy (Local.Chain (chain.PushBlock d (open_tail_of q) spare)) (Op.LoadLink Link.TailBlock) xs m → BlockStep tail_end head_end g who bs m {ms = ms} (push_block d v spare q none has saw)
     step_push_block d v spare q none has saw codes slots xs lent holds =
-        step_link g who bs m Link.TailBlock (push_block d v spare q none has saw) 0 codes.tail codes.last_is refl (go g.chain.blocks refl)
+        step_link g who bs m Link.TailBlock (push_block d v spare q none has saw) 0 codes.tail.lives codes.tail.next refl (go g.chain.blocks refl)
       where
         with_spare : (x : Option ℕ) → spare ≡ x → HoldsBy (Local.Chain (chain.PushBlock d (open_tail_of q) x)) (Op.LoadLink Link.TailBlock) xs m
         with_spare x is = subst (λ y. HoldsBy (Local.Chain (chain.PushBlock d (open_tail_of q) y)) (Op.LoadLink Link.TailBlock) xs m) is holds
@@ -57,7 +57,7 @@ module _ (tail_end head_end : Ptr) {A : Type 0} where
         → Codes tail_end head_end g bs → SlotsAs g who (Local.Chain (chain.PopBlock (head_of n more))) → (xs : List (ℕ × Option A)) → ChainLent g who xs
         → HoldsBy (Local.Chain (chain.PopBlock (head_of n more))) (Op.LoadLink Link.HeadBlock) xs m → BlockStep tail_end head_end g who bs m {ms = ms} (pop_block n more none is room)
     step_pop_block n more none is room codes slots xs lent holds =
-        step_link g who bs m Link.HeadBlock (pop_block n more none is room) 1 codes.head codes.front_is refl
+        step_link g who bs m Link.HeadBlock (pop_block n more none is room) 1 codes.head.lives codes.head.next refl
         (go (head_of n more) (shown_of g.chain.shown (g.chain.names g.chain.front)) (head_of n more % 2 == 1) refl)
       where
         go : (x : ℕ) (b : Option ℕ) (t : Bool) → (x % 2 == 1) ≡ t → Leaves tail_end head_end g who bs m (head_block_found x b)
@@ -76,7 +76,7 @@ module _ (tail_end head_end : Ptr) {A : Type 0} where
   -- the link of a block is that of its name
   block_found : (c : Chain A) (b name : ℕ) → ChainOk c → IsNamed c b name → Answers c (Op.LoadLink (Link.Next name)) (Answer.Linked (link_found c (Link.Next name) (b + 2)))
   block_found c b name ok named i other =
-      let at : b + 2 - 2 ≡ i = let same = same_block c b i name ok named other in omega arith in
+      let at : b + 2 - 2 ≡ i = let same = one_block c b i name ok named other in omega arith in
       ap (λ j. Answer.Linked (linked_of (c.links j) (c.names (j + 1)))) at
 
   module _ (g : OutChain A) (who : ℕ) (bs : List (Block A)) (m : Sitter A (CallState A)) (ms : List (State A)) where

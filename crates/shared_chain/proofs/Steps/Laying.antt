@@ -6,15 +6,16 @@ use mathlib.Core.Option.{some}
 use denote.RawPtr.{Ptr, Testable}
 use Rattle.queue_laws.specs.Common.Vocabulary.{Word, Link, Op, Touch, Answer, Local, PushKind, BLOCK_SLOTS, TAIL_STEP}
 use Rattle.queue_steps.specs.{declared.steps.chain.ChainLocal.ChainLocal as chain, Words.tail_of, State.State, ChainNext.chain_next}
-use Rattle.queue_laws.specs.{Common.Puts.put, Chain.ChainFacts.open_tail_of, Chain.ChainFacts.SawTail, Chain.ChainFacts.Claimed, Chain.ChainAt.Either, Chain.ChainAt.installing, Chain.ChainAt.laying, Chain.ChainAfter.if_installed}
+use Rattle.queue_laws.specs.Common.Puts.{put}
+use Rattle.queue_laws.specs.Chain.{ChainFacts.open_tail_of, ChainFacts.SawTail, ChainFacts.Claimed, ChainAt.Either, ChainAt.installing, ChainAt.laying, ChainAfter.if_installed}
 use Rattle.queue_laws.specs.Chain.ChainAnswers.{tail_place, last_of, shown_of, linked_of, is_wrote, is_done, waits_at, IsState}
-use Rattle.queue_laws.proofs.{Common.Puts.put_ok, Common.Puts.put_same, Common.Puts.put_other, Chain.ChainTransitions.item_free, Chain.ChainTransitions.no_block, Chain.ChainTransitions.no_front}
-use Rattle.queue_laws.specs.Chain.ChainCells.{Free, Unread, Done, Mover, Laying, Opening, Passer, LinkState, Linking, Linked, Shown, Showing, Seen, Walk, Before, GivenUp, Unused, Spare, Chained, Chain, BlocksOk, LinkOk, ShownOk, WalkOk, item_at, LAST, ChainOk, Write, Tail, HoldsOnly, Nothing}
+use Rattle.queue_laws.proofs.{Common.Puts.put_ok, Common.Puts.put_same, Common.Puts.put_other, Chain.ChainTransitions.item_free, Chain.ChainTransitions.no_block, Chain.ChainTransitions.no_front, Chain.ChainStates.unwalked}
+use Rattle.queue_laws.specs.Chain.ChainCells.{Free, Unread, Done, Mover, Laying, Opening, Passer, LinkState, Linking, Linked, Shown, Showing, Seen, Before, GivenUp, Unused, Spare, Chained, Chain, BlocksOk, LinkOk, ShownOk, item_at, LAST, ChainOk, Write, Tail, HoldsOnly, Nothing}
 use Rattle.queue_laws.specs.Chain.ChainTransitions as moves
 use Rattle.mem_blocks.specs.Web.{Block, Home, Sitter, Act, lays, block, linked, vacant, with_next, if_unset, Mays, blocks_after, sitter_after}
 use Rattle.shared_parties.specs.declared.known.CallState.{CallState}
 use Rattle.shared_chain.specs.{Spots.spot, ChainCalls.OutChain, ChainCalls.SlotsAs, ChainCalls.ChainLent, Rule.home_of, Rule.plain_state, Rule.lead_of, Rule.IsThere, Rule.IsUsed, Rule.Codes, Steps.fresh_at, Steps.HoldsBy, Steps.blocks_made, Steps.BlockStep}
-use Rattle.shared_chain.proofs.Frames.{Blocks.next_here, Blocks.next_else, Blocks.next_same, Blocks.there_same, Links.Leaves, Links.goes_on, Links.step_by}
+use Rattle.shared_chain.proofs.Frames.{Blocks.next_here, Blocks.next_else, Blocks.next_same, Blocks.there_same, Blocks.end_as, Blocks.end_linked, Links.Leaves, Links.goes_on, Links.step_by}
 
 -- the chain with one more block of this name, and other links, another mover and another first link
 abbrev grown : {A : Type 0} → Chain A → ℕ → (ℕ → LinkState) → Mover → Shown → Chain A
@@ -33,15 +34,7 @@ shown_same blocks head front known passer names f s h = refl
 module _ {A : Type 0} where
   -- the walk over a block has not begun where no item of it was accepted
   unbegun : (c : Chain A) (b : ℕ) → ChainOk c → c.tail ≤ item_at b 0 → c.walks b ≡ Before
-  unbegun c b ok high = go (c.walks b) refl (ok.walk b)
-    where
-      unread : c.readers (item_at b LAST) ≢ Done
-      unread e = let z : Unread ≡ Done = sym (item_free c (item_at b LAST) ok (omega arith)).1 ∙ e in cc
-
-      go : (w : Walk) → c.walks b ≡ w → WalkOk c.readers b w → c.walks b ≡ Before
-      go Before is h = is
-      go GivenUp is h = absurd (unread h.0)
-      go w is h = absurd (unread h.1.0)
+  unbegun c b ok high = unwalked c b ok (λ e. let z : Unread ≡ Done = sym (item_free c (item_at b LAST) ok (omega arith)).1 ∙ e in cc)
 
   -- a block as it was granted stands for one without items
   fresh_there : (r : OutChain A) (b f : ℕ) → r.chain.names b ≡ f → ((i : ℕ) → (r.chain.writers (item_at b i) ≡ Free) × (r.chain.readers (item_at b i) ≡ Unread)) → r.chain.walks b ≡ Before
@@ -88,14 +81,9 @@ module _ {A : Type 0} where
         let at_tail = laid_tail bs (spot f) (fresh_at (spot f)) (omega arith) in
         let at_head = laid_else bs (spot f) (fresh_at (spot f)) 1 (λ e. absurd (omega arith)) (omega arith) in
         record {
-          tail = rw at_tail codes.tail;
-          head = rw at_head codes.head;
-          tail_words = rw at_tail codes.tail_words;
-          head_words = rw at_head codes.head_words;
-          tail_is = rw at_tail codes.tail_is ∙ ap (λ n. tail_of n g.chain.closed) (sym place_is);
-          head_is = rw at_head codes.head_is;
-          last_is = rw at_tail (ap spot (sym (put_same g.chain.names g.chain.blocks f)) ∙ ap (λ n. lead_of (last_of (put g.chain.names g.chain.blocks f) n)) one_more);
-          front_is = rw at_head codes.front_is ∙ ap lead_of (sym front);
+          tail = end_as (end_linked codes.tail f) at_tail (ap (λ n. tail_of n g.chain.closed) (sym place_is))
+              (ap spot (sym (put_same g.chain.names g.chain.blocks f)) ∙ ap (λ n. lead_of (last_of (put g.chain.names g.chain.blocks f) n)) one_more);
+          head = end_as codes.head at_head refl (ap lead_of (sym front));
           size = length_push (with_next bs 0 (spot f)) (fresh_at (spot f)) ∙ (let long = length-set bs 0 (linked (block bs 0) (spot f)) in omega arith);
           there = λ b lt. elim (eqb_tells b g.chain.blocks) [ inl t ↦ laid_there b t.1 | inr t ↦ (let ne = t.1 in other_there b (omega arith)) ];
           tested = λ j. put_ok g.chain.uses f j (Chained g.chain.blocks) (λ i u. IsUsed u → Testable (spot i)) (λ used. codes.tested f (rw spare tt)) (λ ne used. codes.tested j used);
@@ -136,7 +124,7 @@ module _ {A : Type 0} where
           → ChainOk g.chain → Codes tail_end head_end g bs → SlotsAs g who (Local.Chain (chain.Installing d (open_tail_of 0) f)) → (xs : List (ℕ × Option A)) → ChainLent g who xs
           → HoldsBy (Local.Chain (chain.Installing d (open_tail_of 0) f)) (Op.Install f) xs m → BlockStep tail_end head_end g who bs m {ms = ms} (installing d v f none saw mine)
       step_installing d v f none saw mine ok codes slots xs lent holds =
-          let s = go g.chain.blocks refl in step_by tail_end head_end g who bs m (installing d v f none saw mine) 0 codes.tail (λ e. refl) codes.last_is refl s.0 s.1 s.2
+          let s = go g.chain.blocks refl in step_by tail_end head_end g who bs m (installing d v f none saw mine) 0 codes.tail.lives (λ e. refl) codes.tail.next refl s.0 s.1 s.2
         where
           Installs : ℕ → Type 0
           Installs n = (acts : List (Act A)) × Mays (blocks_made (Op.Install f) 0 bs) m acts
@@ -144,7 +132,7 @@ module _ {A : Type 0} where
               (chain_next (chain.Installing d (open_tail_of 0) f) (Answer.Linked (last_of g.chain.names n)))
 
           leads : (n : ℕ) → g.chain.blocks ≡ n → (block bs 0).next ≡ lead_of (last_of g.chain.names n)
-          leads n e = codes.last_is ∙ ap (λ i. lead_of (last_of g.chain.names i)) e
+          leads n e = codes.tail.next ∙ ap (λ i. lead_of (last_of g.chain.names i)) e
 
           go : (n : ℕ) → g.chain.blocks ≡ n → Installs n
           go zero e =
@@ -174,7 +162,7 @@ module _ {A : Type 0} where
           → ChainOk g.chain → Codes tail_end head_end g bs → SlotsAs g who (Local.Chain (chain.Laying d (open_tail_of n) name f)) → (xs : List (ℕ × Option A)) → ChainLent g who xs
           → HoldsBy (Local.Chain (chain.Laying d (open_tail_of n) name f)) (Op.StoreLink Link.TailBlock f) xs m → BlockStep tail_end head_end g who bs m {ms = ms} (laying d v n name f parts claims moving mine)
       step_laying d v n name f parts claims moving mine ok codes slots xs lent holds =
-          step_by tail_end head_end g who bs m (laying d v n name f parts claims moving mine) 0 codes.tail (λ e. refl) tt refl (lays (fresh_at (spot f)) ∷ []) (holds.1, tt)
+          step_by tail_end head_end g who bs m (laying d v n name f parts claims moving mine) 0 codes.tail.lives (λ e. refl) tt refl (lays (fresh_at (spot f)) ∷ []) (holds.1, tt)
           (goes_on tail_end head_end (record { chain = moves.laid_out g.chain who f; out = g.out }) who (with_next bs 0 (spot f) ++ fresh_at (spot f) ∷ []) (sitter_after (with_next bs 0 (spot f)) m (lays (fresh_at (spot f)) ∷ []))
           (Local.Chain (chain.Opening d (open_tail_of n) name f)) Touch.Nothing (Op.Add Word.Tail TAIL_STEP) xs laid slots lent (holds.0, refl))
         where

@@ -1,26 +1,17 @@
 -- The stores of links to blocks that are laid, and of the head's word past a block's end.
-use Rattle.std.proofs.Common.{ℕ, ◌+◌, ◌*◌, ◌/◌, ◌%◌, ◌<◌, ◌≡◌, ◌≢◌, ◌∙◌, inl, inr, Bool, true, false, if◌then◌else◌, Option, Some, None, List, [], refl, sym, ap, subst, arith, length-set, get_or-set_same}
+use Rattle.std.proofs.Common.{ℕ, ◌+◌, ◌*◌, ◌/◌, ◌%◌, ◌<◌, ◌≡◌, ◌≢◌, ◌∙◌, inl, inr, Bool, true, false, if◌then◌else◌, Option, Some, None, List, [], refl, sym, ap, subst, arith, length-set}
 use Rattle.std.proofs.lemmas.Bool.Decides.{eqb_tells}
 use denote.RawPtr.{Ptr}
 use Rattle.queue_laws.specs.Common.Vocabulary.{Word, Link, Op, Touch, Local, PushKind, BLOCK_SLOTS, TAIL_STEP, WRITE}
 use Rattle.queue_steps.specs.{declared.steps.chain.ChainLocal.ChainLocal as chain, ChainWords.offset_of, Words.position_of, Words.tail_of, State.State}
-use Rattle.queue_laws.proofs.{Common.Puts.put_same, Common.Puts.put_other, Common.Tails.position_tail, Chain.ChainReads.passer_sees, Chain.ChainReads.not_given_up}
-use Rattle.queue_laws.specs.Chain.ChainFacts.{place, head_of, open_tail_of, IsNamed, SawTail, Claimed, Got}
-use Rattle.queue_laws.specs.Chain.{ChainTransitions.displayed, ChainTransitions.chained, ChainTransitions.passed, ChainTransitions.entered, ChainAnswers.head_place, ChainAnswers.head_word, ChainAnswers.shown_of, ChainAnswers.linked_of}
-use Rattle.queue_laws.specs.Chain.ChainAt.{Only, Either, IsBehind, IsFurther, showing, chaining, passing, entering}
-use Rattle.queue_laws.specs.Chain.ChainCells.{Writer, Writing, Reader, Done, Passer, Stands, Passing, Entering, Linking, Linked, Shown, Showing, Seen, ItemOk, FrontOk, ShownOk, ChainOk, Write, Read, Head, Next, First, HoldsOnly}
-use Rattle.mem_blocks.specs.Web.{Block, Sitter, block, linked, worded, with_word, with_next}
+use Rattle.queue_laws.proofs.{Common.Puts.put_same, Common.Puts.put_other, Common.Tails.position_tail, Chain.ChainReads.passer_sees, Chain.ChainReads.not_given_up, Chain.ChainStates.unread_item}
+use Rattle.queue_laws.specs.Chain.{ChainFacts.place, ChainFacts.head_of, ChainFacts.open_tail_of, ChainFacts.IsNamed, ChainFacts.SawTail, ChainFacts.Claimed, ChainFacts.Got, ChainTransitions.displayed, ChainTransitions.chained, ChainTransitions.passed, ChainTransitions.entered}
+use Rattle.queue_laws.specs.Chain.{ChainAt.Only, ChainAt.Either, ChainAt.IsBehind, ChainAt.IsFurther, ChainAt.showing, ChainAt.chaining, ChainAt.passing, ChainAt.entering, ChainAnswers.head_place, ChainAnswers.head_word, ChainAnswers.shown_of, ChainAnswers.linked_of}
+use Rattle.queue_laws.specs.Chain.ChainCells.{Passer, Stands, Passing, Entering, Linking, Linked, Shown, Showing, Seen, FrontOk, ShownOk, ChainOk, Write, Read, Head, Next, First, HoldsOnly}
+use Rattle.mem_blocks.specs.Web.{Block, Sitter, block, linked, with_word, with_next}
 use Rattle.shared_parties.specs.declared.known.CallState.{CallState}
 use Rattle.shared_chain.specs.{Spots.spot, ChainCalls.OutChain, ChainCalls.SlotsAs, ChainCalls.ChainLent, Rule.lead_of, Rule.IsThere, Rule.Codes, Steps.HoldsBy, Steps.BlockStep}
-use Rattle.shared_chain.proofs.Frames.{Blocks.word_here, Blocks.word_else, Blocks.next_here, Blocks.next_else, Blocks.there_same, Links.goes_on, Links.step_by, Links.named_alive}
-
--- a slot that is being written is not read
-unread : {A : Type 0} (head tail : ℕ) (items : List A) (n who : ℕ) (v : A) (w : Writer A) (r : Reader) → w ≡ Writing who v → ItemOk head tail items n w r → r ≢ Done
-unread head tail items n who v w r is ok e = subst (λ s. ItemOk head tail items n (Writing who v) s) e (subst (λ u. ItemOk head tail items n u r) is ok)
-
--- the first block is the one that is shown first
-front_first : (blocks head front : ℕ) (known : Bool) (passer : Passer) (who : ℕ) → ShownOk blocks head front known passer (Showing who) → front ≡ 0
-front_first blocks head front known passer who h = h.2
+use Rattle.shared_chain.proofs.Frames.{Blocks.next_here, Blocks.next_else, Blocks.there_same, Blocks.end_as, Blocks.end_linked, Slots.head_worded, Links.goes_on, Links.step_by, Links.named_alive}
 
 -- the head's word behind a block
 next_head : (n : ℕ) (more further : Bool) → (n + 1) % BLOCK_SLOTS ≡ 0 → (position_of (head_of n more) + 2) * 2 + (if further then 1 else 0) ≡ tail_of (head_place (n + 1) Stands) further
@@ -36,14 +27,8 @@ module _ (tail_end head_end : Ptr) {A : Type 0} where
       let at_tail = next_else bs 1 (spot name) 0 (λ e. absurd (omega arith)) in
       let at_head = next_here bs 1 (spot name) (omega arith) in
       record {
-        tail = rw at_tail codes.tail;
-        head = rw at_head codes.head;
-        tail_words = rw at_tail codes.tail_words;
-        head_words = rw at_head codes.head_words;
-        tail_is = rw at_tail codes.tail_is;
-        head_is = rw at_head codes.head_is ∙ ap (λ n. tail_of n g.chain.known) (sym place_is);
-        last_is = rw at_tail codes.last_is;
-        front_is = rw at_head (ap lead_of (sym leads));
+        tail = end_as codes.tail at_tail refl refl;
+        head = end_as (end_linked codes.head name) at_head (ap (λ n. tail_of n g.chain.known) (sym place_is)) (ap lead_of (sym leads));
         size = length-set bs 1 (linked (block bs 1) (spot name)) ∙ size;
         there = λ b lt. subst (λ x. IsThere (record { chain = record g.chain { shown = sh; front = front; passer = p }; out = g.out }) b x) (sym (next_else bs 1 (spot name) (b + 2) (λ e. absurd (omega arith))))
             (there_same g (record { chain = record g.chain { shown = sh; front = front; passer = p }; out = g.out }) b (block bs (b + 2))
@@ -59,8 +44,9 @@ module _ (tail_end head_end : Ptr) {A : Type 0} where
         → ChainOk g.chain → Codes tail_end head_end g bs → SlotsAs g who (Local.Chain (chain.Showing d (open_tail_of 0) name)) → (xs : List (ℕ × Option A)) → ChainLent g who xs
         → HoldsBy (Local.Chain (chain.Showing d (open_tail_of 0) name)) (Op.StoreLink Link.HeadBlock name) xs m → BlockStep tail_end head_end g who bs m {ms = ms} (showing d v name first saw is named)
     step_showing d v name first saw is named ok codes slots xs lent holds =
-        let at_first : g.chain.front ≡ 0 = front_first g.chain.blocks g.chain.head g.chain.front g.chain.known g.chain.passer who (subst (λ s. ShownOk g.chain.blocks g.chain.head g.chain.front g.chain.known g.chain.passer s) is ok.seen) in
-        step_by tail_end head_end g who bs m (showing d v name first saw is named) 1 codes.head (λ e. refl) tt refl [] tt
+        let first_shown : ShownOk g.chain.blocks g.chain.head g.chain.front g.chain.known g.chain.passer (Showing who) = rw is at ok.seen in
+        let at_first : g.chain.front ≡ 0 = first_shown.2 in
+        step_by tail_end head_end g who bs m (showing d v name first saw is named) 1 codes.head.lives (λ e. refl) tt refl [] tt
         (goes_on tail_end head_end (record { chain = displayed g.chain; out = g.out }) who (with_next bs 1 (spot name)) m (Local.Chain (chain.Claiming d (open_tail_of 0) name None)) Touch.Nothing
         (Op.Exchange Word.Tail (open_tail_of 0) (open_tail_of 0 + TAIL_STEP)) xs (codes_front g bs Seen g.chain.front g.chain.passer name refl (ap (λ b. Some (g.chain.names b)) at_first ∙ ap (λ x. Some x) (sym named.1)) codes) slots lent holds)
 
@@ -74,7 +60,7 @@ module _ (tail_end head_end : Ptr) {A : Type 0} where
         let stood : FrontOk g.chain.head g.chain.front (Passing who) = subst (λ p. FrontOk g.chain.head g.chain.front p) moves.0 ok.fronted in
         let at_next : g.chain.front + 1 ≡ n / BLOCK_SLOTS + 1 = let at_n = moves.1 in omega arith in
         let leads : shown_of g.chain.shown (g.chain.names (g.chain.front + 1)) ≡ Some after = ap (λ s. shown_of s (g.chain.names (g.chain.front + 1))) seen ∙ (ap (λ b. Some (g.chain.names b)) at_next ∙ ap (λ f. Some f) (sym behind.1.1)) in
-        step_by tail_end head_end g who bs m (passing x n name after more further parts got moves behind room) 1 codes.head (λ e. refl) tt refl [] tt
+        step_by tail_end head_end g who bs m (passing x n name after more further parts got moves behind room) 1 codes.head.lives (λ e. refl) tt refl [] tt
         (goes_on tail_end head_end (record { chain = passed g.chain who; out = g.out }) who (with_next bs 1 (spot after)) m (Local.Chain (chain.Entering (head_of n more) name)) Touch.Nothing
         (Op.Store Word.Head ((position_of (head_of n more) + 2) * 2 + (if further then 1 else 0))) xs (codes_front g bs g.chain.shown (g.chain.front + 1) (Entering who) after (ap (λ p. head_place g.chain.head p) (sym moves.0)) leads codes) slots lent holds)
 
@@ -85,14 +71,8 @@ module _ (tail_end head_end : Ptr) {A : Type 0} where
       let at_tail = next_else bs (b + 2) (spot f) 0 (λ e. absurd (omega arith)) in
       let at_head = next_else bs (b + 2) (spot f) 1 (λ e. absurd (omega arith)) in
       record {
-        tail = rw at_tail codes.tail;
-        head = rw at_head codes.head;
-        tail_words = rw at_tail codes.tail_words;
-        head_words = rw at_head codes.head_words;
-        tail_is = rw at_tail codes.tail_is;
-        head_is = rw at_head codes.head_is;
-        last_is = rw at_tail codes.last_is;
-        front_is = rw at_head codes.front_is;
+        tail = end_as codes.tail at_tail refl refl;
+        head = end_as codes.head at_head refl refl;
         size = length-set bs (b + 2) (linked (block bs (b + 2)) (spot f)) ∙ size;
         there = λ j lt. elim (eqb_tells j b) [ inl t ↦ chained_there j lt t.1 | inr t ↦ other_there j lt t.1 ];
         tested = codes.tested;
@@ -149,7 +129,7 @@ module _ (tail_end head_end : Ptr) {A : Type 0} where
         → ChainOk g.chain → Codes tail_end head_end g bs → SlotsAs g who (Local.Chain (chain.Chaining d (open_tail_of n) name f)) → (xs : List (ℕ × Option A)) → ChainLent g who xs
         → HoldsBy (Local.Chain (chain.Chaining d (open_tail_of n) name f)) (Op.StoreLink (Link.Next name) f) xs m → BlockStep tail_end head_end g who bs m {ms = ms} (chaining d v n name f parts claims links named)
     step_chaining d v n name f parts claims links named ok codes slots xs lent holds =
-        let on = not_given_up g.chain n ok (unread g.chain.head g.chain.tail g.chain.items n who v (g.chain.writers n) (g.chain.readers n) claims.mine (ok.item n)) in
+        let on = not_given_up g.chain n ok (unread_item g.chain n who v ok claims.mine) in
         let alive = named_alive tail_end head_end g bs (n / BLOCK_SLOTS) name codes claims.named on in
         step_by tail_end head_end g who bs m (chaining d v n name f parts claims links named) (n / BLOCK_SLOTS + 2) alive.0 (λ e. refl) tt refl [] tt
         (goes_on tail_end head_end (record { chain = chained g.chain (n / BLOCK_SLOTS); out = g.out }) who (with_next bs (n / BLOCK_SLOTS + 2) (spot f)) m (Local.Chain (chain.Writing d None)) (Touch.Put (offset_of (open_tail_of n)))
@@ -158,26 +138,9 @@ module _ (tail_end head_end : Ptr) {A : Type 0} where
   -- another word of the head
   codes_entered : (g : OutChain A) (bs : List (Block A)) (further : Bool) (w : ℕ) → w ≡ head_word (entered g.chain further) → Codes tail_end head_end g bs → Codes tail_end head_end (record { chain = entered g.chain further; out = g.out }) (with_word bs 1 0 w)
   codes_entered g bs further w is codes =
-      let size = codes.size in
-      let at_tail = word_else bs 1 0 w 0 (λ e. absurd (omega arith)) in
-      let at_head = word_here bs 1 0 w (omega arith) in
-      let long = codes.head_words in
-      record {
-        tail = rw at_tail codes.tail;
-        head = rw at_head codes.head;
-        tail_words = rw at_tail codes.tail_words;
-        head_words = rw (at_head, length-set (block bs 1).words 0 w) codes.head_words;
-        tail_is = rw at_tail codes.tail_is;
-        head_is = rw at_head (get_or-set_same (block bs 1).words 0 w 0 (omega arith)) ∙ is;
-        last_is = rw at_tail codes.last_is;
-        front_is = rw at_head codes.front_is;
-        size = length-set bs 1 (worded (block bs 1) 0 w) ∙ size;
-        there = λ b lt. subst (λ x. IsThere (record { chain = entered g.chain further; out = g.out }) b x) (sym (word_else bs 1 0 w (b + 2) (λ e. absurd (omega arith))))
-            (there_same g (record { chain = entered g.chain further; out = g.out }) b (block bs (b + 2))
-            (record { name = refl; link = refl; walk = refl; writers = λ i low. refl; readers = λ i low. refl; out = λ i low. refl }) (codes.there b lt));
-        tested = codes.tested;
-        fresh = codes.fresh;
-      }
+      let r : OutChain A = record { chain = entered g.chain further; out = g.out } in
+      head_worded tail_end head_end g r bs w codes (record { blocks = refl; last = refl; front = refl; uses = λ f. refl }) refl is
+      (λ b y lt. there_same g r b y (record { name = refl; link = refl; walk = refl; writers = λ i low. refl; readers = λ i low. refl; out = λ i low. refl }))
 
   module _ (g : OutChain A) (who : ℕ) (bs : List (Block A)) (m : Sitter A (CallState A)) (ms : List (State A)) where
     -- the store of the head's word, behind the block that was passed
@@ -189,6 +152,6 @@ module _ (tail_end head_end : Ptr) {A : Type 0} where
     step_entering x n name more further parts got enters room ok codes slots xs lent holds =
         let stood : FrontOk g.chain.head g.chain.front (Entering who) = subst (λ p. FrontOk g.chain.head g.chain.front p) enters.0 ok.fronted in
         let is = next_head n more further (let at_n = enters.1 in let at_front = stood.0 in omega arith) ∙ ap (λ i. tail_of (head_place i Stands) further) (sym enters.1) in
-        step_by tail_end head_end g who bs m (entering x n name more further parts got enters room) 1 codes.head (λ e. refl) tt refl [] tt
+        step_by tail_end head_end g who bs m (entering x n name more further parts got enters room) 1 codes.head.lives (λ e. refl) tt refl [] tt
         (goes_on tail_end head_end (record { chain = entered g.chain further; out = g.out }) who (with_word bs 1 0 ((position_of (head_of n more) + 2) * 2 + (if further then 1 else 0))) m (Local.Chain (chain.Awaiting (head_of n more) name)) Touch.Nothing
         (Op.Load (Word.State name (offset_of (head_of n more)))) xs (codes_entered g bs further ((position_of (head_of n more) + 2) * 2 + (if further then 1 else 0)) is codes) slots lent holds)

@@ -1,13 +1,13 @@
 -- The steps that load the word of the tail or that of the head: they change no block, and their parties hold nothing.
-use Rattle.std.proofs.Common.{ℕ, ◌≡◌, ◌≤◌, inl, inr, false, Option, Some, None, List, refl, ap}
+use Rattle.std.proofs.Common.{ℕ, ◌≡◌, inl, inr, Option, Some, None, List, refl, ap}
 use Rattle.std.proofs.lemmas.Bool.Decides.{eqb_tells}
 use denote.RawPtr.{Ptr}
 use Rattle.queue_laws.specs.Common.Vocabulary.{Call, Effect, Word, Op, Touch, Answer, Local, PushKind, BLOCK_SLOTS, Look}
-use Rattle.queue_steps.specs.{State.State, Looks.IsCount, declared.steps.chain.ChainLocal.ChainLocal as chain, Words.IsWord, Words.position_of, ChainWords.block_at, ChainWords.offset_of, ChainWords.items_before}
+use Rattle.queue_steps.specs.{State.State, declared.steps.chain.ChainLocal.ChainLocal as chain, Words.position_of, ChainWords.block_at, ChainWords.offset_of}
 use Rattle.queue_steps.specs.ChainNext.{chain_next, chain_tail_found, chain_pop_tail_found, chain_head_found}
-use Rattle.queue_laws.{specs.Common.Moments.SeenIn, specs.Common.Moments.HeadWas, specs.Common.Stand.stand, proofs.Chain.ChainPush.tail_ways}
-use Rattle.queue_laws.specs.Chain.{ChainCells.HoldsOnly, ChainCells.Nothing, ChainFacts.head_of, ChainFacts.HasSpare, ChainFacts.HeadIs, ChainFacts.HeadBlockRead, ChainFacts.SawEmpty, ChainAnswers.Answers, ChainPasses.spare_in, ChainAfter.chain_of, ChainAfter.after_of}
-use Rattle.queue_laws.specs.Chain.ChainAt.{At, push_tail, pop_head, pop_tail, count_tail, count_head, count_again, empty_head, empty_tail, closed_tail}
+use Rattle.queue_laws.{specs.Common.Stand.stand, proofs.Chain.ChainPush.tail_ways}
+use Rattle.queue_laws.specs.Chain.{ChainCells.HoldsOnly, ChainCells.Nothing, ChainAnswers.Answers, ChainPasses.spare_in, ChainAfter.chain_of, ChainAfter.after_of}
+use Rattle.queue_laws.specs.Chain.ChainAt.{At}
 use Rattle.mem_blocks.specs.Web.{Block, Sitter, Lives, word_of}
 use Rattle.shared_parties.specs.declared.known.CallState.{CallState}
 use Rattle.shared_chain.specs.{ChainCalls.OutChain, ChainCalls.ChainLent, Rule.Codes, Steps.HoldsBy, Steps.word_place, Steps.word_index, Steps.BlockStep}
@@ -20,14 +20,14 @@ tail_spare d x spare = tail_ways d x spare (λ n. spare_on n ≡ spare) (λ shut
 pub head_spare : (x : ℕ) → spare_on (chain_head_found x) ≡ None
 head_spare x = elim (eqb_tells (offset_of x) BLOCK_SLOTS) [ inl t ↦ rw (t.0) refl | inr t ↦ rw (t.0) refl ]
 
-pop_spare : (h : ℕ) (block : Option ℕ) (x : ℕ) → spare_on (chain_pop_tail_found h block x) ≡ None
+pub pop_spare : (h : ℕ) (block : Option ℕ) (x : ℕ) → spare_on (chain_pop_tail_found h block x) ≡ None
 pop_spare h None x = elim (eqb_tells (position_of x) (position_of h)) [ inl t ↦ rw (t.0) refl | inr t ↦ rw (t.0) refl ]
 pop_spare h (Some b) x = elim (eqb_tells (position_of x) (position_of h)) [
   | inl t ↦ rw (t.0) refl
   | inr t ↦ elim (eqb_tells (block_at (position_of x)) (block_at (position_of h))) [ inl u ↦ rw (t.0, u.0) refl | inr u ↦ rw (t.0, u.0) refl ]
 ]
 
-again_spare : (g : Look) (t h x : ℕ) → spare_on (chain_next (chain.CountAgain g t h) (Answer.Found x)) ≡ None
+pub again_spare : (g : Look) (t h x : ℕ) → spare_on (chain_next (chain.CountAgain g t h) (Answer.Found x)) ≡ None
 again_spare g t h x = elim (eqb_tells x t) [ inl e ↦ rw (e.0) refl | inr e ↦ rw (e.0) refl ]
 
 module _ {A : Type 0} (te he : Ptr) (g : OutChain A) (who : ℕ) (bs : List (Block A)) (m : Sitter A (CallState A)) (ms : List (State A)) where
@@ -40,53 +40,12 @@ module _ {A : Type 0} (te he : Ptr) (g : OutChain A) (who : ℕ) (bs : List (Blo
       step_none te he g who bs m here k lives (λ e. first) tt found bs (word_same bs k (word_index w)) g.chain same (chain_next (chain_of l) (Answer.Found (word_of bs k (word_index w)))) refl
       codes none spare (none_held g who l (Op.Load w) xs m none lent holds)
 
-  load_tail : {l : Local ℕ} {v : Option A} {call : Call A} {es : List (Effect A)} (here : At g.chain who ms (stand l Touch.Nothing (Op.Load Word.Tail) v call es)) → after_of here (Answer.Found (word_of bs 0 0)) ≡ g.chain
+  pub load_tail : {l : Local ℕ} {v : Option A} {call : Call A} {es : List (Effect A)} (here : At g.chain who ms (stand l Touch.Nothing (Op.Load Word.Tail) v call es)) → after_of here (Answer.Found (word_of bs 0 0)) ≡ g.chain
       → HoldsOnly g.chain who Nothing → spare_on (chain_next (chain_of l) (Answer.Found (word_of bs 0 0))) ≡ spare_in l
       → Codes te he g bs → (xs : List (ℕ × Option A)) → ChainLent g who xs → HoldsBy l (Op.Load Word.Tail) xs m → BlockStep te he g who bs m here
-  load_tail here same none spare codes xs lent holds = step_load here 0 codes.tail refl (ap (λ n. Answer.Found n) codes.tail_is) same none spare codes xs lent holds
+  load_tail here same none spare codes xs lent holds = step_load here 0 codes.tail.lives refl (ap (λ n. Answer.Found n) codes.tail.word) same none spare codes xs lent holds
 
-  load_head : {l : Local ℕ} {v : Option A} {call : Call A} {es : List (Effect A)} (here : At g.chain who ms (stand l Touch.Nothing (Op.Load Word.Head) v call es)) → after_of here (Answer.Found (word_of bs 1 0)) ≡ g.chain
+  pub load_head : {l : Local ℕ} {v : Option A} {call : Call A} {es : List (Effect A)} (here : At g.chain who ms (stand l Touch.Nothing (Op.Load Word.Head) v call es)) → after_of here (Answer.Found (word_of bs 1 0)) ≡ g.chain
       → HoldsOnly g.chain who Nothing → spare_on (chain_next (chain_of l) (Answer.Found (word_of bs 1 0))) ≡ spare_in l
       → Codes te he g bs → (xs : List (ℕ × Option A)) → ChainLent g who xs → HoldsBy l (Op.Load Word.Head) xs m → BlockStep te he g who bs m here
-  load_head here same none spare codes xs lent holds = step_load here 1 codes.head refl (ap (λ n. Answer.Found n) codes.head_is) same none spare codes xs lent holds
-
-  pub step_push_tail : (d : PushKind) (v : A) (spare : Option ℕ) (none : HoldsOnly g.chain who Nothing) (spare_is : HasSpare g.chain who spare)
-      → Codes te he g bs → (xs : List (ℕ × Option A)) → ChainLent g who xs → HoldsBy (Local.Chain (chain.PushTail d spare)) (Op.Load Word.Tail) xs m
-      → BlockStep te he g who bs m {ms = ms} (push_tail d v spare none spare_is)
-  step_push_tail d v spare none spare_is = load_tail (push_tail d v spare none spare_is) refl none (tail_spare d (word_of bs 0 0) spare)
-
-  pub step_closed_tail : (none : HoldsOnly g.chain who Nothing)
-      → Codes te he g bs → (xs : List (ℕ × Option A)) → ChainLent g who xs → HoldsBy (Local.Chain chain.ClosedTail) (Op.Load Word.Tail) xs m → BlockStep te he g who bs m {ms = ms} (closed_tail none)
-  step_closed_tail none = load_tail (closed_tail none) refl none refl
-
-  pub step_pop_tail : (n : ℕ) (block : Option ℕ) (none : HoldsOnly g.chain who Nothing) (is : HeadIs g.chain n) (front : HeadBlockRead g.chain n block)
-      → Codes te he g bs → (xs : List (ℕ × Option A)) → ChainLent g who xs → HoldsBy (Local.Chain (chain.PopTail (head_of n false) block)) (Op.Load Word.Tail) xs m
-      → BlockStep te he g who bs m {ms = ms} (pop_tail n block none is front)
-  step_pop_tail n block none is front = load_tail (pop_tail n block none is front) refl none (pop_spare (head_of n false) block (word_of bs 0 0))
-
-  pub step_empty_tail : (h : ℕ) (none : HoldsOnly g.chain who Nothing) (small : IsWord h) (saw : SawEmpty (items_before (position_of h)) g.chain ms)
-      → Codes te he g bs → (xs : List (ℕ × Option A)) → ChainLent g who xs → HoldsBy (Local.Chain (chain.EmptyTail h)) (Op.Load Word.Tail) xs m
-      → BlockStep te he g who bs m {ms = ms} (empty_tail h none small saw)
-  step_empty_tail h none small saw = load_tail (empty_tail h none small saw) refl none refl
-
-  pub step_count_tail : (l : Look) (count : IsCount A l) (none : HoldsOnly g.chain who Nothing)
-      → Codes te he g bs → (xs : List (ℕ × Option A)) → ChainLent g who xs → HoldsBy (Local.Chain (chain.CountTail l)) (Op.Load Word.Tail) xs m → BlockStep te he g who bs m {ms = ms} (count_tail l count none)
-  step_count_tail l count none = load_tail (count_tail l count none) refl none refl
-
-  pub step_count_again : (l : Look) (t h : ℕ) (count : IsCount A l) (none : HoldsOnly g.chain who Nothing) (small : IsWord t × IsWord h) (seen : SeenIn ms (HeadWas None (items_before (position_of h)) (items_before (position_of t)) g.chain.tail))
-      → Codes te he g bs → (xs : List (ℕ × Option A)) → ChainLent g who xs → HoldsBy (Local.Chain (chain.CountAgain l t h)) (Op.Load Word.Tail) xs m
-      → BlockStep te he g who bs m {ms = ms} (count_again l t h count none small seen)
-  step_count_again l t h count none small seen = load_tail (count_again l t h count none small seen) refl none (again_spare l t h (word_of bs 0 0))
-
-  pub step_pop_head : (none : HoldsOnly g.chain who Nothing)
-      → Codes te he g bs → (xs : List (ℕ × Option A)) → ChainLent g who xs → HoldsBy (Local.Chain chain.PopHead) (Op.Load Word.Head) xs m → BlockStep te he g who bs m {ms = ms} (pop_head none)
-  step_pop_head none = load_head (pop_head none) refl none (head_spare (word_of bs 1 0))
-
-  pub step_count_head : (l : Look) (t : ℕ) (count : IsCount A l) (none : HoldsOnly g.chain who Nothing) (small : IsWord t) (low : items_before (position_of t) ≤ g.chain.tail)
-      → Codes te he g bs → (xs : List (ℕ × Option A)) → ChainLent g who xs → HoldsBy (Local.Chain (chain.CountHead l t)) (Op.Load Word.Head) xs m
-      → BlockStep te he g who bs m {ms = ms} (count_head l t count none small low)
-  step_count_head l t count none small low = load_head (count_head l t count none small low) refl none refl
-
-  pub step_empty_head : (none : HoldsOnly g.chain who Nothing)
-      → Codes te he g bs → (xs : List (ℕ × Option A)) → ChainLent g who xs → HoldsBy (Local.Chain chain.EmptyHead) (Op.Load Word.Head) xs m → BlockStep te he g who bs m {ms = ms} (empty_head none)
-  step_empty_head none = load_head (empty_head none) refl none refl
+  load_head here same none spare codes xs lent holds = step_load here 1 codes.head.lives refl (ap (λ n. Answer.Found n) codes.head.word) same none spare codes xs lent holds

@@ -76,7 +76,7 @@ module _ {T : Type 0} where
         here : Allows (Rule te he) id m te PARTIES (λ n. n) (λ n q. HasLeft m q)
         here s r at =
             let d = leaves s r at in
-            (0, (r.codes.tail, omega (arith, r.codes.tail_words)), λ small. subst (λ (bs : List (Block T)). KeepsRule (Rule te he) s bs id m (λ q. HasLeft m q)) (sym (word_same s.blocks 0 PARTIES)) (idle m.view.known, [], tt, d.0, d.1))
+            (0, (r.codes.tail.lives, omega (arith, r.codes.tail.words)), λ small. subst (λ (bs : List (Block T)). KeepsRule (Rule te he) s bs id m (λ q. HasLeft m q)) (sym (word_same s.blocks 0 PARTIES)) (idle m.view.known, [], tt, d.0, d.1))
 
   module _ (te he : Ptr) (id : ℕ) (m : Sitter T (CallState T)) (calls : m.view.work ≡ work.Calls (its_call m.view)) where
     -- a load that changes nothing tells where a push is
@@ -88,4 +88,4 @@ module _ {T : Type 0} where
             let c = its_call m.view in
             let st = r.all.calls id m.view c at calls in
             let rule : Rule te he record { blocks = s.blocks; views = set s.views id m.view } = subst (λ (vs : List (CallState T)). Rule te he record { blocks = s.blocks; views = vs }) (sym (set_again s.views id m.view at)) r in
-            (0, (r.codes.tail, omega (arith, r.codes.tail_words)), λ small. subst (λ (bs : List (Block T)). KeepsRule (Rule te he) s bs id m (λ q. (q ≡ m) × ShowsPlace m)) (sym (word_same s.blocks 0 PARTIES)) (m.view, [], tt, rule, (refl, λ push. unbound push st.here.0)))
+            (0, (r.codes.tail.lives, omega (arith, r.codes.tail.words)), λ small. subst (λ (bs : List (Block T)). KeepsRule (Rule te he) s bs id m (λ q. (q ≡ m) × ShowsPlace m)) (sym (word_same s.blocks 0 PARTIES)) (m.view, [], tt, rule, (refl, λ push. unbound push st.here.0)))

@@ -1,27 +1,21 @@
 -- The read of an item: its slot goes back vacant. Where the walk waits for the slot its reader walks on, and the reader of the last slot begins the walk.
 use Rattle.std.proofs.Common.{ℕ, ◌+◌, ◌/◌, ◌%◌, ◌<◌, ◌≡◌, ◌≢◌, ◌==◌, ◌∙◌, not, inl, inr, Bool, true, false, if◌then◌else◌, Option, Ok, Some, None, List, length, refl, sym, ap, subst, arith, bit_and, bit_or, get_or}
-use Rattle.std.proofs.lemmas.{Bool.Decides.eqb_tells, Nat.and_or_self}
+use Rattle.std.proofs.lemmas.{Bool.Decides.eqb_tells}
 use mathlib.Core.Option.{some}
 use lib.ListN.{get_elem?}
 use denote.RawPtr.{Ptr}
 use Rattle.queue_laws.specs.Common.Puts.{put}
 use Rattle.queue_laws.specs.Chain.{ChainTransitions.reads, ChainTransitions.walk_after, ChainFacts.head_of, ChainFacts.Got, ChainAt.Only, ChainAt.IsLast, ChainAt.reading, ChainAt.beginning, ChainAnswers.IsState, ChainAnswers.is_done, ChainAnswers.waits_at, ChainPasses.spare_in}
-use Rattle.queue_laws.proofs.{Common.Puts.put_same, Common.Puts.put_other, Chain.ChainReads.own_item, Chain.ChainRead.waits_is, Chain.ChainAnswers.head_offset, Chain.ChainHolds.after_read, Chain.ChainHolds.after_read_on}
+use Rattle.queue_laws.proofs.{Common.Puts.put_same, Common.Puts.put_other, Chain.ChainReads.own_item, Chain.ChainRead.waits_is, Chain.ChainAnswers.head_offset, Chain.ChainHolds.after_read, Chain.ChainHolds.after_read_on, Chain.ChainStates.unwalked, Chain.ChainStates.state_read}
 use Rattle.queue_laws.specs.Common.Vocabulary.{Reply, Word, Op, Touch, Local, Next, BLOCK_SLOTS, WRITE, READ, DESTROY}
 use Rattle.queue_steps.specs.{State.State, ChainWords.offset_of, ChainNext.at, ChainNext.ends, ChainNext.walks_on, declared.steps.chain.ChainLocal.ChainLocal as chain}
-use Rattle.queue_laws.specs.Chain.ChainCells.{Wrote, Reader, Reading, Done, Walk, Before, Walker, Waits, GivenUp, ChainOk, WalkOk, Read, Passed, HoldsOnly, Nothing, reader_of, item_at, LAST}
+use Rattle.queue_laws.specs.Chain.ChainCells.{Wrote, Reading, Done, Walk, Before, Walker, Waits, GivenUp, ChainOk, WalkOk, Read, Passed, HoldsOnly, Nothing, reader_of, item_at, LAST}
 use Rattle.mem_blocks.specs.Web.{Block, Sitter, gives, block, Lives, word_of, with_word, with_home, vacant, May, sitter_acted}
 use Rattle.shared_parties.specs.{declared.known.CallState.CallState, Calling.touched_list}
 use Rattle.shared_chain.specs.{Spots.spot, ChainCalls.OutChain, Rule.home_of, Rule.plain_state, Rule.BlockIs, Rule.Codes, Steps.BlockStep, Steps.HoldsBy, Steps.carried_by}
-use Rattle.shared_chain.proofs.{Frames.Blocks.alive_is, Steps.Walking.IsRead, Steps.Walking.walk_goes}
+use Rattle.shared_chain.proofs.{Frames.Blocks.alive_is, Steps.Walking.walk_goes}
 use Rattle.shared_chain.proofs.Frames.Homes.{turned, AllBut, SlotTurns, turns_not, turns_both, turns_word, turns_home, codes_turned, not_given, home_set, word_set, word_kept}
-use Rattle.shared_chain.proofs.Frames.States.{still_tested, state_is, others_out, Leaves, acts_first, load_step, or_step, none_out, walks_none, idles}
-
--- no walk has begun while the last slot is not read
-before_last : (readers : ℕ → Reader) (b : ℕ) (w : Walk) → WalkOk readers b w → readers (item_at b LAST) ≢ Done → w ≡ Before
-before_last readers b Before ok unread = refl
-before_last readers b GivenUp ok unread = absurd (unread ok.0)
-before_last readers b w ok unread = absurd (unread ok.1.0)
+use Rattle.shared_chain.proofs.Frames.States.{state_is, others_out, Leaves, acts_first, load_step, or_step, none_out, walks_none, idles}
 
 -- The slot i of the block of the item n goes back vacant. The step's operation made cs of the blocks bs, and changed at most the state of this slot
 module _ {A : Type 0} (te he : Ptr) (g : OutChain A) (who : ℕ) (bs cs : List (Block A)) (m : Sitter A (CallState A)) (x : A) (n i name : ℕ) (holds : HoldsOnly g.chain who (Only (Read n))) (got : Got g.chain who n x name) (wrote : g.chain.writers n ≡ Wrote x)
@@ -87,7 +81,7 @@ module _ {A : Type 0} (te he : Ptr) (g : OutChain A) (who : ℕ) (bs cs : List (
 
   -- the blocks where the walk is this, which is not at the block's end
   codes_read : (w : Walk) → w ≢ GivenUp → (w ≡ Before → g.chain.walks (n / BLOCK_SLOTS) ≡ Before) → ((j : ℕ) → j ≢ i → waits_at w j ≡ waits_at (g.chain.walks (n / BLOCK_SLOTS)) j)
-      → (i ≢ LAST → IsRead g.chain (n / BLOCK_SLOTS) i (word_of cs (n / BLOCK_SLOTS + 2) i)) → (w ≡ Before → word_of cs (n / BLOCK_SLOTS + 2) i ≡ WRITE + READ) → Codes te he (after w) back
+      → (i ≢ LAST → IsState (after w).chain (n / BLOCK_SLOTS) i (word_of cs (n / BLOCK_SLOTS + 2) i)) → (w ≡ Before → word_of cs (n / BLOCK_SLOTS + 2) i ≡ WRITE + READ) → Codes te he (after w) back
   codes_read w stays begun waits is plain =
       let b = n / BLOCK_SLOTS in
       let walk : put g.chain.walks b w b ≡ w = put_same g.chain.walks b w in
@@ -96,11 +90,7 @@ module _ {A : Type 0} (te he : Ptr) (g : OutChain A) (who : ℕ) (bs cs : List (
       (record { begun = λ e. begun (sym walk ∙ e); waits = λ j ne. ap (λ k. waits_at k j) walk ∙ waits j ne })
       turns_back
       (record {
-        state = λ last. let z = is (λ e. last e read_now) in record {
-          written = ap (λ k. bit_and k WRITE == 0) same ∙ z.written;
-          read = ap (λ k. bit_and k READ == 0) same ∙ z.read ∙ sym (ap (λ k. not (is_done k)) read_now);
-          destroyed = λ u. absurd (u read_now);
-        };
+        state = λ last. subst (λ k. IsState (after w).chain b i k) (sym same) (is (λ e. last e read_now));
         plain = λ e. same ∙ plain (sym walk ∙ e) ∙ (λ j. plain_state (sym wrote_here j) (sym read_now j));
         slot = is_back ∙ ap (λ h. some h) (λ j. home_of (sym wrote_here j) (sym read_now j) (put g.out n false (item_at b i)));
       })
@@ -109,7 +99,7 @@ module _ {A : Type 0} (te he : Ptr) (g : OutChain A) (who : ℕ) (bs cs : List (
   begins : i ≡ LAST → (slot : ℕ) (l : Local ℕ) (t : Touch) (o : Op ℕ) → spare_in l ≡ None → Leaves te he g who cs m (reads g.chain n (Walker who slot)) (Next.Step l t o)
   begins last slot l t o spare =
       let b = n / BLOCK_SLOTS in
-      let before : g.chain.walks b ≡ Before = before_last g.chain.readers b (g.chain.walks b) (ok.walk b) (subst (λ j. g.chain.readers (item_at b j) ≢ Done) last unread) in
+      let before : g.chain.walks b ≡ Before = unwalked g.chain b ok (subst (λ j. g.chain.readers (item_at b j) ≢ Done) last unread) in
       let none = after_read_on g.chain who n (Walker who slot) holds in
       acts_first te he g who cs m (reads g.chain n (Walker who slot)) (Next.Step l t o) (gives (b + 2) i None) gives_back
       (idles te he g who back (sitter_acted cs m (gives (b + 2) i None)) (reads g.chain n (Walker who slot)) (Next.Step l t o) (put g.out n false)
@@ -122,10 +112,13 @@ module _ {A : Type 0} (te he : Ptr) (g : OutChain A) (who : ℕ) (bs cs : List (
   goes t u = Leaves te he g who cs m (reads g.chain n (if t then walk_after who i else g.chain.walks (n / BLOCK_SLOTS))) (if not u then walks_on name i else ends (Reply.Pop (Ok tt)))
 
   -- any other slot
-  read_left : i < LAST → IsRead g.chain (n / BLOCK_SLOTS) i (word_of cs (n / BLOCK_SLOTS + 2) i) → word_of cs (n / BLOCK_SLOTS + 2) i ≡ bit_or (word_of bs (n / BLOCK_SLOTS + 2) i) READ
+  read_left : i < LAST → word_of cs (n / BLOCK_SLOTS + 2) i ≡ bit_or (word_of bs (n / BLOCK_SLOTS + 2) i) READ
       → goes (waits_at (g.chain.walks (n / BLOCK_SLOTS)) i) (bit_and (word_of bs (n / BLOCK_SLOTS + 2) i) DESTROY == 0)
-  read_left below is made = go (waits_at (g.chain.walks (n / BLOCK_SLOTS)) i) refl
+  read_left below made = go (waits_at (g.chain.walks (n / BLOCK_SLOTS)) i) refl
     where
+      is : (w : Walk) → IsState (after w).chain (n / BLOCK_SLOTS) i (word_of cs (n / BLOCK_SLOTS + 2) i)
+      is w = subst (λ k. IsState (after w).chain (n / BLOCK_SLOTS) i k) (sym made) (state_read g.chain (after w).chain (n / BLOCK_SLOTS) i (word_of bs (n / BLOCK_SLOTS + 2) i) refl read_now state)
+
       m_back : Sitter A (CallState A)
       m_back = sitter_acted cs m (gives (n / BLOCK_SLOTS + 2) i None)
 
@@ -137,7 +130,7 @@ module _ {A : Type 0} (te he : Ptr) (g : OutChain A) (who : ℕ) (bs cs : List (
           let none = after_read g.chain who n w (λ e. let z : Passed b ≡ Read n = holds (Passed b) e in cc) holds in
           acts_first te he g who cs m (reads g.chain n w) (ends (Reply.Pop (Ok tt))) (gives (b + 2) i None) gives_back
           (idles te he g who back m_back (reads g.chain n w) (ends (Reply.Pop (Ok tt))) (put g.out n false)
-          (codes_read w on (λ e. e) (λ j ne. refl) (λ ne. is) (λ e. made ∙ ap (λ k. bit_or k READ) (there.1.plain e i low ∙ (λ j. plain_state (wrote_here j) (mine j)))))
+          (codes_read w on (λ e. e) (λ j ne. refl) (λ ne. is w) (λ e. made ∙ ap (λ k. bit_or k READ) (there.1.plain e i low ∙ (λ j. plain_state (wrote_here j) (mine j)))))
           (others_out te he g who n false got.mine) tt (none_out te he (after w) who Nothing none (λ k z. z) (λ k z. z)) (refl, has.1))
 
       -- it waits for the slot
@@ -148,12 +141,12 @@ module _ {A : Type 0} (te he : Ptr) (g : OutChain A) (who : ℕ) (bs cs : List (
           let same : word_of back (b + 2) i ≡ word_of cs (b + 2) i = ap (λ ns. get_or ns i 0) (word_kept cs (b + 2) i vacant long) in
           acts_first te he g who cs m (reads g.chain n (walk_after who i)) (walks_on name i) (gives (b + 2) i None) gives_back
           (walk_goes te he g who bs back m_back b name i (put g.chain.readers n Done) (put g.out n false) ok codes got.named below walked.1
-          (on, λ j ne. ap (λ w. waits_at w j) waits ∙ elim (eqb_tells i j) [ inl t ↦ absurd (ne (sym t.1)) | inr t ↦ t.0 ]) (refl, has.1) (others_out te he g who n false got.mine) (λ w. after_read_on g.chain who n w holds) but turns_back read_now
-          (subst (λ k. IsRead g.chain b i k) (sym same) is) is_back (ap (λ k. home_of k Done (put g.out n false (item_at b i))) wrote_here))
+          (on, λ j ne. ap (λ w. waits_at w j) waits ∙ elim (eqb_tells i j) [ inl t ↦ absurd (ne (sym t.1)) | inr t ↦ t.0 ]) (refl, has.1) (others_out te he g who n false got.mine) (λ w. after_read_on g.chain who n w holds) but turns_back
+          (λ w. subst (λ k. IsState (after w).chain b i k) (sym same) (is w)) read_now is_back (ap (λ k. home_of k Done (put g.out n false (item_at b i))) wrote_here))
 
       go : (t : Bool) → waits_at (g.chain.walks (n / BLOCK_SLOTS)) i ≡ t → goes (waits_at (g.chain.walks (n / BLOCK_SLOTS)) i) (bit_and (word_of bs (n / BLOCK_SLOTS + 2) i) DESTROY == 0)
-      go false e = subst (λ u. goes u (bit_and (word_of bs (n / BLOCK_SLOTS + 2) i) DESTROY == 0)) (sym e) (subst (λ u. goes false u) (sym (state.destroyed unread ∙ ap not e)) rests)
-      go true e = subst (λ u. goes u (bit_and (word_of bs (n / BLOCK_SLOTS + 2) i) DESTROY == 0)) (sym e) (subst (λ u. goes true u) (sym (state.destroyed unread ∙ ap not e)) (goes_on (waits_is (g.chain.walks (n / BLOCK_SLOTS)) i e)))
+      go false e = rw (e, state.destroyed unread ∙ ap not e) rests
+      go true e = rw (e, state.destroyed unread ∙ ap not e) (goes_on (waits_is (g.chain.walks (n / BLOCK_SLOTS)) i e))
 
 module _ {A : Type 0} (te he : Ptr) where
   module _ (g : OutChain A) (who : ℕ) (bs : List (Block A)) (m : Sitter A (CallState A)) (ms : List (State A)) where
@@ -163,12 +156,7 @@ module _ {A : Type 0} (te he : Ptr) where
         → BlockStep te he g who bs m {ms = ms} (reading x n name more holds got wrote inner)
     step_reading x n name more holds got wrote inner ok codes xs has =
         or_step te he g who bs m b name i READ {ms = ms} (reading x n name more holds got wrote inner) ok codes got.named (on te he g who bs bs m x n i name holds got wrote offset ok codes has none) here
-        (read_left te he g who bs cs m x n i name holds got wrote offset ok codes has turned_to (omega (arith, offset, inner))
-        (subst (λ k. IsRead g.chain b i k) (sym set) (record {
-          written = still_tested WRITE (word_of bs (b + 2) i) READ refl ∙ here.written;
-          read = ap (λ z. z == 0) (and_or_self READ (word_of bs (b + 2) i));
-        }))
-        set)
+        (read_left te he g who bs cs m x n i name holds got wrote offset ok codes has turned_to (omega (arith, offset, inner)) set)
       where
         b : ℕ
         b = n / BLOCK_SLOTS

@@ -11,7 +11,7 @@ use Rattle.queue_laws.specs.Chain.ChainCells.{Writer, Free, Unread, Reading, Pas
 use Rattle.mem_blocks.specs.{Web.Block, Web.Sitter, Web.word_of, Web.with_word, declared.hub.TheConstants.HEAD}
 use Rattle.shared_parties.specs.declared.known.CallState.{CallState}
 use Rattle.shared_chain.specs.{ChainCalls.OutChain, ChainCalls.HasOut, ChainCalls.ChainLent, ChainCalls.has_slot, Rule.home_of, Rule.Codes, Steps.HoldsBy, Steps.BlockStep}
-use Rattle.shared_chain.proofs.{Frames.Blocks.word_same, Steps.Loads.head_spare, Frames.Slots.there_like, Frames.Slots.head_worded, Frames.Slots.none_held, Frames.Slots.none_holds, Frames.Slots.step_by, Frames.Slots.step_none}
+use Rattle.shared_chain.proofs.{Frames.Blocks.word_same, Steps.Loads.head_spare, Frames.Blocks.there_like, Frames.Slots.head_worded, Frames.Slots.none_held, Frames.Slots.none_holds, Frames.Slots.step_by, Frames.Slots.step_none}
 
 -- where the passer is after the item n was taken: the party, where that is the last of its block
 abbrev Passes_on : ℕ → ℕ → Passer → Type 0
@@ -80,29 +80,29 @@ module _ {A : Type 0} (te he : Ptr) (g : OutChain A) (who : ℕ) where
         here = taking n name after more new none is front there word_is room
 
         found : Answers g.chain (Op.Exchange Word.Head (head_of n more) after) (Answer.Found (word_of bs 1 HEAD))
-        found = ap (λ w. Answer.Found w) codes.head_is
+        found = ap (λ w. Answer.Found w) codes.head.word
 
         same_bit : (b : Bool) → (word_of bs 1 HEAD == head_of n more) ≡ b → (head_word g.chain == head_of n more) ≡ b
-        same_bit b e = ap (λ w. w == head_of n more) (sym codes.head_is) ∙ e
+        same_bit b e = ap (λ w. w == head_of n more) (sym codes.head.word) ∙ e
 
         empty : (m.hand ≡ None) × (m.spare ≡ None)
         empty = none_held g who (Local.Chain (chain.Taking (head_of n more) name)) (Op.Exchange Word.Head (head_of n more) after) xs m none lent held
 
         lost : (word_of bs 1 HEAD == head_of n more) ≡ false → BlockStep te he g who bs m here
-        lost e = step_none te he g who bs m here 1 codes.head (λ z. refl) tt found bs (rw e (word_same bs 1 HEAD)) g.chain (rw (same_bit false e) refl) (chain_head_found (word_of bs 1 HEAD)) (rw e refl)
+        lost e = step_none te he g who bs m here 1 codes.head.lives (λ z. refl) tt found bs (rw e (word_same bs 1 HEAD)) g.chain (rw (same_bit false e) refl) (chain_head_found (word_of bs 1 HEAD)) (rw e refl)
             codes none (head_spare (word_of bs 1 HEAD)) empty
 
         won : (word_of bs 1 HEAD == head_of n more) ≡ true → word_of bs 1 HEAD ≡ head_of n more → (p : Passer) → Passes_on who n p → if_taken g.chain who n more new ≡ taken g.chain who p new
             → (l : Local ℕ) (t : Touch) (o : Op ℕ) → chain_next (chain.Taking (head_of n more) name) (Answer.Found (word_of bs 1 HEAD)) ≡ Next.Step l t o → has_slot l ≡ false → spare_in l ≡ None
             → BlockStep te he g who bs m here
         won b e p moves taken_is l t o goes slot spare =
-            step_by te he g who bs m here 1 codes.head (λ z. refl) tt found (with_word bs 1 HEAD after) (rw b refl) (taken g.chain who p new) taken_is (Next.Step l t o) goes
+            step_by te he g who bs m here 1 codes.head.lives (λ z. refl) tt found (with_word bs 1 HEAD after) (rw b refl) (taken g.chain who p new) taken_is (Next.Step l t o) goes
             (put g.out g.chain.head false) [] tt (subst (λ w. Codes te he (taken_out p new) (with_word bs 1 HEAD w)) word_at (codes_taken bs p new free (subst (λ i. Passes_on who i p) (sym at) moves) codes))
             (λ j ne i z. put_other g.out g.chain.head i false (λ same. absurd (let y : Unread ≡ Reading j = sym free ∙ (ap g.chain.readers (sym same) ∙ z) in cc)))
             (λ i z. taken_away none p new i z ∙ sym slot) [] (inl (refl, taken_none none p new)) (none_holds (Next.Step l t o) None m spare empty.0 empty.1)
           where
             at : g.chain.head ≡ n
-            at = (same_head g.chain n more ok is (sym codes.head_is ∙ e)).1
+            at = (same_head g.chain n more ok is (sym codes.head.word ∙ e)).1
 
             free : g.chain.readers g.chain.head ≡ Unread
             free = (front_is g.chain ok (omega (arith, at, there))).0

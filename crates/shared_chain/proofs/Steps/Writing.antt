@@ -1,27 +1,21 @@
 -- The write of an item: its slot goes back full.
-use Rattle.std.proofs.Common.{ℕ, zero, suc, ◌+◌, ◌/◌, ◌%◌, ◌<◌, ◌≡◌, ◌≢◌, ◌==◌, ◌∙◌, not, Bool, true, false, Option, Some, None, List, [], replicate, length, refl, sym, ap, subst, arith, bit_or, get_or}
-use Rattle.std.proofs.lemmas.Nat.{and_or_self}
+use Rattle.std.proofs.Common.{ℕ, ◌+◌, ◌/◌, ◌%◌, ◌<◌, ◌≡◌, ◌≢◌, ◌∙◌, Bool, true, false, Option, Some, None, List, [], length, refl, sym, ap, subst, arith, bit_or, get_or}
 use mathlib.Core.Option.{some}
 use denote.RawPtr.{Ptr}
 use Rattle.queue_laws.specs.{Common.Puts.put, Chain.ChainTransitions.written, Chain.ChainFacts.open_tail_of, Chain.ChainFacts.Claimed, Chain.ChainFacts.HasSpare, Chain.ChainAt.Only, Chain.ChainAt.writing, Chain.ChainAnswers.IsState, Chain.ChainAnswers.is_wrote}
-use Rattle.queue_laws.proofs.{Common.Puts.put_same, Common.Puts.put_other, Chain.ChainReads.own_item, Chain.ChainHolds.after_write}
-use Rattle.queue_laws.specs.Common.Vocabulary.{Word, Op, Touch, Local, Next, PushKind, BLOCK_SLOTS, WRITE, READ, DESTROY}
+use Rattle.queue_laws.proofs.{Common.Puts.put_same, Common.Puts.put_other, Chain.ChainReads.own_item, Chain.ChainHolds.after_write, Chain.ChainStates.unread_item, Chain.ChainStates.state_written}
+use Rattle.queue_laws.specs.Common.Vocabulary.{Word, Op, Touch, Local, Next, PushKind, BLOCK_SLOTS, WRITE}
 use Rattle.queue_steps.specs.{State.State, RingNext.pushed_reply, ChainWords.offset_of, declared.steps.chain.ChainLocal.ChainLocal as chain}
-use Rattle.queue_laws.specs.Chain.ChainCells.{Writing, Wrote, Reader, Unread, Reading, Done, GivenUp, ChainOk, ItemOk, Write, HoldsOnly, Nothing, item_at}
-use Rattle.mem_blocks.specs.Web.{Block, Sitter, gives, block, Lives, word_of, with_word, with_home, vacant, full, AllVacant, sitter_acted}
+use Rattle.queue_laws.specs.Chain.ChainCells.{Writing, Wrote, Reader, Unread, Reading, Done, GivenUp, ChainOk, Write, HoldsOnly, Nothing, item_at}
+use Rattle.mem_blocks.specs.Web.{Block, Sitter, gives, block, Lives, word_of, with_word, with_home, full, sitter_acted}
 use Rattle.shared_parties.specs.{declared.known.CallState.CallState, Calling.touched_list}
 use Rattle.shared_chain.specs.{Spots.spot, ChainCalls.OutChain, Rule.home_of, Rule.plain_state, Rule.BlockIs, Rule.Codes, Steps.BlockStep, Steps.HoldsBy, Steps.HoldsFor, Steps.fresh_at, Steps.carried_by}
-use Rattle.shared_chain.proofs.Frames.{Blocks.alive_is, States.still_tested, States.state_is, States.Leaves, States.acts_first, States.or_step, States.none_out, States.idles}
+use Rattle.shared_chain.proofs.Frames.{Blocks.alive_is, Slots.all_vacant, States.state_is, States.Leaves, States.acts_first, States.or_step, States.none_out, States.idles}
 use Rattle.shared_chain.proofs.Frames.Homes.{SlotTurns, turns_both, turns_word, turns_home, codes_turned, not_given, home_set, word_set, word_kept}
 
 -- the reader of an item has its slot only once it is written
 abbrev pub OutWrote : {A : Type 0} → OutChain A → Type 0
 OutWrote {A} g = (j n : ℕ) → g.chain.readers n ≡ Reading j → g.out n ≡ true → (v : A) × (g.chain.writers n ≡ Wrote v)
-
--- an item that is still to be written is not read
-writing_unread : {A : Type 0} (head tail : ℕ) (items : List A) (n who : ℕ) (v : A) (r : Reader) → ItemOk head tail items n (Writing who v) r → r ≢ Done
-writing_unread head tail items n who v Done ok e = absurd ok
-writing_unread head tail items n who v r ok e = cc
 
 -- once it is written its slot is full, and its state says so
 home_written : {A : Type 0} (v : A) (r : Reader) (b : Bool) → r ≢ Done → ((j : ℕ) → r ≡ Reading j → b ≡ false) → home_of (Wrote v) r b ≡ full v
@@ -33,15 +27,11 @@ plain_written : {A : Type 0} (v : A) (r : Reader) → r ≢ Done → plain_state
 plain_written v Done ne = absurd (ne refl)
 plain_written v r ne = refl
 
-vacant_rows : (A : Type 0) (n : ℕ) → AllVacant (replicate n (vacant {S = A}))
-vacant_rows A zero = tt
-vacant_rows A (suc n) = (refl, vacant_rows A n)
-
 module _ {A : Type 0} (te he : Ptr) where
   -- the reply gives up the spare that the seat carries
   gives_spare : (m : Sitter A (CallState A)) (d : PushKind) (spare : Option ℕ) → m.hand ≡ None → m.spare ≡ carried_by spare → HoldsFor [] (Next.Reply (pushed_reply d) spare) m
   gives_spare m d None empty is = (empty, is)
-  gives_spare m d (Some f) empty is = (empty, (fresh_at (spot f), is, refl, refl, refl, vacant_rows A BLOCK_SLOTS))
+  gives_spare m d (Some f) empty is = (empty, (fresh_at (spot f), is, refl, refl, refl, all_vacant A BLOCK_SLOTS))
 
   -- U9: the item is written, at the slot i of the block b
   write_left : (g : OutChain A) (who : ℕ) (bs : List (Block A)) (m : Sitter A (CallState A)) (d : PushKind) (x : A) (n b i name : ℕ) (spare : Option ℕ)
@@ -76,7 +66,7 @@ module _ {A : Type 0} (te he : Ptr) where
       mine_here = ap g.chain.writers at ∙ mine
 
       unread : g.chain.readers (item_at b i) ≢ Done
-      unread = writing_unread g.chain.head g.chain.tail g.chain.items (item_at b i) who x (g.chain.readers (item_at b i)) (subst (λ k. ItemOk g.chain.head g.chain.tail g.chain.items (item_at b i) k (g.chain.readers (item_at b i))) mine_here (ok.item (item_at b i)))
+      unread = unread_item g.chain (item_at b i) who x ok mine_here
 
       not_out : (j : ℕ) → g.chain.readers (item_at b i) ≡ Reading j → g.out (item_at b i) ≡ false
       not_out j reads = go (g.out (item_at b i)) refl
@@ -118,11 +108,7 @@ module _ {A : Type 0} (te he : Ptr) where
           (record { begun = λ e. e; waits = λ j ne. refl })
           (turns_both (b + 2) i bs cs ds t (turns_home (b + 2) i (full x) cs long_too))
           (record {
-            state = λ last. subst (λ k. IsState r.chain b i k) (sym set) (record {
-              written = ap (λ z. z == 0) (and_or_self WRITE w) ∙ sym (ap (λ k. not (is_wrote k)) wrote);
-              read = still_tested READ w WRITE refl ∙ here.read;
-              destroyed = λ z. still_tested DESTROY w WRITE refl ∙ here.destroyed z;
-            });
+            state = λ last. subst (λ k. IsState r.chain b i k) (sym set) (state_written g.chain r.chain b i w (ap (λ k. is_wrote k) wrote) refl refl here);
             plain = λ before. set ∙ ap (λ k. bit_or k WRITE) (there.1.plain before i low ∙ ap (λ k. plain_state k (g.chain.readers (item_at b i))) mine_here) ∙ sym (ap (λ k. plain_state k (g.chain.readers (item_at b i))) wrote ∙ plain_written x (g.chain.readers (item_at b i)) unread);
             slot = home_set cs (b + 2) i (full x) long_too (omega (arith, t.here.homes, there.1.homes, low))
                 ∙ ap (λ h. some h) (sym (ap (λ k. home_of k (g.chain.readers (item_at b i)) (g.out (item_at b i))) wrote ∙ home_written x (g.chain.readers (item_at b i)) (g.out (item_at b i)) unread not_out));

@@ -1,7 +1,7 @@
 -- The laws of `Site` for a queue in a table: where a call stands after a step is what the step told.
 use Rattle.std.proofs.Common.{◌≡◌, ℕ, suc, [], Option, Some, None, refl, ap, sym, ◌∙◌, subst, inl, inr}
 use Rattle.atomic_table.specs.Seated.{TableId}
-use Rattle.queue_laws.specs.Common.{Vocabulary.Call, Vocabulary.Op, Vocabulary.Touch, Vocabulary.Answer, Vocabulary.Local, Vocabulary.Next, Vocabulary.SOLO_STEPS, Effects.Touches, Operations.answer_for}
+use Rattle.queue_laws.specs.Common.{Vocabulary.Call, Vocabulary.Op, Vocabulary.Touch, Vocabulary.Answer, Vocabulary.Local, Vocabulary.Next, Vocabulary.STEPS_ALONE, Effects.Touches, Operations.answer_for}
 use Rattle.queue_steps.specs.{Effect.after, Kinds.call_kind, Kinds.call_value, Kinds.with_value, Next.CanNext, Next.next_of, Next.first_local, Parties.View, Parties.SharedCall}
 use Rattle.queue_laws.proofs.Common.Runs.{cap_after}
 use Rattle.shared_parties.specs.{declared.known.CallState.CallState, declared.known.InCall.InCall, declared.known.Work.Work as work, Known.party, CallStates.idle, Calling.cap_of, Calling.handed_by, Calling.first_of, Calling.Opens, CallsAt.begun_at, Called.call_of_work}
@@ -152,5 +152,5 @@ module _ {T M S : Type 0} (K : ℕ → TableOf T) (table : M → TableId) (seat 
   site_goes_on n m first c l a s x h = through n m first s c l a x (table_goes_on T K (table m) n (seat first) c l a (seat s) x h)
 
   pub site_begins : (words : M → ℕ) → ((m : M) → TableLaws (K (table m).slots) (words m)) → (m : M) (s : S) (c : Call T) → IsAt (cap_of (K (table m).slots).calls) (table m) (seat s)
-      → (n : ℕ) → suc n ≡ SOLO_STEPS → SiteGoesOn n m s c (first_local (call_kind c)) Answer.Start s (call_value c)
+      → (n : ℕ) → suc n ≡ STEPS_ALONE → SiteGoesOn n m s c (first_local (call_kind c)) Answer.Start s (call_value c)
   site_begins words laws m s c rests n all = through n m s s c (first_local (call_kind c)) Answer.Start (call_value c) (table_begins T K (table m) n (words m) (laws m) (seat s) c rests)

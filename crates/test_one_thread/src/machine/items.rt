@@ -6,7 +6,7 @@ use crate::machine::events::add;
 use machine_replay::replay;
 use machine_replay::types::Event;
 use queue_steps::model::Call;
-use queue_steps::sizes::SOLO_STEPS;
+use queue_steps::sizes::STEPS_ALONE;
 use queue_steps::steps::Kind;
 use std::alloc::Global;
 use std::process::Abort;
@@ -27,7 +27,7 @@ fn events_of<'a>(
             &mut events,
             0,
             Call::Push(Counted::of(items)),
-            SOLO_STEPS,
+            STEPS_ALONE,
         );
     }
     add(

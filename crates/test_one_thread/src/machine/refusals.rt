@@ -6,7 +6,7 @@ use crate::machine::events::add;
 use machine_replay::replay;
 use machine_replay::types::Event;
 use queue_steps::model::Call;
-use queue_steps::sizes::{MAX_CAPACITY, SOLO_STEPS};
+use queue_steps::sizes::{MAX_CAPACITY, STEPS_ALONE};
 use queue_steps::steps::Kind;
 use std::alloc::Global;
 use std::process::Abort;
@@ -79,7 +79,7 @@ fn each_request_for_room_refused(rt: HostRuntime) {
 fn each_block_refused(rt: HostRuntime) {
     let mut pushes = Vec::new(rt.alloc());
     for item in 0..80u64 {
-        add(&rt, &mut pushes, 0, Call::Push(item), SOLO_STEPS);
+        add(&rt, &mut pushes, 0, Call::Push(item), STEPS_ALONE);
     }
     for number in [8, 9u64] {
         is_refused(

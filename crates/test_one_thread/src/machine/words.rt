@@ -4,7 +4,7 @@ use crate::machine::events::{add, add_steps};
 use machine_replay::types::Event;
 use machine_replay::words::{QueueWords, words_after};
 use queue_steps::model::Call;
-use queue_steps::sizes::SOLO_STEPS;
+use queue_steps::sizes::STEPS_ALONE;
 use queue_steps::steps::Kind;
 use std::process::Abort;
 
@@ -25,16 +25,16 @@ fn has_words<R: Abort + AllocGlobal>(rt: &R, events: &[Event<u64>], words: [u64;
 #[test]
 fn words_within_a_displacement(rt: HostRuntime) {
     let mut events = Vec::new(rt.alloc());
-    add(&rt, &mut events, 0, Call::Push(1), SOLO_STEPS);
-    add(&rt, &mut events, 0, Call::Push(2), SOLO_STEPS);
+    add(&rt, &mut events, 0, Call::Push(1), STEPS_ALONE);
+    add(&rt, &mut events, 0, Call::Push(2), STEPS_ALONE);
     has_words(&rt, &events, [4, 0, 1, 2]);
     add(&rt, &mut events, 0, Call::ForcePush(3), 3);
     has_words(&rt, &events, [4, 1, 1, 2]);
-    add(&rt, &mut events, 1, Call::Close, SOLO_STEPS);
+    add(&rt, &mut events, 1, Call::Close, STEPS_ALONE);
     has_words(&rt, &events, [5, 1, 1, 2]);
-    add(&rt, &mut events, 1, Call::Pop, SOLO_STEPS);
+    add(&rt, &mut events, 1, Call::Pop, STEPS_ALONE);
     has_words(&rt, &events, [5, 2, 1, 3]);
-    add(&rt, &mut events, 1, Call::Pop, SOLO_STEPS);
-    add_steps(&rt, &mut events, 0, SOLO_STEPS);
+    add(&rt, &mut events, 1, Call::Pop, STEPS_ALONE);
+    add_steps(&rt, &mut events, 0, STEPS_ALONE);
     has_words(&rt, &events, [7, 2, 3, 3]);
 }

@@ -16,10 +16,10 @@ returns g c =
       tails = tails;
       counted = length-map all listed_tail ∙ sym size;
       total = list.schedules;
-      lone = list.lone;
+      alone = list.alone;
       text_is = c.in_ok-write_last.ensures
-          ∙ ap (λ l. l ++ last_text c.len.result list.schedules list.lone n) (c.in_ok-write_lines.ensures ∙ ap (λ l. l ++ outcome_lines 1 (map bytes_of c.deref.result.now) (map tail_line (map listed_tail c.deref.result.now))) c.new-text.ensures.bytes
+          ∙ ap (λ l. l ++ last_text c.len.result list.schedules list.alone n) (c.in_ok-write_lines.ensures ∙ ap (λ l. l ++ outcome_lines 1 (map bytes_of c.deref.result.now) (map tail_line (map listed_tail c.deref.result.now))) c.new-text.ensures.bytes
           ∙ ap (λ l. outcome_lines 1 (map bytes_of l) (map tail_line (map listed_tail l))) c.deref.ensures.value)
-          ∙ ap (λ k. lines ++ last_text k list.schedules list.lone n) (c.len.ensures ∙ list.outcomes.ok.0 ∙ sym size)
-          ∙ ap (λ k. lines ++ last_text (length texts) list.schedules list.lone k) (c.count_without_order.ensures ∙ ap (λ l. without_order (map listed_tail l)) c.deref-2.ensures.value);
+          ∙ ap (λ k. lines ++ last_text k list.schedules list.alone n) (c.len.ensures ∙ list.outcomes.ok.0 ∙ sym size)
+          ∙ ap (λ k. lines ++ last_text (length texts) list.schedules list.alone k) (c.count_without_order.ensures ∙ ap (λ l. without_order (map listed_tail l)) c.deref-2.ensures.value);
     }

@@ -1,5 +1,5 @@
 use Rattle.std.proofs.Common.{◌-◌, None}
-use Rattle.queue_steps.specs.{LookNext.IsLookNext, Next.CanNext, Next.next_of, declared.sizes.TheConstants.SOLO_STEPS}
+use Rattle.queue_steps.specs.{LookNext.IsLookNext, Next.CanNext, Next.next_of, declared.sizes.TheConstants.STEPS_ALONE}
 use Rattle.call_driver.{specs.EndsIn.EndsIn, specs.EndsIn.Answered, proofs.Watching.as_call}
 use Rattle.call_driver.proofs.own.observe.Given as goal
 
@@ -9,6 +9,6 @@ invariant-loop g l =
     let m = g.C.OwnCells in
     let todo = next_of l.kind l.local l.answer in
     CanNext l.kind l.local l.answer
-    × EndsIn m.can_touch m.touches m.can_perform m.performs (SOLO_STEPS - l.counter) l.kind todo l.cells None
+    × EndsIn m.can_touch m.touches m.can_perform m.performs (STEPS_ALONE - l.counter) l.kind todo l.cells None
     (Answered m.can_release m.releases m.idle m.owned (as_call l.fn.call) l.cells)
     × IsLookNext todo

@@ -12,6 +12,6 @@ is_small_spec 𝓤 𝓛 𝓜 𝓡 wired S L =
     proved 𝓛 goal tt c 𝓜 𝓡 tt (#self at_types) mir (code.unfolded 𝓤 H 𝓜 𝓡 wired (S, tt)) (λ κs. tt) (λ κs. tt) (λ κs qs bounds a ghost are.
     let y : (walk_of 𝓛 goal tt c).Ghost = ((κs, qs, bounds, a, tt), ghost) in let Post : Val → SProp 𝓤 = (walk_of 𝓛 goal tt c).post y in
     qed 𝓛 ((raw (alive 𝓛 goal.signature κs qs) ⊛ ‵ ftrue) ∷ raw ((c κs a).requires ghost) ∷ []) ∵ split ! $ keep ! (0 ∷ []) $ enter ! 𝓣.C 𝓣.Λ mir [] Post $ alloc_all ! (λ l. pass_all ! refl tt $
-    let n : ℕ = size (layout S) in let r : Bool = ltb (capped n) 2147483648 in let Told : Type 0 = r ≡ true → Small R in sets ! (bin ! (size_word !) (record { go = λ Kt h. via 𝓤 _ h (guard_i 𝓤 _ (Kt (vint w64 2147483648)) (record { fits = lit< tt })) }) tt) refl (tt, tt) $
-    tells ! Told (λ e. let low : capped n < 2147483648 = ltb-true _ _ e in let fits : n < 2 ^ 63 = capped_small n (omega arith) in let same : capped n ≡ n = capped_is n (omega arith) in omega arith) $ feq_i ! (List Val) (vbool r ∷ []) (vbool r ∷ []) refl $ nothing ! $
+    let n : ℕ = size (layout S) in let r : Bool = ltb (capped n) 2147483648 in let Ensured : Type 0 = r ≡ true → Small R in sets ! (bin ! (size_word !) (record { go = λ Kt h. via 𝓤 _ h (guard_i 𝓤 _ (Kt (vint w64 2147483648)) (record { fits = lit< tt })) }) tt) refl (tt, tt) $
+    tells ! Ensured (λ e. let low : capped n < 2147483648 = ltb-true _ _ e in let fits : n < 2 ^ 63 = capped_small n (omega arith) in let same : capped n ≡ n = capped_is n (omega arith) in omega arith) $ feq_i ! (List Val) (vbool r ∷ []) (vbool r ∷ []) refl $ nothing ! $
     returns ! (look_at ! 0 refl) $ free_all ! refl $ keep ! (3 ∷ 0 ∷ 1 ∷ 2 ∷ []) $ by ! (leaves 𝓛 goal tt c y (vbool r) r tt tt)))

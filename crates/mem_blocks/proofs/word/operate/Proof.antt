@@ -3,10 +3,10 @@ use Rattle.mem_blocks.proofs.Walks.{ℕ, ◌^◌, ◌<◌, List, [], ◌∷◌, 
 use Rattle.mem_blocks.proofs.Walks.{blocks, exec, Calls-last, returns, enter, alloc_all, pass_all, free_all, look_at, get, get_tag, sets, sets_last, lands_last, env, vrt, agg, all_of_it, switches_on, tables, fact, yes, owns, types_at, plain, Ptr, RawPtr, ptr_val, rawptr_vals, rawptr_Tells, bounded}
 use Rattle.mem_blocks.proofs.Walks.{u64, uint_vals, uint_Tells, alive, Stays, stay_dropped, walk_of, Goes-dropped, proved, leaves, fm, seq_cst, found, stored, finds, has_stored, loads, stores, adds, subs, ors, exchanges, asks, always, head, after, arm_body, ptr_good, numbers, spends}
 use types.Kit.{Sq, prop}
-use Rattle.mem_blocks.specs.{Words.becomes, Words.told, declared.operation.Operation.Operation, contracts.word.operate.ended, contracts.word.operate.clauses, contracts.word.operate.Key.name as #self}
+use Rattle.mem_blocks.specs.{Words.becomes, Words.answered, declared.operation.Operation.Operation, contracts.word.operate.ended, contracts.word.operate.clauses, contracts.word.operate.Key.name as #self}
 use Rattle.mem_blocks.specs.declared.operation.Operation.TheVariants as does
 use Rattle.mem_blocks.specs.contracts.operation.Operation as operation
-use Rattle.mem_blocks.proofs.{Operations.operation_val, Operations.operation_told, Operations.operation_good, word.operate.Statement.statement}
+use Rattle.mem_blocks.proofs.{Operations.operation_val, Operations.operation_values, Operations.operation_good, word.operate.Statement.statement}
 use Rattle.mem_blocks.proofs.word.operate.Code as code
 
 pub operate_spec : {M : Type 1} → statement M
@@ -19,9 +19,9 @@ operate_spec 𝓤 𝓛 𝓜 𝓡 wired O _ g d _ =
     )
     (#self (bounded (a_type ∷ []) (O, tt) (dcons d dnil))) mir
     (code.unfolded 𝓤 H 𝓜 𝓡 wired (O, tt) d) (λ κs. (rawptr_vals, ((λ x. operation_val x ∷ []), (uint_vals w64, (uint_vals w64, tt)))))
-    (λ κs. (rawptr_Tells, (operation_told, (uint_Tells w64, (uint_Tells w64, tt))))) (λ κs qs bounds a ghost are.
+    (λ κs. (rawptr_Tells, (operation_values, (uint_Tells w64, (uint_Tells w64, tt))))) (λ κs qs bounds a ghost are.
     let p : Ptr = a.0 in let x : ℕ = a.1.1.0 in let z : ℕ = a.1.1.1.0 in let W = walk_of 𝓛 goal kept_of c in let y : Operation → W.Ghost = λ op. ((κs, qs, bounds, (p, (op, (x, (z, tt)))), (ptr_val p ∷ [], (operation_val op ∷ [], (vint w64 x ∷ [], (vint w64 z ∷ [], tt))))), ghost) in
-    let us : Operation → List Val = λ op. ptr_val p ∷ operation_val op ∷ vint w64 x ∷ vint w64 z ∷ [] in let Post : Operation → Val → SProp 𝓤 = λ op. W.post (y op) in let out : Operation → ℕ → Fml = λ op n. g.after (told op x n) in let tokens : SProp 𝓤 = alive 𝓛 goal.signature κs qs in
+    let us : Operation → List Val = λ op. ptr_val p ∷ operation_val op ∷ vint w64 x ∷ vint w64 z ∷ [] in let Post : Operation → Val → SProp 𝓤 = λ op. W.post (y op) in let out : Operation → ℕ → Fml = λ op n. g.after (answered op x n) in let tokens : SProp 𝓤 = alive 𝓛 goal.signature κs qs in
     let Pre : Operation → SProp 𝓤 = λ op. W.pre (y op) in let args : Operation → Fml = λ op. owns (types_at goal.signature.params κs) (p, (op, (x, (z, tt)))) (y op).0.4 in
     let ends : (op : Operation) (n : ℕ) → n < 2 ^ 64 → Sq 𝓛 (‵ (g.after n) ∷ raw tokens ∷ []) (prop (Post op (vint w64 n))) = λ op n fits.
     numbers ! n fits $ spends ! 4 $ keep ! (3 ∷ 0 ∷ 1 ∷ 2 ∷ []) $ by ! (leaves 𝓛 goal kept_of c (y op) (vint w64 n) n (tt, (tt, (tt, (tt, tt)))) (tt, (tt, (tt, (tt, tt))))) in elim a.1.0 as (λ (op : Operation). ent 𝓤 (Pre op) (WpFn 𝓤 H 𝓣.C 𝓣.Λ mir (us op) (Post op))) [

@@ -1,7 +1,7 @@
 -- Every call on a chain of blocks ends with its reply.
 use Rattle.std.specs.Prelude.{◌==◌}
 use Rattle.std.proofs.Common.{◌≡◌, ℕ, ◌-◌, ◌%◌, ◌<◌, Bool, true, false, List, [], ◌∷◌, length, Option, None, refl, arith, ap}
-use Rattle.queue_steps.specs.declared.{sizes.TheConstants.BLOCK_SLOTS, sizes.TheConstants.SOLO_STEPS, model.Call.Call, model.Call.Call as call, model.Reply.Reply as reply}
+use Rattle.queue_steps.specs.declared.{sizes.TheConstants.BLOCK_SLOTS, sizes.TheConstants.STEPS_ALONE, model.Call.Call, model.Call.Call as call, model.Reply.Reply as reply}
 use Rattle.queue_steps.specs.declared.steps.{types.Answer.Answer as answer, types.Op.Op, types.Op.Op as op, types.Word.Word as word, types.Touch.Touch as touch, ring.TheConstants.MARK, ring.PushKind.PushKind as push_kind, chain.ChainLocal.ChainLocal as chain, looks.Look.Look}
 use Rattle.queue_steps.specs.{Looks.call_of_look, Looks.reply_of_look, Replies.is_empty, Words.position_of, Words.is_shut, ChainNext.loads, ChainNext.ends, ChainWords.offset_at, ChainWords.over_end}
 use Rattle.queue_steps.proofs.LookLaws.{reply_filled, reply_table}
@@ -13,7 +13,7 @@ use Rattle.own_cells.specs.OneChain.Laws.OwnChainLeaves.{marked, idle-marked, qu
 close-answers : {T : Type 0} (r : OwnChain T) → IsIdle r → OwnChainAnswers r call.Close
 close-answers {T} r i = (
   tt,
-  bare_step (SOLO_STEPS - 1) chain.Closing (op.Or word.Tail MARK) r (marked r) None (answer.Found r.tail) (ends (reply.Close (r.tail % 2 == 0))) (EndsAnswered call.Close r) tt (λ x y e. e) refl tt refl (
+  bare_step (STEPS_ALONE - 1) chain.Closing (op.Or word.Tail MARK) r (marked r) None (answer.Found r.tail) (ends (reply.Close (r.tail % 2 == 0))) (EndsAnswered call.Close r) tt (λ x y e. e) refl tt refl (
     idle-marked r i,
     (reply.Close (r.tail % 2 == 0), refl, sequential r (marked r) call.Close (reply.Close (r.tail % 2 == 0)) (idle-marked r i) (ap reply.Close (is_even r.tail)) (queue-marked r) (λ x. refl)),
   ),
@@ -22,7 +22,7 @@ close-answers {T} r i = (
 is_closed-answers : {T : Type 0} (r : OwnChain T) → IsIdle r → OwnChainAnswers r call.IsClosed
 is_closed-answers r i = (
   tt,
-  bare_step (SOLO_STEPS - 1) chain.ClosedTail (op.Load word.Tail) r r None (answer.Found r.tail) (ends (reply.IsClosed (is_shut r.tail))) (EndsAnswered call.IsClosed r) tt (λ x y e. e) refl tt refl
+  bare_step (STEPS_ALONE - 1) chain.ClosedTail (op.Load word.Tail) r r None (answer.Found r.tail) (ends (reply.IsClosed (is_shut r.tail))) (EndsAnswered call.IsClosed r) tt (λ x y e. e) refl tt refl
       (i, (reply.IsClosed (is_shut r.tail), refl, sequential r r call.IsClosed (reply.IsClosed (is_shut r.tail)) i refl refl (λ x. refl))),
 )
 
@@ -33,8 +33,8 @@ met r = over_end (position_of r.tail) == over_end (position_of r.head)
 is_empty-answers : {T : Type 0} (r : OwnChain T) → IsIdle r → OwnChainAnswers r call.IsEmpty
 is_empty-answers {T} r i = (
   tt,
-  bare_step (SOLO_STEPS - 1) chain.EmptyHead (op.Load word.Head) r r None (answer.Found r.head) (loads (chain.EmptyTail r.head) word.Tail) (EndsAnswered call.IsEmpty r) tt (λ x y e. e) refl tt refl
-      (bare_step (SOLO_STEPS - 2) (chain.EmptyTail r.head) (op.Load word.Tail) r r None (answer.Found r.tail) (ends (reply.IsEmpty (met r))) (EndsAnswered call.IsEmpty r) tt (λ x y e. e) refl (head-word r i, tail-word r i) refl
+  bare_step (STEPS_ALONE - 1) chain.EmptyHead (op.Load word.Head) r r None (answer.Found r.head) (loads (chain.EmptyTail r.head) word.Tail) (EndsAnswered call.IsEmpty r) tt (λ x y e. e) refl tt refl
+      (bare_step (STEPS_ALONE - 2) (chain.EmptyTail r.head) (op.Load word.Tail) r r None (answer.Found r.tail) (ends (reply.IsEmpty (met r))) (EndsAnswered call.IsEmpty r) tt (λ x y e. e) refl (head-word r i, tail-word r i) refl
       (i, (reply.IsEmpty (met r), refl, sequential r r call.IsEmpty (reply.IsEmpty (met r)) i (ap reply.IsEmpty (is (own_chain_queue r).items (length-items r i))) refl (λ x. refl)))),
 )
   where
@@ -49,14 +49,14 @@ is_empty-answers {T} r i = (
     is xs long = rw (unmoved (position_of r.tail) i.tail_rests, unmoved (position_of r.head) i.head_rests) (same xs long)
 
 -- a call that counts the items
-counted : {T : Type 0} (r : OwnChain T) (g : Look) → IsIdle r → OwnChainEnds SOLO_STEPS (loads (chain.CountTail g) word.Tail) r None (EndsAnswered (call_of_look g) r)
+counted : {T : Type 0} (r : OwnChain T) (g : Look) → IsIdle r → OwnChainEnds STEPS_ALONE (loads (chain.CountTail g) word.Tail) r None (EndsAnswered (call_of_look g) r)
 counted {T} r g i =
     let again : (r.tail == r.tail) ≡ true = same_nat r.tail in
     let many : ℕ = accepted r - taken r in
     let table = reply_table (own_chain_queue r) None many (is_shut r.tail) g refl (length-items r i) refl in
-    bare_step (SOLO_STEPS - 1) (chain.CountTail g) (op.Load word.Tail) r r None (answer.Found r.tail) (loads (chain.CountHead g r.tail) word.Head) (EndsAnswered (call_of_look g) r) tt (λ x y e. e) refl tt refl
-    (bare_step (SOLO_STEPS - 2) (chain.CountHead g r.tail) (op.Load word.Head) r r None (answer.Found r.head) (loads (chain.CountAgain g r.tail r.head) word.Tail) (EndsAnswered (call_of_look g) r) tt (λ x y e. e) refl tt refl
-    (bare_step (SOLO_STEPS - 3) (chain.CountAgain g r.tail r.head) (op.Load word.Tail) r r None (answer.Found r.tail) (ends (reply_of_look None many (is_shut r.tail) g)) (EndsAnswered (call_of_look g) r) tt (λ x y e. e) refl
+    bare_step (STEPS_ALONE - 1) (chain.CountTail g) (op.Load word.Tail) r r None (answer.Found r.tail) (loads (chain.CountHead g r.tail) word.Head) (EndsAnswered (call_of_look g) r) tt (λ x y e. e) refl tt refl
+    (bare_step (STEPS_ALONE - 2) (chain.CountHead g r.tail) (op.Load word.Head) r r None (answer.Found r.head) (loads (chain.CountAgain g r.tail r.head) word.Tail) (EndsAnswered (call_of_look g) r) tt (λ x y e. e) refl tt refl
+    (bare_step (STEPS_ALONE - 3) (chain.CountAgain g r.tail r.head) (op.Load word.Tail) r r None (answer.Found r.tail) (ends (reply_of_look None many (is_shut r.tail) g)) (EndsAnswered (call_of_look g) r) tt (λ x y e. e) refl
     (tail-word r i, head-word r i, λ e. i.order) (rw again refl)
     (i, (reply_of_look None many (is_shut r.tail) g, reply_filled T None many (is_shut r.tail) g, sequential r r (call_of_look g) (reply_of_look None many (is_shut r.tail) g) i table.0 table.1 (λ x. refl)))))
 

@@ -2,7 +2,7 @@
 use Rattle.std.specs.Prelude.{◌==◌, slice_set, bit_or, nat_lt, is_some, if◌then◌else◌}
 use Rattle.std.proofs.Common.{◌≡◌, ◌≢◌, ℕ, zero, suc, ◌+◌, ◌-◌, ◌*◌, ◌%◌, ◌<◌, Bool, true, false, Option, Some, None, Ok, Err, refl, arith, ap, ◌∙◌}
 use Rattle.std.proofs.lemmas.List.{get_or-set_same}
-use Rattle.queue_steps.specs.declared.{sizes.TheConstants.BLOCK_SLOTS, sizes.TheConstants.SOLO_STEPS, steps.types.Answer.Answer as answer, steps.types.Link.Link as link, steps.types.Next.Next, steps.types.Op.Op as op, steps.types.Word.Word as word, steps.types.Touch.Touch as touch}
+use Rattle.queue_steps.specs.declared.{sizes.TheConstants.BLOCK_SLOTS, sizes.TheConstants.STEPS_ALONE, steps.types.Answer.Answer as answer, steps.types.Link.Link as link, steps.types.Next.Next, steps.types.Op.Op as op, steps.types.Word.Word as word, steps.types.Touch.Touch as touch}
 use Rattle.queue_steps.specs.declared.{model.Reply.Reply as reply, errors.PopError.PopError as pop, steps.ring.TheConstants.TAIL_STEP, steps.chain.TheConstants.WRITE, steps.chain.TheConstants.READ, steps.chain.ChainLocal.ChainLocal as chain}
 use Rattle.queue_steps.specs.{Words.IsWord, Words.position_of, Words.is_shut, ChainWords.block_at, ChainWords.offset_of}
 use Rattle.queue_steps.specs.ChainNext.{at, loads, ends, is_last_slot, takes, follows, awaits, walks, walks_on}
@@ -12,27 +12,27 @@ use Rattle.own_cells.specs.OneChain.OwnChainCells.{Piece, OwnChain, state_in, it
 
 -- a pop that finds neither an item nor a head whose block is known not to be the last
 pub run-empty : {T : Type 0} (r : OwnChain T) (P : Ending T) → IsWord r.head → (offset_of r.head == BLOCK_SLOTS) ≡ false → (r.head % 2 == 1) ≡ false → r.head % 2 ≢ 1 → (position_of r.tail == position_of r.head) ≡ true
-    → P (reply.Pop (Err (if is_shut r.tail then pop.Closed else pop.Empty))) None None r → OwnChainEnds SOLO_STEPS (loads chain.PopHead word.Head) r None P
+    → P (reply.Pop (Err (if is_shut r.tail then pop.Closed else pop.Empty))) None None r → OwnChainEnds STEPS_ALONE (loads chain.PopHead word.Head) r None P
 run-empty r P small rests even odd met end =
-    bare_step (SOLO_STEPS - 1) chain.PopHead (op.Load word.Head) r r None (answer.Found r.head) (at (chain.PopBlock r.head) touch.Nothing (op.LoadLink link.HeadBlock)) P tt (λ x y e. e) refl tt (rw rests refl)
-    (bare_step (SOLO_STEPS - 2) (chain.PopBlock r.head) (op.LoadLink link.HeadBlock) r r None (answer.Linked r.head_block) (loads (chain.PopTail r.head r.head_block) word.Tail) P tt (λ x y e. e) refl (small, λ e. absurd (odd e)) (rw even refl)
-    (bare_step (SOLO_STEPS - 3) (chain.PopTail r.head r.head_block) (op.Load word.Tail) r r None (answer.Found r.tail) (ends (reply.Pop (Err (if is_shut r.tail then pop.Closed else pop.Empty)))) P tt (λ x y e. e) refl small (rw met refl) end))
+    bare_step (STEPS_ALONE - 1) chain.PopHead (op.Load word.Head) r r None (answer.Found r.head) (at (chain.PopBlock r.head) touch.Nothing (op.LoadLink link.HeadBlock)) P tt (λ x y e. e) refl tt (rw rests refl)
+    (bare_step (STEPS_ALONE - 2) (chain.PopBlock r.head) (op.LoadLink link.HeadBlock) r r None (answer.Linked r.head_block) (loads (chain.PopTail r.head r.head_block) word.Tail) P tt (λ x y e. e) refl (small, λ e. absurd (odd e)) (rw even refl)
+    (bare_step (STEPS_ALONE - 3) (chain.PopTail r.head r.head_block) (op.Load word.Tail) r r None (answer.Found r.tail) (ends (reply.Pop (Err (if is_shut r.tail then pop.Closed else pop.Empty)))) P tt (λ x y e. e) refl small (rw met refl) end))
 
 -- a pop that finds an item at a head whose block is known not to be the last
 pub run-known : {T : Type 0} (r : OwnChain T) (b : Name T) (P : Ending T) → IsWord r.head → (offset_of r.head == BLOCK_SLOTS) ≡ false → (r.head % 2 == 1) ≡ true → r.head_block ≡ Some b
-    → OwnChainEnds (SOLO_STEPS - 2) (takes r.head b (r.head + TAIL_STEP)) r None P → OwnChainEnds SOLO_STEPS (loads chain.PopHead word.Head) r None P
+    → OwnChainEnds (STEPS_ALONE - 2) (takes r.head b (r.head + TAIL_STEP)) r None P → OwnChainEnds STEPS_ALONE (loads chain.PopHead word.Head) r None P
 run-known {T} r b P small rests odd front more =
-    bare_step (SOLO_STEPS - 1) chain.PopHead (op.Load word.Head) r r None (answer.Found r.head) (at (chain.PopBlock r.head) touch.Nothing (op.LoadLink link.HeadBlock)) P tt (λ x y e. e) refl tt (rw rests refl)
-    (bare_step (SOLO_STEPS - 2) (chain.PopBlock r.head) (op.LoadLink link.HeadBlock) r r None (answer.Linked (Some b)) (takes r.head b (r.head + TAIL_STEP)) P tt (λ x y e. e) (rw front refl) (small, λ e. refl) (rw odd refl) more)
+    bare_step (STEPS_ALONE - 1) chain.PopHead (op.Load word.Head) r r None (answer.Found r.head) (at (chain.PopBlock r.head) touch.Nothing (op.LoadLink link.HeadBlock)) P tt (λ x y e. e) refl tt (rw rests refl)
+    (bare_step (STEPS_ALONE - 2) (chain.PopBlock r.head) (op.LoadLink link.HeadBlock) r r None (answer.Linked (Some b)) (takes r.head b (r.head + TAIL_STEP)) P tt (λ x y e. e) (rw front refl) (small, λ e. refl) (rw odd refl) more)
 
 -- a pop that finds an item, and by the tail whether there is another block
 pub run-tail : {T : Type 0} (r : OwnChain T) (b : Name T) (new : ℕ) (P : Ending T) → IsWord r.head → (offset_of r.head == BLOCK_SLOTS) ≡ false → (r.head % 2 == 1) ≡ false → r.head_block ≡ Some b
     → (position_of r.tail == position_of r.head) ≡ false → (if block_at (position_of r.tail) == block_at (position_of r.head) then r.head + TAIL_STEP else r.head + TAIL_STEP + 1) ≡ new
-    → OwnChainEnds (SOLO_STEPS - 3) (takes r.head b new) r None P → OwnChainEnds SOLO_STEPS (loads chain.PopHead word.Head) r None P
+    → OwnChainEnds (STEPS_ALONE - 3) (takes r.head b new) r None P → OwnChainEnds STEPS_ALONE (loads chain.PopHead word.Head) r None P
 run-tail {T} r b new P small rests even front apart is more =
-    bare_step (SOLO_STEPS - 1) chain.PopHead (op.Load word.Head) r r None (answer.Found r.head) (at (chain.PopBlock r.head) touch.Nothing (op.LoadLink link.HeadBlock)) P tt (λ x y e. e) refl tt (rw rests refl)
-    (bare_step (SOLO_STEPS - 2) (chain.PopBlock r.head) (op.LoadLink link.HeadBlock) r r None (answer.Linked (Some b)) (loads (chain.PopTail r.head (Some b)) word.Tail) P tt (λ x y e. e) (rw front refl) (small, λ e. refl) (rw even refl)
-    (bare_step (SOLO_STEPS - 3) (chain.PopTail r.head (Some b)) (op.Load word.Tail) r r None (answer.Found r.tail) (takes r.head b new) P tt (λ x y e. e) refl small (rw apart (moves (block_at (position_of r.tail) == block_at (position_of r.head)) is)) more))
+    bare_step (STEPS_ALONE - 1) chain.PopHead (op.Load word.Head) r r None (answer.Found r.head) (at (chain.PopBlock r.head) touch.Nothing (op.LoadLink link.HeadBlock)) P tt (λ x y e. e) refl tt (rw rests refl)
+    (bare_step (STEPS_ALONE - 2) (chain.PopBlock r.head) (op.LoadLink link.HeadBlock) r r None (answer.Linked (Some b)) (loads (chain.PopTail r.head (Some b)) word.Tail) P tt (λ x y e. e) (rw front refl) (small, λ e. refl) (rw even refl)
+    (bare_step (STEPS_ALONE - 3) (chain.PopTail r.head (Some b)) (op.Load word.Tail) r r None (answer.Found r.tail) (takes r.head b new) P tt (λ x y e. e) refl small (rw apart (moves (block_at (position_of r.tail) == block_at (position_of r.head)) is)) more))
   where
     moves : (same : Bool) → (if same then r.head + TAIL_STEP else r.head + TAIL_STEP + 1) ≡ new → ◌≡◌ {A = Next (Name T)} (if same then takes r.head b (r.head + TAIL_STEP) else takes r.head b (r.head + TAIL_STEP + 1)) (takes r.head b new)
     moves true e = ap (takes r.head b) e

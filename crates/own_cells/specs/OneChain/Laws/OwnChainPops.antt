@@ -2,7 +2,7 @@
 use Rattle.std.specs.Prelude.{◌==◌, slice_set, get_or, bit_or, is_some, IsSome, if◌then◌else◌}
 use Rattle.std.proofs.Common.{◌≡◌, ◌≢◌, ◌⊎◌, ℕ, suc, ◌+◌, ◌-◌, ◌*◌, ◌/◌, ◌%◌, ◌<◌, Bool, true, false, List, length, Option, Some, None, Ok, Err, refl, arith, sym, ap, ◌∙◌, subst, inl, inr}
 use Rattle.std.proofs.lemmas.List.{get_or-set_same, get_or-set_other, length-set}
-use Rattle.queue_steps.specs.declared.{sizes.TheConstants.BLOCK_SLOTS, sizes.TheConstants.SOLO_STEPS, model.Call.Call as call, model.Reply.Reply as reply, errors.PopError.PopError as pop}
+use Rattle.queue_steps.specs.declared.{sizes.TheConstants.BLOCK_SLOTS, sizes.TheConstants.STEPS_ALONE, model.Call.Call as call, model.Reply.Reply as reply, errors.PopError.PopError as pop}
 use Rattle.queue_steps.specs.declared.steps.{types.Word.Word as word, ring.TheConstants.TAIL_STEP, chain.TheConstants.WRITE, chain.TheConstants.READ, chain.ChainLocal.ChainLocal as chain}
 use Rattle.queue_steps.specs.{Effect.rest, Words.position_of, Words.is_shut, ChainNext.loads, ChainNext.takes, ChainWords.block_at, ChainWords.offset_of}
 use Rattle.own_cells.specs.{declared.chain.own_chain.Name.Name, OneChain.OwnChainOwned.taken, OneChain.OwnChainOwned.accepted, OneChain.OwnChainOwned.cell_of, OneChain.OwnChainOwned.own_chain_owned, OneChain.OwnChainOwned.IsBare, OneChain.OwnChainOwned.IsIdle}
@@ -177,7 +177,7 @@ module _ {T : Type 0} (r : OwnChain T) (i : IsIdle r) (l : Laid r) where
             let rests = i.head_rests in
             take-here (suc (suc (suc steps))) new inner (record { rests = omega arith; counted = omega arith; known = λ bit. let more = known bit in omega arith })
 
-    take-answers : OwnChainEnds SOLO_STEPS (loads chain.PopHead word.Head) r None (EndsAnswered call.Pop r)
+    take-answers : OwnChainEnds STEPS_ALONE (loads chain.PopHead word.Head) r None (EndsAnswered call.Pop r)
     take-answers = go (r.head % 2 == 1) (block_at (position_of r.tail) == block_at (position_of r.head)) refl refl
       where
         rests : (offset_of r.head == BLOCK_SLOTS) ≡ false
@@ -186,26 +186,26 @@ module _ {T : Type 0} (r : OwnChain T) (i : IsIdle r) (l : Laid r) where
         differ : (position_of r.tail == position_of r.head) ≡ false
         differ = apart_nat (position_of r.tail) (position_of r.head) (let h = i.head_rests in let t = i.tail_rests in omega arith)
 
-        go : (odd same : Bool) → (r.head % 2 == 1) ≡ odd → (block_at (position_of r.tail) == block_at (position_of r.head)) ≡ same → OwnChainEnds SOLO_STEPS (loads chain.PopHead word.Head) r None (EndsAnswered call.Pop r)
+        go : (odd same : Bool) → (r.head % 2 == 1) ≡ odd → (block_at (position_of r.tail) == block_at (position_of r.head)) ≡ same → OwnChainEnds STEPS_ALONE (loads chain.PopHead word.Head) r None (EndsAnswered call.Pop r)
         go true same e1 e2 =
             let bit = is_equal (r.head % 2) 1 e1 in
-            run-known r first_name (EndsAnswered call.Pop r) (head-word r i) rests e1 l.front (take-ends (SOLO_STEPS - 9) (r.head + TAIL_STEP) (omega arith) (omega arith) (λ e. i.known bit))
+            run-known r first_name (EndsAnswered call.Pop r) (head-word r i) rests e1 l.front (take-ends (STEPS_ALONE - 9) (r.head + TAIL_STEP) (omega arith) (omega arith) (λ e. i.known bit))
         go false true e1 e2 =
             let even = is_apart (r.head % 2) 1 e1 in
             run-tail r first_name (r.head + TAIL_STEP) (EndsAnswered call.Pop r) (head-word r i) rests e1 l.front differ (rw e2 refl)
-            (take-ends (SOLO_STEPS - 10) (r.head + TAIL_STEP) (omega arith) (omega arith) (λ e. absurd (even (omega arith))))
+            (take-ends (STEPS_ALONE - 10) (r.head + TAIL_STEP) (omega arith) (omega arith) (λ e. absurd (even (omega arith))))
         go false false e1 e2 =
             let even = is_apart (r.head % 2) 1 e1 in
             let other = is_apart (block_at (position_of r.tail)) (block_at (position_of r.head)) e2 in
             let h = i.head_rests in
             let t = i.tail_rests in
             run-tail r first_name (r.head + TAIL_STEP + 1) (EndsAnswered call.Pop r) (head-word r i) rests e1 l.front differ (rw e2 refl)
-            (take-ends (SOLO_STEPS - 10) (r.head + TAIL_STEP + 1) (omega arith) (omega arith) (λ e. omega arith))
+            (take-ends (STEPS_ALONE - 10) (r.head + TAIL_STEP + 1) (omega arith) (omega arith) (λ e. omega arith))
 
-pub pop-answers : {T : Type 0} (r : OwnChain T) → IsIdle r → OwnChainEnds SOLO_STEPS (loads chain.PopHead word.Head) r None (EndsAnswered call.Pop r)
+pub pop-answers : {T : Type 0} (r : OwnChain T) → IsIdle r → OwnChainEnds STEPS_ALONE (loads chain.PopHead word.Head) r None (EndsAnswered call.Pop r)
 pop-answers {T} r i = go (equal_or_above (taken r) (accepted r) i.order) i.blocks
   where
-    none-found : accepted r ≡ taken r → OwnChainEnds SOLO_STEPS (loads chain.PopHead word.Head) r None (EndsAnswered call.Pop r)
+    none-found : accepted r ≡ taken r → OwnChainEnds STEPS_ALONE (loads chain.PopHead word.Head) r None (EndsAnswered call.Pop r)
     none-found empty =
         let h = i.head_rests in
         let t = i.tail_rests in
@@ -215,7 +215,7 @@ pop-answers {T} r i = go (equal_or_above (taken r) (accepted r) i.order) i.block
         run-empty r (EndsAnswered call.Pop r) (head-word r i) (apart_nat (offset_of r.head) BLOCK_SLOTS (omega arith)) (apart_nat (r.head % 2) 1 odd) odd (equal_nat (position_of r.tail) (position_of r.head) (omega arith))
         (i, (reply.Pop (Err (if is_shut r.tail then pop.Closed else pop.Empty)), refl, sequential r r call.Pop (reply.Pop (Err (if is_shut r.tail then pop.Closed else pop.Empty))) i (rw none refl) (rw none refl) (λ x. refl)))
 
-    go : (accepted r ≡ taken r) ⊎ (taken r < accepted r) → IsBare r.first r.pieces r.head_block r.tail_block (accepted r) ⊎ Laid r → OwnChainEnds SOLO_STEPS (loads chain.PopHead word.Head) r None (EndsAnswered call.Pop r)
+    go : (accepted r ≡ taken r) ⊎ (taken r < accepted r) → IsBare r.first r.pieces r.head_block r.tail_block (accepted r) ⊎ Laid r → OwnChainEnds STEPS_ALONE (loads chain.PopHead word.Head) r None (EndsAnswered call.Pop r)
     go (inl empty) blocks = none-found empty
     go (inr some) (inl bare) = let unused = bare.unused in absurd (omega arith)
     go (inr some) (inr l) = take-answers r i l some

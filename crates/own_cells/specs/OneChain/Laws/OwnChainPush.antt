@@ -1,7 +1,7 @@
 -- How a push runs on a chain of blocks: its steps one after another, its reply, and what it leaves.
 use Rattle.std.specs.Prelude.{◌==◌}
 use Rattle.std.proofs.Common.{◌≡◌, ℕ, suc, ◌+◌, ◌-◌, ◌^◌, ◌<◌, true, false, length, Some, None, refl, arith}
-use Rattle.queue_steps.specs.declared.{sizes.TheConstants.LIMIT, sizes.TheConstants.BLOCK_SLOTS, sizes.TheConstants.SOLO_STEPS, steps.ring.TheConstants.MARK, steps.ring.TheConstants.TAIL_STEP, steps.ring.PushKind.PushKind, steps.chain.TheConstants.WRITE, steps.chain.ChainLocal.ChainLocal as chain}
+use Rattle.queue_steps.specs.declared.{sizes.TheConstants.LIMIT, sizes.TheConstants.BLOCK_SLOTS, sizes.TheConstants.STEPS_ALONE, steps.ring.TheConstants.MARK, steps.ring.TheConstants.TAIL_STEP, steps.ring.PushKind.PushKind, steps.chain.TheConstants.WRITE, steps.chain.ChainLocal.ChainLocal as chain}
 use Rattle.queue_steps.specs.declared.steps.types.{Answer.Answer as answer, Link.Link as link, Next.Next, Op.Op as op, Word.Word as word, Touch.Touch as touch}
 use Rattle.queue_steps.specs.{Words.IsWord, Words.position_of, Words.is_shut, ChainWords.offset_of, ChainWords.items_before, RingNext.closed_reply, RingNext.pushed_reply}
 use Rattle.queue_steps.specs.ChainNext.{at, loads, ends, is_last_slot, gives_up, tail_block_found, claims, asks, writes, lays}
@@ -12,24 +12,24 @@ use Rattle.own_cells.specs.OneChain.Laws.{OwnChainChains.laid_behind, OwnChainCh
 
 -- a push that finds a closed queue
 pub run-closed : {T : Type 0} (r : OwnChain T) (v : T) (p : PushKind) (P : Ending T) → IsWord r.tail → is_shut r.tail ≡ true
-    → P (closed_reply p) None (Some v) r → OwnChainEnds SOLO_STEPS (loads (chain.PushTail p None) word.Tail) r (Some v) P
+    → P (closed_reply p) None (Some v) r → OwnChainEnds STEPS_ALONE (loads (chain.PushTail p None) word.Tail) r (Some v) P
 run-closed r v p P small shut end =
-    bare_step (SOLO_STEPS - 1) (chain.PushTail p None) (op.Load word.Tail) r r (Some v) (answer.Found r.tail) (ends (closed_reply p)) P tt (λ x y e. e) refl small (rw shut refl) end
+    bare_step (STEPS_ALONE - 1) (chain.PushTail p None) (op.Load word.Tail) r r (Some v) (answer.Found r.tail) (ends (closed_reply p)) P tt (λ x y e. e) refl small (rw shut refl) end
 
 -- a push that finds a queue which has accepted all that it ever will
 pub run-spent : {T : Type 0} (r : OwnChain T) (v : T) (p : PushKind) (P : Ending T) → IsWord r.tail → is_shut r.tail ≡ false → (items_before (position_of r.tail) == LIMIT) ≡ true
-    → P (closed_reply p) None (Some v) (marked r) → OwnChainEnds SOLO_STEPS (loads (chain.PushTail p None) word.Tail) r (Some v) P
+    → P (closed_reply p) None (Some v) (marked r) → OwnChainEnds STEPS_ALONE (loads (chain.PushTail p None) word.Tail) r (Some v) P
 run-spent r v p P small unshut spent end =
-    bare_step (SOLO_STEPS - 1) (chain.PushTail p None) (op.Load word.Tail) r r (Some v) (answer.Found r.tail) (at (chain.ClosingAtLimit p None) touch.Nothing (op.Or word.Tail MARK)) P tt (λ x y e. e) refl small (rw (unshut, spent) refl)
-    (bare_step (SOLO_STEPS - 2) (chain.ClosingAtLimit p None) (op.Or word.Tail MARK) r (marked r) (Some v) (answer.Found r.tail) (ends (closed_reply p)) P tt (λ x y e. e) refl tt refl end)
+    bare_step (STEPS_ALONE - 1) (chain.PushTail p None) (op.Load word.Tail) r r (Some v) (answer.Found r.tail) (at (chain.ClosingAtLimit p None) touch.Nothing (op.Or word.Tail MARK)) P tt (λ x y e. e) refl small (rw (unshut, spent) refl)
+    (bare_step (STEPS_ALONE - 2) (chain.ClosingAtLimit p None) (op.Or word.Tail MARK) r (marked r) (Some v) (answer.Found r.tail) (ends (closed_reply p)) P tt (λ x y e. e) refl tt refl end)
 
 -- any other push reads the pushers' block
 pub run-block : {T : Type 0} (r : OwnChain T) (v : T) (p : PushKind) (todo : Next (Name T)) (P : Ending T) → IsWord r.tail → is_shut r.tail ≡ false → (items_before (position_of r.tail) == LIMIT) ≡ false
     → (offset_of r.tail == BLOCK_SLOTS) ≡ false → tail_block_found p r.tail r.tail_block None ≡ todo
-    → OwnChainEnds (SOLO_STEPS - 2) todo r (Some v) P → OwnChainEnds SOLO_STEPS (loads (chain.PushTail p None) word.Tail) r (Some v) P
+    → OwnChainEnds (STEPS_ALONE - 2) todo r (Some v) P → OwnChainEnds STEPS_ALONE (loads (chain.PushTail p None) word.Tail) r (Some v) P
 run-block {T} r v p todo P small unshut unspent rests found more =
-    bare_step (SOLO_STEPS - 1) (chain.PushTail p None) (op.Load word.Tail) r r (Some v) (answer.Found r.tail) (at (chain.PushBlock p r.tail None) touch.Nothing (op.LoadLink link.TailBlock)) P tt (λ x y e. e) refl small (rw (unshut, unspent, rests) refl)
-    (bare_step (SOLO_STEPS - 2) (chain.PushBlock p r.tail None) (op.LoadLink link.TailBlock) r r (Some v) (answer.Linked r.tail_block) todo P tt (λ x y e. e) refl (small, λ e. refl) found more)
+    bare_step (STEPS_ALONE - 1) (chain.PushTail p None) (op.Load word.Tail) r r (Some v) (answer.Found r.tail) (at (chain.PushBlock p r.tail None) touch.Nothing (op.LoadLink link.TailBlock)) P tt (λ x y e. e) refl small (rw (unshut, unspent, rests) refl)
+    (bare_step (STEPS_ALONE - 2) (chain.PushBlock p r.tail None) (op.LoadLink link.TailBlock) r r (Some v) (answer.Linked r.tail_block) todo P tt (λ x y e. e) refl (small, λ e. refl) found more)
 
 -- the slot of the claimed position is written
 run-write : {T : Type 0} (steps : ℕ) (r : OwnChain T) (b : Name T) (slot : ℕ) (v : T) (p : PushKind) (P : Ending T) → Named r b → slot < BLOCK_SLOTS → state_in (piece_of r b) slot ≡ 0 → item_in (piece_of r b) slot ≡ None

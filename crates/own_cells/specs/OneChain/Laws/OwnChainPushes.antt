@@ -1,7 +1,7 @@
 -- Every push on a chain of blocks ends with its reply.
 use Rattle.std.specs.Prelude.{◌==◌}
 use Rattle.std.proofs.Common.{◌≡◌, ◌⊎◌, ℕ, suc, ◌+◌, ◌-◌, ◌/◌, ◌%◌, ◌<◌, Bool, true, false, List, [], ◌∷◌, ◌++◌, length, Option, Some, None, refl, arith, sym, ap, ◌∙◌, subst, inl, inr}
-use Rattle.queue_steps.specs.declared.{sizes.TheConstants.LIMIT, sizes.TheConstants.BLOCK_SLOTS, sizes.TheConstants.SOLO_STEPS, steps.types.Word.Word as word, steps.ring.TheConstants.TAIL_STEP, steps.ring.PushKind.PushKind, steps.chain.TheConstants.WRITE, steps.chain.ChainLocal.ChainLocal as chain}
+use Rattle.queue_steps.specs.declared.{sizes.TheConstants.LIMIT, sizes.TheConstants.BLOCK_SLOTS, sizes.TheConstants.STEPS_ALONE, steps.types.Word.Word as word, steps.ring.TheConstants.TAIL_STEP, steps.ring.PushKind.PushKind, steps.chain.TheConstants.WRITE, steps.chain.ChainLocal.ChainLocal as chain}
 use Rattle.queue_steps.specs.{State.State, Words.is_shut, ChainWords.offset_of, RingNext.pushed_reply, ChainNext.loads, ChainNext.is_last_slot, ChainNext.claims, ChainNext.asks}
 use Rattle.own_cells.specs.{declared.chain.own_chain.Name.Name, OneChain.Laws.OwnChainRuns.Ending, OneChain.Laws.OwnChainRuns.OwnChainEnds, OneChain.Laws.OwnChainRuns.ask_step, OneChain.Laws.OwnChainRuns.set_cell, OneChain.Laws.OwnChainKeeps.cell_in}
 use Rattle.own_cells.specs.OneRing.Laws.Numbers.{equal_nat, apart_nat, is_below, last_or_not}
@@ -97,19 +97,19 @@ module _ {T : Type 0} (r : OwnChain T) (v : T) (p : PushKind) (i : IsIdle r) (un
   rests = apart_nat (offset_of r.tail) BLOCK_SLOTS (let t = i.tail_rests in omega arith)
 
   -- into a chain with blocks
-  into-laid : Laid r → (accepted r % BLOCK_SLOTS + 1 ≡ BLOCK_SLOTS) ⊎ (accepted r % BLOCK_SLOTS + 1 < BLOCK_SLOTS) → OwnChainEnds SOLO_STEPS (loads (chain.PushTail p None) word.Tail) r (Some v) (EndsAnswered (push_call p v) r)
+  into-laid : Laid r → (accepted r % BLOCK_SLOTS + 1 ≡ BLOCK_SLOTS) ⊎ (accepted r % BLOCK_SLOTS + 1 < BLOCK_SLOTS) → OwnChainEnds STEPS_ALONE (loads (chain.PushTail p None) word.Tail) r (Some v) (EndsAnswered (push_call p v) r)
   into-laid l (inl outer) =
       let offset = tail-offset r i in
       let last : is_last_slot r.tail ≡ true = equal_nat (offset_of r.tail + 1) BLOCK_SLOTS (omega arith) in
       let b : Name T = last_name r i l in
       run-block r v p (asks p r.tail (Some b)) (EndsAnswered (push_call p v) r) (tail-word r i) unshut unspent rests (rw (last-is r i l, last) refl)
-      (ask_step (SOLO_STEPS - 3) (chain.Asking p r.tail (Some b)) r (Some v) (EndsAnswered (push_call p v) r) i.no_spare tt (right-refused r v i p (refl, unshut, inr (omega arith)) (λ unused. absurd (omega arith)))
+      (ask_step (STEPS_ALONE - 3) (chain.Asking p r.tail (Some b)) r (Some v) (EndsAnswered (push_call p v) r) i.no_spare tt (right-refused r v i p (refl, unshut, inr (omega arith)) (λ unused. absurd (omega arith)))
       (λ f is.
       let ending : place_of r b + 1 ≡ length r.pieces = let place = last-place r i l in let count = l.count in let order = i.order in omega arith in
       let ps : List (Piece T) = chained (laid_behind r.pieces f) (place_of r b) f in
       let ready = ready-behind r (place_of r b) f i l outer ending is in (
         tail-word r i,
-        push-behind (SOLO_STEPS - 9) r f v p (EndsAnswered (push_call p v) r) i l outer is
+        push-behind (STEPS_ALONE - 9) r f v p (EndsAnswered (push_call p v) r) i l outer is
             (right-pushed r v i p (pushed r ps (Some f) (r.tail + TAIL_STEP + TAIL_STEP) None v) unshut unspent (idle-pushed r ps (Some f) (r.tail + TAIL_STEP + TAIL_STEP) None v i ready limit refl) ready.counted
             (queue-pushed r ps (Some f) (r.tail + TAIL_STEP + TAIL_STEP) None v i ready)),
       )))
@@ -119,17 +119,17 @@ module _ {T : Type 0} (r : OwnChain T) (v : T) (p : PushKind) (i : IsIdle r) (un
       let ready = ready-here r i l (λ e. omega arith) in
       let done : OwnChain T = pushed r r.pieces r.tail_block (r.tail + TAIL_STEP) r.spare v in
       run-block r v p (claims p r.tail (last_name r i l) None) (EndsAnswered (push_call p v) r) (tail-word r i) unshut unspent rests (rw (last-is r i l, other) refl)
-      (push-here (SOLO_STEPS - 5) r v p (EndsAnswered (push_call p v) r) i l inner
+      (push-here (STEPS_ALONE - 5) r v p (EndsAnswered (push_call p v) r) i l inner
       (right-pushed r v i p done unshut unspent (idle-pushed r r.pieces r.tail_block (r.tail + TAIL_STEP) r.spare v i ready limit i.no_spare) ready.counted (queue-pushed r r.pieces r.tail_block (r.tail + TAIL_STEP) r.spare v i ready)))
 
   -- into a chain without blocks
-  into-bare : IsBare r.first r.pieces r.head_block r.tail_block (accepted r) → OwnChainEnds SOLO_STEPS (loads (chain.PushTail p None) word.Tail) r (Some v) (EndsAnswered (push_call p v) r)
+  into-bare : IsBare r.first r.pieces r.head_block r.tail_block (accepted r) → OwnChainEnds STEPS_ALONE (loads (chain.PushTail p None) word.Tail) r (Some v) (EndsAnswered (push_call p v) r)
   into-bare bare =
       let few = i.few in
       let unused = bare.unused in
       let none : length r.pieces ≡ 0 = ap length bare.none in
       run-block r v p (asks p r.tail None) (EndsAnswered (push_call p v) r) (tail-word r i) unshut unspent rests (rw bare.back refl)
-      (run-first (SOLO_STEPS - 8) r v p (EndsAnswered (push_call p v) r) i.no_spare bare.back (tail-word r i) (omega arith) (right-refused r v i p (refl, unshut, inl unused) (λ unused. none))
+      (run-first (STEPS_ALONE - 8) r v p (EndsAnswered (push_call p v) r) i.no_spare bare.back (tail-word r i) (omega arith) (right-refused r v i p (refl, unshut, inl unused) (λ unused. none))
       (λ f is.
       let s : OwnChain T = opened r f in
       let j = idle-opened r f i bare is in
@@ -137,20 +137,20 @@ module _ {T : Type 0} (r : OwnChain T) (v : T) (p : PushKind) (i : IsIdle r) (un
       let ready = ready-here s j l (λ e. omega arith) in
       let done : OwnChain T = pushed s s.pieces s.tail_block (s.tail + TAIL_STEP) s.spare v in
       let Appended : State T → State T = λ q. record q { items = q.items ++ v ∷ []; accepted = q.accepted + 1 } in
-      let Claims : Name T → Type 0 = λ b. OwnChainEnds (SOLO_STEPS - 5) (claims p r.tail b None) s (Some v) (EndsAnswered (push_call p v) r) in
+      let Claims : Name T → Type 0 = λ b. OwnChainEnds (STEPS_ALONE - 5) (claims p r.tail b None) s (Some v) (EndsAnswered (push_call p v) r) in
       subst Claims (sym (named f (last_name s j l) (last-is s j l)))
-      (push-here (SOLO_STEPS - 8) s v p (EndsAnswered (push_call p v) r) j l (omega arith)
+      (push-here (STEPS_ALONE - 8) s v p (EndsAnswered (push_call p v) r) j l (omega arith)
       (right-pushed r v i p done unshut unspent (idle-pushed s s.pieces s.tail_block (s.tail + TAIL_STEP) s.spare v j ready limit refl) ready.counted
       (queue-pushed s s.pieces s.tail_block (s.tail + TAIL_STEP) s.spare v j ready ∙ ap Appended (queue-opened r f i bare is))))))
     where
       named : (x y : Name T) → ◌≡◌ {A = Option (Name T)} (Some x) (Some y) → x ≡ y
       named x y e = cc
 
-pub push-answers : {T : Type 0} (r : OwnChain T) (v : T) (p : PushKind) → IsIdle r → OwnChainEnds SOLO_STEPS (loads (chain.PushTail p None) word.Tail) r (Some v) (EndsAnswered (push_call p v) r)
+pub push-answers : {T : Type 0} (r : OwnChain T) (v : T) (p : PushKind) → IsIdle r → OwnChainEnds STEPS_ALONE (loads (chain.PushTail p None) word.Tail) r (Some v) (EndsAnswered (push_call p v) r)
 push-answers {T} r v p i = go (is_shut r.tail) (accepted r == LIMIT) refl refl i.blocks
   where
     go : (b1 b2 : Bool) → is_shut r.tail ≡ b1 → (accepted r == LIMIT) ≡ b2 → IsBare r.first r.pieces r.head_block r.tail_block (accepted r) ⊎ Laid r
-        → OwnChainEnds SOLO_STEPS (loads (chain.PushTail p None) word.Tail) r (Some v) (EndsAnswered (push_call p v) r)
+        → OwnChainEnds STEPS_ALONE (loads (chain.PushTail p None) word.Tail) r (Some v) (EndsAnswered (push_call p v) r)
     go true b2 e1 e2 blocks = run-closed r v p (EndsAnswered (push_call p v) r) (tail-word r i) e1 (right-closed r v i p e1)
     go false true e1 e2 blocks = run-spent r v p (EndsAnswered (push_call p v) r) (tail-word r i) e1 e2 (right-spent r v i p e1 e2)
     go false false e1 e2 (inl bare) = into-bare r v p i e1 e2 bare

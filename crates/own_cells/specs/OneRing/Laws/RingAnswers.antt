@@ -4,7 +4,7 @@ use Rattle.std.proofs.Common.{◌≡◌, ◌||◌, ℕ, zero, suc, ◌<◌, ◌�
 use Rattle.queue_steps.specs.{State.State, State.is_slot_cap, Effect.after_from, Legal.IsShown, RingNext.ring_begin, Words.position_of, Next.CanNext, Next.next_of, Kinds.call_kind, Kinds.call_value, Kinds.filled, Replies.IsRightAt, Replies.LacksMemory, Replies.Tells}
 use Rattle.queue_steps.specs.Sequential.{Sequential, sequential_reply, sequential_state, moved}
 use Rattle.queue_steps.proofs.Rows.{does_row}
-use Rattle.queue_laws.specs.Common.Vocabulary.{Call, Reply, Effect, PushError, ForcePushError, Kind, Op, Touch, Answer, Next, SOLO_STEPS}
+use Rattle.queue_laws.specs.Common.Vocabulary.{Call, Reply, Effect, PushError, ForcePushError, Kind, Op, Touch, Answer, Next, STEPS_ALONE}
 use Rattle.queue_laws.specs.{Common.Effects.FrontOpen, Common.Effects.with_effect, Common.Moments.SeenIn, Ring.RingShared.answered, Ring.RingShared.touched, Ring.RingShared.handed, Ring.RingCells.Ring, Ring.RingCells.queue_of, Ring.RingCells.RingOk, Ring.RingCells.HoldsNone, Ring.RingWords.Codes}
 use Rattle.queue_laws.proofs.Common.Alone.{Alone, alone_first, alone_more, only_seen}
 use Rattle.queue_laws.proofs.Ring.{RingIdle.AtRest, RingIdle.at_rest, RingTransitions.not_slot, RingRanks.rank, RingRanks.rank_some, RingSlots.nobody, RingStepOk.IsQuiet, RingStepOk.NextOk, RingFronts.may_front, RingStart.at_first, RingStep.step_good}
@@ -119,7 +119,7 @@ ring_answers {T} r c i =
     let g : Ring T = ring_of r in
     let none = nobody_holds r in (
       i.ring,
-      runs r c SOLO_STEPS SOLO_STEPS r g g (ring_begin r.cap (call_kind c)) (call_value c) [] false []
+      runs r c STEPS_ALONE STEPS_ALONE r g g (ring_begin r.cap (call_kind c)) (call_value c) [] false []
           (record { same = refl; ok = party_ok r i; codes = party_codes r i; quiet = λ other ne. none other }) (λ other ne. none other) (alone_first (ring_queue r))
           (at_first r.cap g 0 c (none 0), λ calm. omega arith) (omega arith) (omega arith),
     )

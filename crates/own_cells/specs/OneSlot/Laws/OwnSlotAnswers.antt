@@ -1,7 +1,7 @@
 -- Every call on one slot ends with its reply.
 use Rattle.std.specs.Prelude.{◌≡◌, ℕ, Bool, true, false, Option, Some, None, refl}
 use Rattle.std.proofs.Common.{inl, sym, subst}
-use Rattle.queue_steps.specs.{declared.model.Call.Call, declared.model.Call.Call as call, declared.model.Reply.Reply, declared.sizes.TheConstants.SOLO_STEPS, Next.CanNext, Next.next_of, Next.first_local, Sequential.Sequential, SlotNext.is_marked, Kinds.call_kind, Kinds.call_value, Kinds.filled}
+use Rattle.queue_steps.specs.{declared.model.Call.Call, declared.model.Call.Call as call, declared.model.Reply.Reply, declared.sizes.TheConstants.STEPS_ALONE, Next.CanNext, Next.next_of, Next.first_local, Sequential.Sequential, SlotNext.is_marked, Kinds.call_kind, Kinds.call_value, Kinds.filled}
 use Rattle.queue_steps.specs.declared.steps.types.{Kind.Kind as kind, Kind.Kind, Local.Local, Local.Local as local, Answer.Answer, Answer.Answer as answer, Op.Op, Touch.Touch as touch}
 use Rattle.own_cells.specs.{declared.slot.own_slot.OwnSlot.OwnSlot, OneSlot.Laws.ComputedRuns.Outcome, OneSlot.Laws.ComputedRuns.run_from, OneSlot.Laws.ComputedRuns.EndsIn-run}
 use Rattle.call_driver.specs.EndsIn.{EndsRight, Released, Replied, Answered}
@@ -25,7 +25,7 @@ slot_of item lock = record { lock = lock; item = item }
 abbrev pub SlotRun : {T : Type 0} → Option T → Bool → Call T → Type 0
 SlotRun {T} item closed c =
     (o : Outcome T Unit (OwnSlot T))
-    × (run_from slot_touchable slot_touched slot_operable slot_performed can_next can_next-is SOLO_STEPS kind.Single (next_of kind.Single (first_local (call_kind c)) answer.Start) (slot_of item (word_for item closed)) (call_value c) ≡ Some o)
+    × (run_from slot_touchable slot_touched slot_operable slot_performed can_next can_next-is STEPS_ALONE kind.Single (next_of kind.Single (first_local (call_kind c)) answer.Start) (slot_of item (word_for item closed)) (call_value c) ≡ Some o)
     × IsIdle o.cells
     × (o.spare ≡ None)
     × ((reply : Reply T) × (filled o.reply o.carried ≡ Some reply) × Sequential (slot_owned (slot_of item (word_for item closed))) c reply (slot_owned o.cells))
@@ -48,7 +48,7 @@ own_slot_ends {T} item lock closed c is =
     let P : ℕ → Type 0 = λ w. OwnSlotEnds (slot_of item w) c in
     subst P (sym is) (
       tt,
-      EndsIn-run slot_touchable slot_touched slot_operable slot_performed can_next can_next-is SOLO_STEPS kind.Single (next_of kind.Single (first_local (call_kind c)) answer.Start) first (call_value c)
+      EndsIn-run slot_touchable slot_touched slot_operable slot_performed can_next can_next-is STEPS_ALONE kind.Single (next_of kind.Single (first_local (call_kind c)) answer.Start) first (call_value c)
           (Answered slot_can_release slot_releases IsIdle slot_owned c first) r.0 r.1 (subst End (sym r.3) (r.2, r.4)),
     )
 

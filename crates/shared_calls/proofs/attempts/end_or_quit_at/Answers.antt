@@ -1,5 +1,5 @@
 use Rattle.std.proofs.Common.{◌≡◌, ◌-◌, ◌∙◌, true, false, subst, sym}
-use Rattle.queue_laws.specs.Common.Vocabulary.{SOLO_STEPS}
+use Rattle.queue_laws.specs.Common.Vocabulary.{STEPS_ALONE}
 use Rattle.shared_calls.{specs.Settling.MayWait, specs.Halts.next_at, proofs.GivesUp.halts, proofs.GivesUp.gave_up}
 use Rattle.shared_calls.proofs.attempts.end_or_quit_at.Goals as goal
 
@@ -29,7 +29,7 @@ pub quit_at-requires-clause-halts : goal.quit_at-requires-clause-halts
 quit_at-requires-clause-halts g c =
     let t = c.args.table.now.table.shared.table_id in let K = g.K.TableKind.layout in let (call, is, first, at) = c.requires.left in
     let stood = c.in-Continue-settle.ensures.stood call first (c.in-Continue.ensures call first at).0 in
-    halts K t (SOLO_STEPS - 1) (first.table_id, first.me) call c.settle.new.seat c.in-Continue-settle.left stood.0.0 stood.1
+    halts K t (STEPS_ALONE - 1) (first.table_id, first.me) call c.settle.new.seat c.in-Continue-settle.left stood.0.0 stood.1
 
 pub unreachable-requires : goal.unreachable-requires
 unreachable-requires g c =
@@ -45,5 +45,5 @@ returns g c = λ call first at.
     let left = c.in-Continue-settle.left in let stood = c.in-Continue-settle.ensures.stood call first paused.0 in
     let early = c.in-Continue-settle.ensures.early (λ waits. c.requires.ends (next_at from) (subst (λ k. MayWait k (next_at from)) paused.0.0.0 waits)) in
     let e = c.in-Ok.ensures.quits in
-    let h = gave_up K t (SOLO_STEPS - 1) (first.table_id, first.me) call c.settle.new.seat left stood.0.0 stood.1 c.quit_at.new.seat early e.0 e.1 in
+    let h = gave_up K t (STEPS_ALONE - 1) (first.table_id, first.me) call c.settle.new.seat left stood.0.0 stood.1 c.quit_at.new.seat early e.0 e.1 in
     (h.0, e.2 ∙ h.1)

@@ -1,5 +1,5 @@
 use Rattle.std.proofs.Common.{◌≡◌, ◌-◌, ◌∙◌, false, sym, ap, subst, arith}
-use Rattle.queue_laws.specs.Common.Vocabulary.{Next, SOLO_STEPS}
+use Rattle.queue_laws.specs.Common.Vocabulary.{Next, STEPS_ALONE}
 use Rattle.call_driver.proofs.Going.{replies, again, step}
 use Rattle.shared_calls.specs.{Early.is_early, Settling.left_at, Settling.MayWait, Halts.next_at}
 use Rattle.shared_calls.proofs.{Filling.is_filled, Filling.filled_as, Settling.nearer, Settling.left_late, Settling.left_early}
@@ -11,11 +11,11 @@ next-todo-requires-clause-of g c = c.requires.kind
 pub next-todo-requires-clause-can : goal.next-todo-requires-clause-can
 next-todo-requires-clause-can g c =
     let h = c.requires.stood in let l = c.args.left in
-    (again g.M.Site g.met.M.Site.goes_on g.met.M.Site.more (SOLO_STEPS - 1) l.kind l.call c.args.site.now h.1 h.0 l.progress l.carried c.args.seat.now h.2).1.0
+    (again g.M.Site g.met.M.Site.goes_on g.met.M.Site.more (STEPS_ALONE - 1) l.kind l.call c.args.site.now h.1 h.0 l.progress l.carried c.args.seat.now h.2).1.0
 
 pub give_back-requires : goal.give_back-requires
 give_back-requires g c =
-    let h = c.requires.stood in let n = SOLO_STEPS - 1 in let l = c.args.left in
+    let h = c.requires.stood in let n = STEPS_ALONE - 1 in let l = c.args.left in
     record {
       may = (replies g.M.Site n l.kind l.call c.args.site.now h.1 h.0 l.progress.local l.progress.answer c.in-Reply.reply c.in-Reply.spare c.args.seat.now l.carried c.next-todo.ensures c.in-Reply.is
           (again g.M.Site g.met.M.Site.goes_on g.met.M.Site.more n l.kind l.call c.args.site.now h.1 h.0 l.progress l.carried c.args.seat.now h.2)).0;
@@ -23,14 +23,14 @@ give_back-requires g c =
 
 pub fill-requires : goal.fill-requires
 fill-requires g c =
-    let h = c.requires.stood in let n = SOLO_STEPS - 1 in let l = c.args.left in
+    let h = c.requires.stood in let n = STEPS_ALONE - 1 in let l = c.args.left in
     let told = (replies g.M.Site n l.kind l.call c.args.site.now h.1 h.0 l.progress.local l.progress.answer c.in-Reply.reply c.in-Reply.spare c.args.seat.now l.carried c.next-todo.ensures c.in-Reply.is
     (again g.M.Site g.met.M.Site.goes_on g.met.M.Site.more n l.kind l.call c.args.site.now h.1 h.0 l.progress l.carried c.args.seat.now h.2)).1 c.give_back.new.seat c.give_back.ensures in
     record { fits = is_filled c.in-Reply.reply l.carried told.0 told.1 }
 
 pub returns-in-Reply-clause-stood : goal.returns-in-Reply-clause-stood
 returns-in-Reply-clause-stood g c = λ call first stood.
-    let n = SOLO_STEPS - 1 in let l = c.args.left in
+    let n = STEPS_ALONE - 1 in let l = c.args.left in
     let told = (replies g.M.Site n l.kind l.call c.args.site.now first call l.progress.local l.progress.answer c.in-Reply.reply c.in-Reply.spare c.args.seat.now l.carried c.next-todo.ensures c.in-Reply.is
     (again g.M.Site g.met.M.Site.goes_on g.met.M.Site.more n l.kind l.call c.args.site.now first call l.progress l.carried c.args.seat.now stood)).1 c.give_back.new.seat c.give_back.ensures in
     let same = filled_as c.in-Reply.reply l.carried told.0 told.1 c.fill.result c.fill.ensures in
@@ -44,7 +44,7 @@ returns-then-is_early-clause-stood g c = λ call first stood. stood
 
 pub take_step-answer-requires : goal.take_step-answer-requires
 take_step-answer-requires g c =
-    let h = c.requires.stood in let n = SOLO_STEPS - 1 in let l = c.args.left in
+    let h = c.requires.stood in let n = STEPS_ALONE - 1 in let l = c.args.left in
     record {
       may = (step g.M.Site n l.kind l.call c.args.site.now h.1 h.0 l.progress.local l.progress.answer c.in-Step.local c.in-Step.touch c.in-Step.op c.args.seat.now l.carried c.next-todo.ensures c.in-Step.is
           (again g.M.Site g.met.M.Site.goes_on g.met.M.Site.more n l.kind l.call c.args.site.now h.1 h.0 l.progress l.carried c.args.seat.now h.2)).0;
@@ -52,7 +52,7 @@ take_step-answer-requires g c =
 
 pub returns-else-is_early-clause-stood : goal.returns-else-is_early-clause-stood
 returns-else-is_early-clause-stood g c = λ call first stood.
-    let n = SOLO_STEPS - 1 in let l = c.args.left in
+    let n = STEPS_ALONE - 1 in let l = c.args.left in
     (step g.M.Site n l.kind l.call c.args.site.now first call l.progress.local l.progress.answer c.in-Step.local c.in-Step.touch c.in-Step.op c.args.seat.now l.carried c.next-todo.ensures c.in-Step.is
     (again g.M.Site g.met.M.Site.goes_on g.met.M.Site.more n l.kind l.call c.args.site.now first call l.progress l.carried c.args.seat.now stood)).1
     c.take_step-answer.result c.take_step-answer.new.seat c.take_step-answer.new.carried c.take_step-answer.ensures
@@ -64,7 +64,7 @@ returns-then-is_early-clause-nearer g c = λ stays.
 
 pub returns-else-is_early-clause-nearer : goal.returns-else-is_early-clause-nearer
 returns-else-is_early-clause-nearer g c = λ stays.
-    let h = c.requires.stood in let n = SOLO_STEPS - 1 in let l = c.args.left in
+    let h = c.requires.stood in let n = STEPS_ALONE - 1 in let l = c.args.left in
     let stood = (step g.M.Site n l.kind l.call c.args.site.now h.1 h.0 l.progress.local l.progress.answer c.in-Step.local c.in-Step.touch c.in-Step.op c.args.seat.now l.carried c.next-todo.ensures c.in-Step.is
     (again g.M.Site g.met.M.Site.goes_on g.met.M.Site.more n l.kind l.call c.args.site.now h.1 h.0 l.progress l.carried c.args.seat.now h.2)).1
     c.take_step-answer.result c.take_step-answer.new.seat c.take_step-answer.new.carried c.take_step-answer.ensures in

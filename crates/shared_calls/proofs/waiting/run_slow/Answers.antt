@@ -1,19 +1,19 @@
 use Rattle.std.proofs.Common.{◌-◌, refl}
-use Rattle.queue_laws.specs.Common.Vocabulary.{SOLO_STEPS}
+use Rattle.queue_laws.specs.Common.Vocabulary.{STEPS_ALONE}
 use Rattle.shared_calls.proofs.Filling.{is_filled, filled_as}
 use Rattle.shared_calls.proofs.waiting.run_slow.Goals as goal
 
 pub leave-reply-requires-clause-can : goal.leave-reply-requires-clause-can
-leave-reply-requires-clause-can g c = (SOLO_STEPS - 1, refl, c.requires.left)
+leave-reply-requires-clause-can g c = (STEPS_ALONE - 1, refl, c.requires.left)
 
 pub fill-requires : goal.fill-requires
 fill-requires g c =
     let (call, first, on) = c.requires.left in
-    let told = c.leave-reply.ensures (SOLO_STEPS - 1) call first refl on in
+    let told = c.leave-reply.ensures (STEPS_ALONE - 1) call first refl on in
     record { fits = is_filled c.leave-reply.result c.leave-reply.new.carried told.0 told.1 }
 
 pub returns : goal.returns
 returns g c = λ call first on.
-    let told = c.leave-reply.ensures (SOLO_STEPS - 1) call first refl on in
+    let told = c.leave-reply.ensures (STEPS_ALONE - 1) call first refl on in
     let same = filled_as c.leave-reply.result c.leave-reply.new.carried told.0 told.1 c.fill.result c.fill.ensures in
     rw same at told.2

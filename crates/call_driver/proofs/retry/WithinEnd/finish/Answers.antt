@@ -1,26 +1,26 @@
 use Rattle.std.proofs.Common.{◌≡◌, ℕ, suc, ◌+◌, ◌-◌, arith, subst}
-use Rattle.queue_steps.specs.declared.sizes.TheConstants.{SOLO_STEPS}
+use Rattle.queue_steps.specs.declared.sizes.TheConstants.{STEPS_ALONE}
 use Rattle.call_driver.{specs.OnWay.Before, proofs.Going.before}
 use Rattle.call_driver.proofs.retry.WithinEnd.finish.Goals as goal
 
 pub retry-requires-clause-on_way : goal.retry-requires-clause-on_way
 retry-requires-clause-on_way g c =
-    let more : SOLO_STEPS - c.loop.counter ≡ suc (SOLO_STEPS - (c.loop.counter + 1)) = omega (arith, c.loop-test.true) in
+    let more : STEPS_ALONE - c.loop.counter ≡ suc (STEPS_ALONE - (c.loop.counter + 1)) = omega (arith, c.loop-test.true) in
     let h = c.loop.invariant.going in
-    (SOLO_STEPS - (c.loop.counter + 1), (h.0, h.1, rw more at h.2))
+    (STEPS_ALONE - (c.loop.counter + 1), (h.0, h.1, rw more at h.2))
 
 pub returns-in-Break : goal.returns-in-Break
 returns-in-Break g c = λ n call first all h.
-    let more : SOLO_STEPS - c.loop.counter ≡ suc (SOLO_STEPS - (c.loop.counter + 1)) = omega (arith, c.loop-test.true) in
+    let more : STEPS_ALONE - c.loop.counter ≡ suc (STEPS_ALONE - (c.loop.counter + 1)) = omega (arith, c.loop-test.true) in
     let start = subst (λ (i : ℕ). Before g.M.Site i c.args.kind c.args.call c.args.site.now first call c.args.progress c.args.carried.now c.args.seat.now) all h in
-    c.in-Break.ensures (SOLO_STEPS - (c.loop.counter + 1)) call first (rw more at (c.loop.invariant.goes call first start))
+    c.in-Break.ensures (STEPS_ALONE - (c.loop.counter + 1)) call first (rw more at (c.loop.invariant.goes call first start))
 
 pub loop-preserved : goal.loop-preserved
 loop-preserved g c =
-    let left = SOLO_STEPS - (c.loop.counter + 1) in
-    let more : SOLO_STEPS - c.loop.counter ≡ suc (SOLO_STEPS - (c.loop.counter + 1)) = omega (arith, c.loop-test.true) in
+    let left = STEPS_ALONE - (c.loop.counter + 1) in
+    let more : STEPS_ALONE - c.loop.counter ≡ suc (STEPS_ALONE - (c.loop.counter + 1)) = omega (arith, c.loop-test.true) in
     let h = c.loop.invariant.going in
     record {
-      going = (h.0, h.1, before g.M.Site g.met.M.Site.goes_on g.met.M.SoloSite.ends left c.args.kind c.args.call c.args.site.now h.1 h.0 _ _ _ (c.in-Continue.ensures left h.0 h.1 (rw more at h.2)));
-      goes = λ call first start. before g.M.Site g.met.M.Site.goes_on g.met.M.SoloSite.ends left c.args.kind c.args.call c.args.site.now first call _ _ _ (c.in-Continue.ensures left call first (rw more at (c.loop.invariant.goes call first start)));
+      going = (h.0, h.1, before g.M.Site g.met.M.Site.goes_on g.met.M.AloneSite.ends left c.args.kind c.args.call c.args.site.now h.1 h.0 _ _ _ (c.in-Continue.ensures left h.0 h.1 (rw more at h.2)));
+      goes = λ call first start. before g.M.Site g.met.M.Site.goes_on g.met.M.AloneSite.ends left c.args.kind c.args.call c.args.site.now first call _ _ _ (c.in-Continue.ensures left call first (rw more at (c.loop.invariant.goes call first start)));
     }

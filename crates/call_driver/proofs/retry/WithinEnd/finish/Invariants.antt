@@ -1,5 +1,5 @@
 use Rattle.std.proofs.Common.{◌-◌}
-use Rattle.queue_steps.specs.declared.{sizes.TheConstants.SOLO_STEPS, model.Call.Call}
+use Rattle.queue_steps.specs.declared.{sizes.TheConstants.STEPS_ALONE, model.Call.Call}
 use Rattle.call_driver.specs.OnWay.{Before}
 use Rattle.call_driver.proofs.retry.WithinEnd.finish.Given as goal
 
@@ -8,8 +8,8 @@ abbrev pub invariant-loop : goal.invariant-loop
 invariant-loop g l =
     let m = g.M.Site in
     record {
-      going : (c : Call g.row.M-Item.Denot) × (first : g.row.M-Seat.Denot) × Before m (SOLO_STEPS - l.counter) l.kind l.call l.site first c l.progress l.carried l.seat;
+      going : (c : Call g.row.M-Item.Denot) × (first : g.row.M-Seat.Denot) × Before m (STEPS_ALONE - l.counter) l.kind l.call l.site first c l.progress l.carried l.seat;
       goes : (c : Call g.row.M-Item.Denot) (first : g.row.M-Seat.Denot)
-          → Before m SOLO_STEPS l.kind l.call l.site first c l.initial.progress l.initial.carried l.initial.seat
-          → Before m (SOLO_STEPS - l.counter) l.kind l.call l.site first c l.progress l.carried l.seat;
+          → Before m STEPS_ALONE l.kind l.call l.site first c l.initial.progress l.initial.carried l.initial.seat
+          → Before m (STEPS_ALONE - l.counter) l.kind l.call l.site first c l.progress l.carried l.seat;
     }

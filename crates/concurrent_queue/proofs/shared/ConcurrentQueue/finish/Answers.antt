@@ -2,7 +2,7 @@ use Rattle.std.proofs.Common.{rules, Some, None, ◌≡◌, ◌∙◌, refl, ap,
 use Rattle.atomic_table.specs.Seated.{TableId}
 use Rattle.mem_blocks.specs.Laid.{WebId}
 use Rattle.queue_steps.specs.{Legal.IsShown, Shares.IsEntire, Effect.after}
-use Rattle.shared_parties.specs.{declared.known.CallState.CallState, CallStates.IsResting, CallStates.IsLoneSeat}
+use Rattle.shared_parties.specs.{declared.known.CallState.CallState, CallStates.IsResting, CallStates.IsSeatAlone}
 use Rattle.concurrent_queue.specs.Shared.{at_table, in_web, name_at, known_at, form_id, IsFreeAt}
 use Rattle.concurrent_queue.proofs.PartyViews.{finishes}
 use Rattle.concurrent_queue.proofs.shared.ConcurrentQueue.finish.Goals as goal
@@ -14,8 +14,8 @@ same_web : (a b : WebId) → in_web a ≡ in_web b → a ≡ b
 same_web a b e = cc
 
 -- a party with all of the share is the only one
-is_lone : {T : Type 0} (d e : CallState T) → d ≡ e → IsResting e → IsEntire e.known.share → IsLoneSeat d
-is_lone d e is rests entire = subst (λ x. IsLoneSeat x) (sym is) (rests, entire)
+is_alone : {T : Type 0} (d e : CallState T) → d ≡ e → IsResting e → IsEntire e.known.share → IsSeatAlone d
+is_alone d e is rests entire = subst (λ x. IsSeatAlone x) (sym is) (rests, entire)
 
 pub end_slot-requires-clause-table : goal.end_slot-requires-clause-table
 end_slot-requires-clause-table g c =
@@ -25,7 +25,7 @@ end_slot-requires-clause-table g c =
 pub end_slot-requires-clause-alone : goal.end_slot-requires-clause-alone
 end_slot-requires-clause-alone g c =
     let b = c.in-Slot-Table in
-    is_lone b.seat.me.0 (known_at c.party.inside.place) (sym (ap known_at b.is-1) ∙ c.is_only.ensures.same.2) c.party.invariant.0.0 c.if-not-is_only.ensures.counted
+    is_alone b.seat.me.0 (known_at c.party.inside.place) (sym (ap known_at b.is-1) ∙ c.is_only.ensures.same.2) c.party.invariant.0.0 c.if-not-is_only.ensures.counted
 
 pub of_slot-requires : goal.of_slot-requires
 of_slot-requires g c = c.end_slot.ensures.0
@@ -38,7 +38,7 @@ end_ring-requires-clause-table g c =
 pub end_ring-requires-clause-alone : goal.end_ring-requires-clause-alone
 end_ring-requires-clause-alone g c =
     let b = c.in-Ring-Table in
-    is_lone b.seat.me.0 (known_at c.party.inside.place) (sym (ap known_at b.is-1) ∙ c.is_only.ensures.same.2) c.party.invariant.0.0 c.if-not-is_only.ensures.counted
+    is_alone b.seat.me.0 (known_at c.party.inside.place) (sym (ap known_at b.is-1) ∙ c.is_only.ensures.same.2) c.party.invariant.0.0 c.if-not-is_only.ensures.counted
 
 pub of_ring-requires : goal.of_ring-requires
 of_ring-requires g c = c.end_ring.ensures.0
@@ -58,7 +58,7 @@ pub end-requires-clause-alone : goal.end-requires-clause-alone
 end-requires-clause-alone g c =
     let b = c.in-Chain-Web in
     let known = ap (λ m. m.view) c.wake-seat.ensures.seat.1 ∙ (sym (ap known_at b.is-1) ∙ c.is_only.ensures.same.2) in
-    is_lone c.wake-seat.result.sitter.view (known_at c.party.inside.place) known c.party.invariant.0.0 c.if-not-is_only.ensures.counted
+    is_alone c.wake-seat.result.sitter.view (known_at c.party.inside.place) known c.party.invariant.0.0 c.if-not-is_only.ensures.counted
 
 pub of_chain-requires : goal.of_chain-requires
 of_chain-requires g c = c.end.ensures.0

@@ -3,7 +3,7 @@ use Rattle.mem_blocks.proofs.Walks.{◌≡◌, ℕ, List, [], ◌∷◌, length,
 use Rattle.mem_blocks.proofs.Walks.{size, align, capped, capped_fits, size-raw, align-raw, ‵, raw, ◌⊛◌, given, later, at_ret, ◌$◌, ◌∵◌, !, qed, by, move, keep, use1, use3, split, join, fsplit, fsplit3, fjoin, fpick, fpack, learn, await}
 use Rattle.mem_blocks.proofs.Walks.{rewrite, feq_i, stop, fld, unit_lit, size_word, align_word, of_opd, no_more, and_then, first, blocks, exec, returns, alloc_all, pass_all, free_all, look_at, get, get_in, sets, lands_last, env, sub}
 use Rattle.mem_blocks.proofs.Walks.{all_of_it, tables, fact, ◌⊑◌, yes, no, RattleType, owns, types_at, plain, Ptr, block_ptr, block_of, count_of, at_block, nothing, heard, param, bounded, RefOf, shr_vals, shr_Tells, Tuple, calls_at_last}
-use Rattle.mem_blocks.proofs.Walks.{Stays, stay_dropped, walk_of, Goes-dropped, proved, leaves, fm, Block, alive_at, AllVacant, Sized, block_owns, block_ty, SLOTS, after, blank_val, place_val, blank_told, place_told, spends, enters_at}
+use Rattle.mem_blocks.proofs.Walks.{Stays, stay_dropped, walk_of, Goes-dropped, proved, leaves, fm, Block, alive_at, AllVacant, Sized, block_owns, block_ty, SLOTS, after, blank_val, place_val, blank_values, place_values, spends, enters_at}
 use Rattle.std.proofs.alloc.Calls.{Al as Handle, at_gives, Gives, Gives-goes, Gives-Gives}
 use Rattle.mem_blocks.specs.contracts.block.BlockPtr as link
 use Rattle.mem_blocks.specs.contracts.block.Loose as loose
@@ -19,7 +19,7 @@ give_up_spec 𝓤 𝓛 𝓜 𝓡 wired S A L LA ga da dd met _ =
     let kept_of : Stays goal.signature.params goal.kept = (stay_dropped (plain (λ _. Loose)) no, (stay_dropped (RefOf (0 ∷ []) tt (plain (λ _. Z)) (λ _. tt)) yes, (stay_dropped (plain (λ _. BlockPtr)) no, tt))) in
     proved 𝓛 goal kept_of c 𝓜 𝓡 (Goes-dropped 𝓛 3 (plain (λ _. Loose)) no (λ κs x f. refl), (Goes-dropped 𝓛 3 (RefOf (0 ∷ []) tt (plain (λ _. Z)) (λ _. tt)) yes (λ κs x f. refl), (Goes-dropped 𝓛 3 (plain (λ _. BlockPtr)) no (λ κs x f. refl), tt))) (#self at_types) mir
     (code.unfolded 𝓤 H 𝓜 𝓡 wired (S, (A, tt)) da dd) (λ κs. ((λ _. blank_val ∷ []), (shr_vals, ((λ x. place_val x.ptr ∷ []), tt))))
-    (λ κs. ((λ x vs so. blank_told (Tuple (R ∷ Z ∷ [])) vs so.0), (shr_Tells (named 0) κs.0 Z, (place_told R, tt)))) (λ κs qs bounds a ghost are.
+    (λ κs. ((λ x vs so. blank_values (Tuple (R ∷ Z ∷ [])) vs so.0), (shr_Tells (named 0) κs.0 Z, (place_values R, tt)))) (λ κs qs bounds a ghost are.
     let y : (walk_of 𝓛 goal kept_of c).Ghost = ((κs, qs, bounds, a, (blank_val ∷ [], (vptr a.1.0.ref_ptr.0 a.1.0.ref_ptr.1 ∷ [], (place_val a.1.1.0.ptr ∷ [], tt)))), ghost) in let Post : Val → SProp 𝓤 = (walk_of 𝓛 goal kept_of c).post y in
     let handle_of : Handle = record { row = A; laws = LA; g = ga; d = da; drops = dd } in let τ : Ty = block_ty R in let n : ℕ = capped (size τ) in let al : ℕ = capped (align τ) in
     let h : Loose.Denot = a.0 in let place : ℕ × ℕ = a.1.0.ref_ptr in let heap : A.Denot = a.1.0.now in let p : Ptr = a.1.1.0.ptr in let κ : Lft = κs.0 in let q : Share = qs.0 in let token : Ty → Ptr → Fml = ga.dealloc_token heap in

@@ -39,7 +39,7 @@ reserve_spec 𝓤 𝓛 𝓜 𝓡 wired S A L LA ga da dd met _ =
     use1 𝓛 (later (raw (Answered handle_of 𝓛 𝓜.mem 𝓡.returns heap (bare τ) u) ⊛ ‵ (flft κ q))) (Takes-gives handle_of 𝓛 𝓜.mem 𝓡.returns κ q place heap n al (bare τ) u) $ await ! tt $ split ! $ move ! (1 ∷ 2 ∷ []) $ join ! $ move ! (1 ∷ []) $ answers handle_of ! 𝓜.mem 𝓡.returns heap (bare τ) u
     (λ b o e. let p : Ptr = block_ptr b o in let ns : List ℕ = replicate SLOTS 0 in let hs₀ : List (Home S.Denot) = replicate SLOTS vacant in let r : Loose.Denot = record { marker = record {}; heap = heap; at = p; next = null_ptr; words = ns; homes = hs₀ } in
     let pair : Val = vstruct (vcons (place_val p) (vcons blank_val vnil)) in let val : Val = live 0 (vcons pair vnil) in let good : WT val = (record { fits = lit< tt }, (((tt, tt), ((tt, tt), tt)), tt)) in let arm : Body = arm_body 0 both in
-    let Told : Type 0 = (heap ≡ heap) × (p ≡ p) × InBlock p × (null_ptr ≡ null_ptr) × (ns ≡ ns) × (hs₀ ≡ hs₀) in let flat : o + 0 ≡ o = omega arith in
+    let Ensured : Type 0 = (heap ≡ heap) × (p ≡ p) × InBlock p × (null_ptr ≡ null_ptr) × (ns ≡ ns) × (hs₀ ≡ hs₀) in let flat : o + 0 ≡ o = omega arith in
     use1 𝓛 (‵ (rooms R b o) ⊛ ‵ (fwand (rooms R b o) (froom (bare τ) b o))) (parts.spreads 𝓛 R token b o) $ split ! $ move ! (1 ∷ 2 ∷ []) $ fjoin ! $ move ! (1 ∷ []) $ fsplit ! $ fsplit3 ! $ move ! (2 ∷ []) $ drop ! $
     -- [the link's room; the words' room; the slots' room; the rim; the tokens]
     lands_as ! e refl (Answer-typed true b o) $ first ! $ switches_on ! (get_tag ! (vrt ! refl (fld ! refl (stop !))) (all_of_it !)) $ exec ! 𝓣.C 𝓣.Λ locals arm Then $
@@ -55,7 +55,7 @@ reserve_spec 𝓤 𝓛 𝓜 𝓡 wired S A L LA ga da dd met _ =
     move ! (0 ∷ 1 ∷ 4 ∷ []) $ fjoin3 ! $ move ! (1 ∷ []) $ fpack ! (Sized R (alive_at p null_ptr ns hs₀)) (λ _. ftrue) (tt, small, refl, omega arith) $ move ! (0 ∷ 2 ∷ 1 ∷ []) $ fjoin3 ! $ blank ! (Tuple (R ∷ Z ∷ [])) $ nothing ! $ move ! (1 ∷ 0 ∷ []) $ fjoin ! $
     use0 𝓛 (‵ (BlockPtr.own_val (record { ptr = p }) (place_val p ∷ []))) (place_made R 𝓛 p) $ fjoin ! $ feq_i ! (List Val) (pair ∷ []) (pair ∷ []) refl $ fjoin ! $
     fpack ! (Valss (BlockPtr ∷ Loose ∷ [])) (within (declared.shape (tuple_type (BlockPtr ∷ Loose ∷ []))) (record { ptr = p }, (r, tt)) (pair ∷ [])) (place_val p ∷ [], (blank_val ∷ [], tt)) $
-    use1 𝓛 (‵ (Out.own_val (Ok (record { ptr = p }, r)) (val ∷ []))) (ok_of 𝓛 Two refusal.the_row (record { ptr = p }, r) pair) $ tells ! Told (refl, refl, tt, refl, refl, refl) $ spends ! 1 $
+    use1 𝓛 (‵ (Out.own_val (Ok (record { ptr = p }, r)) (val ∷ []))) (ok_of 𝓛 Two refusal.the_row (record { ptr = p }, r) pair) $ tells ! Ensured (refl, refl, tt, refl, refl, refl) $ spends ! 1 $
     returns ! (look_at ! 0 refl) $ free_all ! refl $ keep ! (3 ∷ 0 ∷ 2 ∷ 1 ∷ []) $ by ! (leaves 𝓛 goal kept_of c y val (Ok (record { ptr = p }, r)) (tt, tt) (tt, tt)))
     (λ e. let val : Val = live 1 (vcons (vstruct vnil) vnil) in let good : WT val = (record { fits = lit< tt }, (tt, tt)) in let F : Fml = refusal.the_row.own_val (record {}) (vstruct vnil ∷ []) in
     lands_as ! e refl (Answer-typed false 0 0) $ first ! $ switches_on ! (get_tag ! (vrt ! refl (fld ! refl (stop !))) (all_of_it !)) $ exec ! 𝓣.C 𝓣.Λ locals (arm_body 1 both) Then $

@@ -2,7 +2,7 @@
 use Rattle.mem_blocks.proofs.Walks.{◌≡◌, ℕ, [], ◌∷◌, length, vunit, sym, refl, Ty, a_type, dcons, dnil, named, ty_ptr, Val, vptr, inst_fn, bare, SProp, Lft, Share, Fml, ftrue, fsep, flft, Incl-trans, ‵, raw, ◌⊛◌, later, given, learn, ◌$◌}
 use Rattle.mem_blocks.proofs.Walks.{◌∵◌, !, qed, by, move, keep, use1, use3, split, join, fsplit, fsplit3, fjoin, fjoin3, await, rewrite, stop, fld, of_opd, no_more, and_then, returns, enter, alloc_all, pass_all, free_all, look_at, get}
 use Rattle.mem_blocks.proofs.Walks.{get_in, sets, lands_as, agg, sub, all_of_it, tables, fact, ◌⊑◌, yes, no, RattleType, owns, types_at, plain, Ptr, Testable, heard, param, bounded, RefOf, shr_vals, shr_Tells, Tuple, calls_at, Stays}
-use Rattle.mem_blocks.proofs.Walks.{stay_dropped, walk_of, Goes-dropped, Good-round, proved, leaves, fm, Block, alive_at, edge, rim, block_owns, block_ty, SLOTS, ptr_good, blank_val, place_val, blank_told, place_told, tells, blank, spends}
+use Rattle.mem_blocks.proofs.Walks.{stay_dropped, walk_of, Goes-dropped, Good-round, proved, leaves, fm, Block, alive_at, edge, rim, block_owns, block_ty, SLOTS, ptr_good, blank_val, place_val, blank_values, place_values, tells, blank, spends}
 use Rattle.mem_blocks.specs.contracts.block.BlockPtr as link
 use Rattle.mem_blocks.specs.contracts.block.Loose as loose
 use denote.Triple.Statement.{Contract}
@@ -20,7 +20,7 @@ tested_spec 𝓤 𝓛 𝓜 𝓡 wired S A L LA ga da dd gl dl met _ metl =
     let kept_of : Stays goal.signature.params goal.kept = (stay_dropped (plain (λ _. Loose)) no, (stay_dropped (RefOf (0 ∷ []) tt (plain (λ _. Z)) (λ _. tt)) yes, (stay_dropped (plain (λ _. BlockPtr)) no, tt))) in
     proved 𝓛 goal kept_of c 𝓜 𝓡 (Goes-dropped 𝓛 3 (plain (λ _. Loose)) no (λ κs x f. refl), (Goes-dropped 𝓛 3 (RefOf (0 ∷ []) tt (plain (λ _. Z)) (λ _. tt)) yes (λ κs x f. refl), (Goes-dropped 𝓛 3 (plain (λ _. BlockPtr)) no (λ κs x f. refl), tt))) (#self at_types) mir
     (code.unfolded 𝓤 H 𝓜 𝓡 wired (S, (A, tt)) da dd dl) (λ κs. ((λ _. blank_val ∷ []), (shr_vals, ((λ x. place_val x.ptr ∷ []), tt))))
-    (λ κs. ((λ x vs so. blank_told (Tuple (R ∷ Z ∷ [])) vs so.0), (shr_Tells (named 0) κs.0 Z, (place_told R, tt)))) (λ κs qs bounds a ghost are.
+    (λ κs. ((λ x vs so. blank_values (Tuple (R ∷ Z ∷ [])) vs so.0), (shr_Tells (named 0) κs.0 Z, (place_values R, tt)))) (λ κs qs bounds a ghost are.
     let y : (walk_of 𝓛 goal kept_of c).Ghost = ((κs, qs, bounds, a, (blank_val ∷ [], (vptr a.1.0.ref_ptr.0 a.1.0.ref_ptr.1 ∷ [], (place_val a.1.1.0.ptr ∷ [], tt)))), ghost) in let Post : Val → SProp 𝓤 = (walk_of 𝓛 goal kept_of c).post y in
     let τ : Ty = bare (block_ty R) in let h : Loose.Denot = a.0 in let place : ℕ × ℕ = a.1.0.ref_ptr in let heap : A.Denot = a.1.0.now in let p : Ptr = a.1.1.0.ptr in let κ : Lft = κs.0 in let q : Share = qs.0 in let token : Ty → Ptr → Fml = ga.dealloc_token heap in
     let others : Fml = fsep (flft κs.1.0 qs.1.0) (fsep (flft κs.1.1.0 qs.1.1.0) (ftrue)) in let Asked : Type 0 = (h.heap ≡ heap) × (h.at ≡ p) × (length h.homes ≡ SLOTS) in let x : Ptr → Block S.Denot = λ u. alive_at u h.next h.words h.homes in

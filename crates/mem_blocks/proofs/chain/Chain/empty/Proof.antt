@@ -15,8 +15,8 @@ empty_spec 𝓤 𝓛 𝓜 𝓡 wired S A L _ ga da dd _ _ =
     (code.unfolded 𝓤 H 𝓜 𝓡 wired (S, (A, tt)) da dd) (λ κs. (shr_vals, tt))
     (λ κs. (shr_Tells (named 0) κs.0 Z, tt)) (λ κs qs bounds a ghost are.
     let y : (walk_of 𝓛 goal kept_of c).Ghost = ((κs, qs, bounds, a, (vptr a.0.ref_ptr.0 a.0.ref_ptr.1 ∷ [], tt)), ghost) in let Post : Val → SProp 𝓤 = (walk_of 𝓛 goal kept_of c).post y in
-    let heap : A.Denot = a.0.now in let r : Chain.Denot = record { marker = record {}; heap = heap; blocks = [] } in let Told : Type 0 = (heap ≡ heap) × (r.blocks ≡ []) in
+    let heap : A.Denot = a.0.now in let r : Chain.Denot = record { marker = record {}; heap = heap; blocks = [] } in let Ensured : Type 0 = (heap ≡ heap) × (r.blocks ≡ []) in
     qed 𝓛 ((raw (alive 𝓛 goal.signature κs qs) ⊛ ‵ (owns (types_at goal.signature.params κs) a y.0.4)) ∷ raw ((c κs a).requires ghost) ∷ []) ∵ split ! $ keep ! (0 ∷ []) $
     enter ! 𝓣.C 𝓣.Λ mir (vptr a.0.ref_ptr.0 a.0.ref_ptr.1 ∷ []) Post $ alloc_all ! (λ l. pass_all ! refl ((tt, tt), tt) $ let locals = env mir.locals l in sets ! (agg ! (no_more !)) refl (tt, tt) $ sets ! (agg ! (and_then ! (get ! refl) (no_more !))) refl (tt, (tt, tt)) $
-    tells ! Told (refl, refl) $ nothing ! $ blank ! (Tuple (R ∷ Z ∷ [])) $ spends ! 1 $
+    tells ! Ensured (refl, refl) $ nothing ! $ blank ! (Tuple (R ∷ Z ∷ [])) $ spends ! 1 $
     returns ! (look_at ! 0 refl) $ free_all ! refl $ keep ! (3 ∷ 0 ∷ 1 ∷ 2 ∷ []) $ by ! (leaves 𝓛 goal kept_of c y blank_val r (tt, tt) (tt, tt))))

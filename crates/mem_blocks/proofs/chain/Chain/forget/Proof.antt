@@ -18,10 +18,10 @@ forget_spec 𝓤 𝓛 𝓜 𝓡 wired S A _ _ ga da dd _ _ =
     (λ κs. (mut_Tells (named 0) κs.0 Chain, tt)) (λ κs qs bounds a n are.
     let y : (walk_of 𝓛 goal kept_of c).Ghost = ((κs, qs, bounds, a, (vptr a.0.ref_ptr.0 a.0.ref_ptr.1 ∷ [], tt)), n) in let Post : Val → SProp 𝓤 = (walk_of 𝓛 goal kept_of c).post y in
     let b' : ℕ = a.0.ref_ptr.0 in let o' : ℕ = a.0.ref_ptr.1 in let h : Chain.Denot = a.0.now in let bs : List (Block S.Denot) = h.blocks in let token : Ty → Ptr → Fml = ga.dealloc_token h.heap in
-    let Asked : Type 0 = AllGone (take n bs) in let others : Fml = fsep (flft κs.1.0 qs.1.0) (fsep (flft κs.1.1.0 qs.1.1.0) (ftrue)) in let h' : Chain.Denot = record { marker = h.marker; heap = h.heap; blocks = drop n bs } in let Told : Type 0 = (h.heap ≡ h.heap) × (h'.blocks ≡ h'.blocks) in
+    let Asked : Type 0 = AllGone (take n bs) in let others : Fml = fsep (flft κs.1.0 qs.1.0) (fsep (flft κs.1.1.0 qs.1.1.0) (ftrue)) in let h' : Chain.Denot = record { marker = h.marker; heap = h.heap; blocks = drop n bs } in let Ensured : Type 0 = (h.heap ≡ h.heap) × (h'.blocks ≡ h'.blocks) in
     qed 𝓛 (((‵ (flft κs.0 qs.0) ⊛ ‵ others) ⊛ ‵ (owns (types_at goal.signature.params κs) a y.0.4)) ∷ raw (fact 𝓤 _) ∷ raw (fact 𝓤 _) ∷ raw (fact 𝓤 Asked) ∷ []) ∵
     keep ! (3 ∷ 0 ∷ []) $ heard ! Asked (λ asked. takes_ref ! $
     enter ! 𝓣.C 𝓣.Λ mir (vptr b' o' ∷ []) Post $ alloc_all ! (λ l. pass_all ! refl ((tt, tt), tt) $ let locals = env mir.locals l in
     opens_ref ! tt Chain h b' o' (λ ts. refl) (λ ts. use1 𝓛 (‵ (chain_owns R token (drop n bs))) (blocks.forgets 𝓛 R token n bs) $ shuts_ref ! tt Chain h' ts b' o' 0 refl refl $ sets ! (of_opd ! (unit_lit !)) refl (tt, tt) $
-    tells ! Told (refl, refl) $ feq_i ! (List Val) (vunit ∷ []) (vunit ∷ []) refl $
+    tells ! Ensured (refl, refl) $ feq_i ! (List Val) (vunit ∷ []) (vunit ∷ []) refl $
     returns ! (look_at ! 0 refl) $ free_all ! refl $ keep ! (2 ∷ 3 ∷ 0 ∷ 1 ∷ []) $ by ! (leaves 𝓛 goal kept_of c y vunit tt (h', tt) (tt, tt))))))

@@ -2,7 +2,7 @@
 use Rattle.mem_blocks.proofs.Walks.{ℕ, ◌+◌, ◌*◌, ◌^◌, ◌<◌, ◌≤◌, List, [], ◌∷◌, sym, refl, ap, subst, arith, w64, Some, mul-le-mul_right, a_type, dcons, dnil, named, Val, vint, vptr, inst_fn, SProp, Fml, ftrue, fsep, flft, ‵, raw, ◌⊛◌, given, at_ret}
 use Rattle.mem_blocks.proofs.Walks.{◌$◌, ◌∵◌, !, qed, by, move, keep, drop, use1, split, join, fsplit, fjoin, feq_i, learn, stop, fld, addr, size_word, of_opd, bin, first, blocks, exec, returns, alloc_all, pass_all, free_all, look_at, get, get_in}
 use Rattle.mem_blocks.proofs.Walks.{through, sets, sets_last, is, env, sub, all_of_it, tables, fact, yes, no, RattleType, owns, types_at, plain, mem, Ptr, block_of, count_of, InBlock, unhide, heard, param, bounded, RefOf, u64, usize, shr_vals}
-use Rattle.mem_blocks.proofs.Walks.{shr_Tells, uint_vals, uint_Tells, Stays, stay_dropped, walk_of, Goes-dropped, proved, leaves, Block, Lives, Rests, Small, slots_at, SLOTS, after, place_val, place_told, full_product, tells, spends, enters_at}
+use Rattle.mem_blocks.proofs.Walks.{shr_Tells, uint_vals, uint_Tells, Stays, stay_dropped, walk_of, Goes-dropped, proved, leaves, Block, Lives, Rests, Small, slots_at, SLOTS, after, place_val, place_values, full_product, tells, spends, enters_at}
 use denote.{Memory.shared_of, Opens.hide}
 use Rattle.mem_blocks.specs.contracts.block.BlockPtr as link
 use Rattle.mem_blocks.specs.contracts.chain.Chain as chain
@@ -20,7 +20,7 @@ get_spec 𝓤 𝓛 𝓜 𝓡 wired S A L _ ga da dd _ _ =
       (Goes-dropped 𝓛 3 (plain (λ _. u64)) yes (λ κs x f. refl), (Goes-dropped 𝓛 3 (plain (λ _. BlockPtr)) no (λ κs x f. refl), (Goes-dropped 𝓛 3 (plain (λ _. usize)) yes (λ κs x f. refl), tt))),
     ) (#self at_types) mir
     (code.unfolded 𝓤 H 𝓜 𝓡 wired (S, (A, tt)) da dd) (λ κs. (shr_vals, (uint_vals w64, ((λ x. place_val x.ptr ∷ []), (uint_vals w64, tt)))))
-    (λ κs. (shr_Tells (named 0) κs.0 Chain, (uint_Tells w64, (place_told R, (uint_Tells w64, tt))))) (λ κs qs bounds a ghost are.
+    (λ κs. (shr_Tells (named 0) κs.0 Chain, (uint_Tells w64, (place_values R, (uint_Tells w64, tt))))) (λ κs qs bounds a ghost are.
     let y : (walk_of 𝓛 goal kept_of c).Ghost = ((κs, qs, bounds, a, (vptr a.0.ref_ptr.0 a.0.ref_ptr.1 ∷ [], (vint w64 a.1.0 ∷ [], (place_val a.1.1.0.ptr ∷ [], (vint w64 a.1.1.1.0 ∷ [], tt))))), ghost) in let Post : Val → SProp 𝓤 = (walk_of 𝓛 goal kept_of c).post y in
     let bs : List (Block S.Denot) = a.0.now.blocks in let k : ℕ = a.1.0 in let p : Ptr = a.1.1.0.ptr in let j : ℕ = a.1.1.1.0 in
     let Asked : Type 0 = InBlock p × Lives bs k p × ((x : S.Denot) × Rests bs k j (Some x)) in let others : Fml = fsep (flft κs.1.0 qs.1.0) (fsep (flft κs.1.1.0 qs.1.1.0) (ftrue)) in
@@ -37,5 +37,5 @@ get_spec 𝓤 𝓛 𝓜 𝓡 wired S A L _ ga da dd _ _ =
     sets ! (is ! (bin ! (get ! refl) (size_word !) (record { fits = subst (λ (n : ℕ). n < 2 ^ 64) (sym (full_product j sz small)) small })) (ap (vint w64) (full_product j sz small))) refl (tt, record { fits = small }) $ sets ! (bin ! (get ! refl) (get ! refl) tt) refl (tt, tt) $
     sets_last ! (addr ! (through ! refl (stop !))) refl (tt, tt) $ exec ! 𝓣.C 𝓣.Λ locals (after 1 mir.body) (at_ret locals Post) $ sets ! (of_opd ! (get ! refl)) refl (tt, tt) $
     feq_i ! (List Val) (vptr b e ∷ []) (vptr b e ∷ []) refl $ fjoin ! $ move ! (1 ∷ 2 ∷ []) $ join ! $ spends ! 4 $ tells ! (Rests bs k j (Some x)) asked.2.1 $
-    -- [what is told; what is left of the parameters; the tokens; the value]
+    -- [what is ensured; what is left of the parameters; the tokens; the value]
     returns ! (look_at ! 0 refl) $ free_all ! refl $ keep ! (2 ∷ 1 ∷ 3 ∷ 0 ∷ []) $ by ! (leaves 𝓛 goal kept_of c y (vptr b e) (record { ref_ptr = (b, e); now = x }) (tt, (tt, (tt, (tt, tt)))) (tt, (tt, (tt, (tt, tt)))))))))

@@ -1,7 +1,7 @@
 -- `lift` takes a block out of the chain.
 use Rattle.mem_blocks.proofs.Walks.{◌≡◌, ℕ, List, [], ◌∷◌, refl, w64, Ty, a_type, dcons, dnil, named, ty_ptr, Val, vint, vptr, inst_fn, SProp, Fml, ftrue, fsep, flft, ‵, raw, ◌⊛◌, ◌$◌, ◌∵◌, !, qed, by, move, keep, use1, split, join, rewrite, no_more, and_then, returns}
 use Rattle.mem_blocks.proofs.Walks.{enter, alloc_all, pass_all, free_all, look_at, get, sets, env, agg, tables, fact, yes, no, RattleType, owns, types_at, plain, Ptr, heard, param, bounded, u64, mut_vals, mut_Tells, uint_vals, uint_Tells, Tuple, Stays, stay_dropped}
-use Rattle.mem_blocks.proofs.Walks.{stay_ref, walk_of, Goes-dropped, Goes-ref, Good-round, proved, leaves, Block, alive_at, block, Lives, without, block_owns, chain_owns, ptr_good, blank_val, place_val, place_told, tells, blank, takes_ref, opens_ref, shuts_ref}
+use Rattle.mem_blocks.proofs.Walks.{stay_ref, walk_of, Goes-dropped, Goes-ref, Good-round, proved, leaves, Block, alive_at, block, Lives, without, block_owns, chain_owns, ptr_good, blank_val, place_val, place_values, tells, blank, takes_ref, opens_ref, shuts_ref}
 use Rattle.mem_blocks.specs.contracts.block.BlockPtr as link
 use Rattle.mem_blocks.specs.contracts.block.Loose as loose
 use Rattle.mem_blocks.specs.contracts.chain.Chain as chain
@@ -17,7 +17,7 @@ lift_spec 𝓤 𝓛 𝓜 𝓡 wired S A L _ ga da dd _ _ =
     let kept_of : Stays goal.signature.params goal.kept = (stay_ref (0 ∷ []) tt (plain (λ _. Chain)), (stay_dropped (plain (λ _. u64)) yes, (stay_dropped (plain (λ _. BlockPtr)) no, tt))) in
     proved 𝓛 goal kept_of c 𝓜 𝓡 (Goes-ref 𝓛 3 0 tt (plain (λ _. Chain)), (Goes-dropped 𝓛 3 (plain (λ _. u64)) yes (λ κs x f. refl), (Goes-dropped 𝓛 3 (plain (λ _. BlockPtr)) no (λ κs x f. refl), tt))) (#self at_types) mir
     (code.unfolded 𝓤 H 𝓜 𝓡 wired (S, (A, tt)) da dd) (λ κs. (mut_vals, (uint_vals w64, ((λ x. place_val x.ptr ∷ []), tt))))
-    (λ κs. (mut_Tells (named 0) κs.0 Chain, (uint_Tells w64, (place_told R, tt)))) (λ κs qs bounds a ghost are.
+    (λ κs. (mut_Tells (named 0) κs.0 Chain, (uint_Tells w64, (place_values R, tt)))) (λ κs qs bounds a ghost are.
     let y : (walk_of 𝓛 goal kept_of c).Ghost = ((κs, qs, bounds, a, (vptr a.0.ref_ptr.0 a.0.ref_ptr.1 ∷ [], (vint w64 a.1.0 ∷ [], (place_val a.1.1.0.ptr ∷ [], tt)))), ghost) in let Post : Val → SProp 𝓤 = (walk_of 𝓛 goal kept_of c).post y in
     let b' : ℕ = a.0.ref_ptr.0 in let o' : ℕ = a.0.ref_ptr.1 in let h : Chain.Denot = a.0.now in let bs : List (Block S.Denot) = h.blocks in let token : Ty → Ptr → Fml = ga.dealloc_token h.heap in let k : ℕ = a.1.0 in let p : Ptr = a.1.1.0.ptr in let x : Block S.Denot = block bs k in
     let Asked : Type 0 = Lives bs k p in let others : Fml = fsep (flft κs.1.0 qs.1.0) (fsep (flft κs.1.1.0 qs.1.1.0) (ftrue)) in let h' : Chain.Denot = record { marker = h.marker; heap = h.heap; blocks = without bs k } in

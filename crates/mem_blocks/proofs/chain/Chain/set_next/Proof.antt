@@ -2,7 +2,7 @@
 use Rattle.mem_blocks.proofs.Walks.{◌≡◌, ℕ, ◌+◌, List, [], ◌∷◌, refl, w64, Ty, a_type, dcons, dnil, named, ty_ptr, Val, vunit, vint, vptr, inst_fn, SProp, all, Fml, ftrue, fsep, flft, ‵, raw, ◌⊛◌, at_ret, ◌$◌, ◌∵◌, !, qed, by, keep, use1}
 use Rattle.mem_blocks.proofs.Walks.{split, feq_i, stop, from, fld, hop, unit_lit, of_opd, first, blocks, exec, returns, assigns_last, store, alloc_all, pass_all, free_all, look_at, look_in_at, get_in, sets, env, sub, all_of_it, tables}
 use Rattle.mem_blocks.proofs.Walks.{fact, yes, no, RattleType, owns, types_at, plain, Ptr, block_of, count_of, InBlock, heard, param, bounded, u64, mut_vals, mut_Tells, uint_vals, uint_Tells, Stays, stay_dropped, stay_ref, walk_of}
-use Rattle.mem_blocks.proofs.Walks.{Goes-dropped, Goes-ref, cell, Good-round, proved, leaves, Block, block, Lives, with_next, chain_owns, after, ptr_good, place_val, place_told, tells, takes_ref, puts_back, opens_ref, shuts_ref, enters_at}
+use Rattle.mem_blocks.proofs.Walks.{Goes-dropped, Goes-ref, cell, Good-round, proved, leaves, Block, block, Lives, with_next, chain_owns, after, ptr_good, place_val, place_values, tells, takes_ref, puts_back, opens_ref, shuts_ref, enters_at}
 use Rattle.mem_blocks.specs.contracts.block.BlockPtr as link
 use Rattle.mem_blocks.specs.contracts.chain.Chain as chain
 use Rattle.mem_blocks.proofs.Blocks as blocks
@@ -17,11 +17,11 @@ set_next_spec 𝓤 𝓛 𝓜 𝓡 wired S A L _ ga da dd _ _ =
     let kept_of : Stays goal.signature.params goal.kept = (stay_ref (0 ∷ []) tt (plain (λ _. Chain)), (stay_dropped (plain (λ _. u64)) yes, (stay_dropped (plain (λ _. BlockPtr)) no, (stay_dropped (plain (λ _. BlockPtr)) no, tt)))) in
     proved 𝓛 goal kept_of c 𝓜 𝓡 (Goes-ref 𝓛 3 0 tt (plain (λ _. Chain)), (Goes-dropped 𝓛 3 (plain (λ _. u64)) yes (λ κs x f. refl), (Goes-dropped 𝓛 3 (plain (λ _. BlockPtr)) no (λ κs x f. refl), (Goes-dropped 𝓛 3 (plain (λ _. BlockPtr)) no (λ κs x f. refl), tt)))) (#self at_types) mir
     (code.unfolded 𝓤 H 𝓜 𝓡 wired (S, (A, tt)) da dd) (λ κs. (mut_vals, (uint_vals w64, ((λ x. place_val x.ptr ∷ []), ((λ x. place_val x.ptr ∷ []), tt)))))
-    (λ κs. (mut_Tells (named 0) κs.0 Chain, (uint_Tells w64, (place_told R, (place_told R, tt))))) (λ κs qs bounds a ghost are.
+    (λ κs. (mut_Tells (named 0) κs.0 Chain, (uint_Tells w64, (place_values R, (place_values R, tt))))) (λ κs qs bounds a ghost are.
     let y : (walk_of 𝓛 goal kept_of c).Ghost = ((κs, qs, bounds, a, (vptr a.0.ref_ptr.0 a.0.ref_ptr.1 ∷ [], (vint w64 a.1.0 ∷ [], (place_val a.1.1.0.ptr ∷ [], (place_val a.1.1.1.0.ptr ∷ [], tt))))), ghost) in let Post : Val → SProp 𝓤 = (walk_of 𝓛 goal kept_of c).post y in
     let b' : ℕ = a.0.ref_ptr.0 in let o' : ℕ = a.0.ref_ptr.1 in let h : Chain.Denot = a.0.now in let bs : List (Block S.Denot) = h.blocks in let token : Ty → Ptr → Fml = ga.dealloc_token h.heap in let k : ℕ = a.1.0 in let p : Ptr = a.1.1.0.ptr in let n : Ptr = a.1.1.1.0.ptr in
     let Asked : Type 0 = InBlock p × Lives bs k p in let others : Fml = fsep (flft κs.1.0 qs.1.0) (fsep (flft κs.1.1.0 qs.1.1.0) (ftrue)) in let h' : Chain.Denot = record { marker = h.marker; heap = h.heap; blocks = with_next bs k n } in
-    let e : ℕ = count_of p + 0 in let b : ℕ = block_of p in let Told : Type 0 = (h.heap ≡ h.heap) × (h'.blocks ≡ h'.blocks) in let Again = blocks.Relinked 𝓛 R token bs k p in
+    let e : ℕ = count_of p + 0 in let b : ℕ = block_of p in let Ensured : Type 0 = (h.heap ≡ h.heap) × (h'.blocks ≡ h'.blocks) in let Again = blocks.Relinked 𝓛 R token bs k p in
     qed 𝓛 (((‵ (flft κs.0 qs.0) ⊛ ‵ others) ⊛ ‵ (owns (types_at goal.signature.params κs) a y.0.4)) ∷ raw (fact 𝓤 _) ∷ raw (fact 𝓤 _) ∷ raw (fact 𝓤 Asked) ∷ []) ∵
     keep ! (3 ∷ 0 ∷ []) $ heard ! Asked (λ asked. takes_ref ! $
     enters_at ! p asked.0 𝓣.C 𝓣.Λ mir (λ u. vptr a.0.ref_ptr.0 a.0.ref_ptr.1 ∷ vint w64 a.1.0 ∷ place_val u ∷ place_val a.1.1.1.0.ptr ∷ []) Post $
@@ -30,5 +30,5 @@ set_next_spec 𝓤 𝓛 𝓜 𝓡 wired S A L _ ga da dd _ _ =
     opens_ref ! tt Chain h b' o' (λ ts. refl) (λ ts. use1 𝓛 (‵ (cell b e (block bs k).next) ⊛ raw (all 𝓤 Again)) (blocks.link_at 𝓛 R token bs k p asked.1) $ split ! $ first ! $ blocks ! $
     assigns_last ! (of_opd ! (get_in ! (fld ! refl (stop !)) (sub ! 0 refl (all_of_it !)))) (from ! (fld ! refl (hop ! (look_in_at ! 3 (sub ! 0 refl (all_of_it !))) (fld ! refl (stop !))))) (store ! 0 refl (ptr_good n)) $
     exec ! 𝓣.C 𝓣.Λ locals (after 1 mir.body) (at_ret locals Post) $ sets ! (of_opd ! (unit_lit !)) refl (tt, tt) $ puts_back ! (cell b e) (λ x. chain_owns R token (with_next bs k x)) n $ shuts_ref ! tt Chain h' ts b' o' 3 refl refl $
-    tells ! Told (refl, refl) $ feq_i ! (List Val) (vunit ∷ []) (vunit ∷ []) refl $
+    tells ! Ensured (refl, refl) $ feq_i ! (List Val) (vunit ∷ []) (vunit ∷ []) refl $
     returns ! (look_at ! 0 refl) $ free_all ! refl $ keep ! (2 ∷ 3 ∷ 0 ∷ 1 ∷ []) $ by ! (leaves 𝓛 goal kept_of c y vunit tt (h', (tt, (tt, (tt, tt)))) (tt, (tt, (tt, (tt, tt)))))))))

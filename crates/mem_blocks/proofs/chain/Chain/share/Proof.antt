@@ -1,7 +1,7 @@
 -- `share` begins the web's lifetime, and lends the blocks to its invariant.
 use Rattle.mem_blocks.proofs.Walks.{◌≡◌, List, [], ◌∷◌, refl, None, Ty, a_type, dcons, dnil, named, Val, vptr, vstruct, vcons, vnil, inst_fn, Coded, SProp, Fml, ‵, raw, ◌⊛◌, some, later, ◌$◌, ◌∵◌, !, qed, by, move, keep, drop, use1, split, join, fsplit, fjoin}
 use Rattle.mem_blocks.proofs.Walks.{fjoin3, fpack, pick, await, feq_i, no_more, and_then, returns, enter, alloc_all, pass_all, free_all, look_at, get, sets, env, agg, tables, fact, yes, no, RattleType, Valss, owns, types_at, plain, Ptr, RawPtr, nothing, heard, param}
-use Rattle.mem_blocks.proofs.Walks.{bounded, RefOf, shr_vals, shr_Tells, within, Tuple, tuple_type, alive, Stays, stay_dropped, walk_of, Goes-dropped, proved, leaves, Block, sitter, WebId, seat_owns, web_owns, blank_val, blank_told, tells, blank, spends}
+use Rattle.mem_blocks.proofs.Walks.{bounded, RefOf, shr_vals, shr_Tells, within, Tuple, tuple_type, alive, Stays, stay_dropped, walk_of, Goes-dropped, proved, leaves, Block, sitter, WebId, seat_owns, web_owns, blank_val, blank_values, tells, blank, spends}
 use denote.Struct.Declared as declared
 use Rattle.mem_blocks.specs.contracts.web.Web as web
 use Rattle.mem_blocks.specs.contracts.web.Seat as seat
@@ -20,7 +20,7 @@ share_spec 𝓤 𝓛 𝓜 𝓡 wired S A V K P _ _ _ _ _ ga da dd g d _ _ _ =
     let kept_of : Stays goal.signature.params goal.kept = (stay_dropped (plain (λ _. Chain)) no, (stay_dropped (RefOf (0 ∷ []) tt (plain (λ _. X)) (λ _. tt)) yes, tt)) in
     proved 𝓛 goal kept_of c 𝓜 𝓡 (Goes-dropped 𝓛 6 (plain (λ _. Chain)) no (λ κs x f. refl), (Goes-dropped 𝓛 6 (RefOf (0 ∷ []) tt (plain (λ _. X)) (λ _. tt)) yes (λ κs x f. refl), tt)) (#self at_types) mir
     (code.unfolded 𝓤 H 𝓜 𝓡 wired (S, (A, (V, (K, (P, tt))))) da dd d) (λ κs. ((λ _. blank_val ∷ []), (shr_vals, tt)))
-    (λ κs. ((λ x vs so. blank_told (Tuple (R ∷ Z ∷ [])) vs so.0), (shr_Tells (named 0) κs.0 X, tt))) (λ κs qs bounds a ghost are.
+    (λ κs. ((λ x vs so. blank_values (Tuple (R ∷ Z ∷ [])) vs so.0), (shr_Tells (named 0) κs.0 X, tt))) (λ κs qs bounds a ghost are.
     let y : (walk_of 𝓛 goal kept_of c).Ghost = ((κs, qs, bounds, a, (blank_val ∷ [], (vptr a.1.0.ref_ptr.0 a.1.0.ref_ptr.1 ∷ [], tt))), ghost) in let Post : Val → SProp 𝓤 = (walk_of 𝓛 goal kept_of c).post y in
     let key : K.Denot = a.1.0.now in let x : Chain.Denot = a.0 in let heap : A.Denot = x.heap in let token : Ty → Ptr → Fml = ga.dealloc_token heap in let holds = g.holds key in
     let bs : List (Block S.Denot) = x.blocks in let v : V.Denot = g.first key in let Good : Type 0 = holds record { blocks = bs; views = v ∷ [] } in let pair : Val = vstruct (vcons blank_val (vcons blank_val vnil)) in

@@ -2,7 +2,7 @@
 use Rattle.mem_blocks.proofs.Walks.{◌≡◌, ℕ, ◌+◌, ◌*◌, ◌^◌, ◌<◌, List, [], ◌∷◌, refl, arith, w64, Ty, a_type, dcons, dnil, named, ty_int, Val, vint, vptr, has_ty, WT, inst_fn, full_share, SProp, all, Fml, ftrue, fsep, flft, ‵, raw, ◌⊛◌, given, at_ret, ◌$◌, HoldsWord}
 use Rattle.mem_blocks.proofs.Walks.{◌∵◌, !, qed, by, keep, use1, split, learn, rewrite, stop, from, fld, hop, load, addr, lit, of_opd, bin, first, blocks, exec, returns, look, alloc_all, pass_all, free_all, look_at, look_in_at, get, through, sets, sets_last}
 use Rattle.mem_blocks.proofs.Walks.{env, sub, all_of_it, tables, fact, yes, no, RattleType, owns, types_at, plain, Ptr, block_of, count_of, InBlock, heard, param, bounded, u64, usize, mut_vals, mut_Tells, uint_vals, uint_Tells, Stays, stay_dropped, stay_ref}
-use Rattle.mem_blocks.proofs.Walks.{walk_of, Goes-dropped, Goes-ref, word, proved, leaves, Block, word_of, with_word, chain_owns, SLOTS, after, place_val, place_told, tells, numbers, takes_ref, puts_back, opens_ref, shuts_ref, enters_at}
+use Rattle.mem_blocks.proofs.Walks.{walk_of, Goes-dropped, Goes-ref, word, proved, leaves, Block, word_of, with_word, chain_owns, SLOTS, after, place_val, place_values, tells, numbers, takes_ref, puts_back, opens_ref, shuts_ref, enters_at}
 use Rattle.mem_blocks.specs.contracts.block.BlockPtr as link
 use Rattle.mem_blocks.specs.contracts.chain.Chain as chain
 use Rattle.mem_blocks.proofs.Blocks as blocks
@@ -17,11 +17,11 @@ word_spec 𝓤 𝓛 𝓜 𝓡 wired S A L _ ga da dd _ _ =
     let kept_of : Stays goal.signature.params goal.kept = (stay_ref (0 ∷ []) tt (plain (λ _. Chain)), (stay_dropped (plain (λ _. u64)) yes, (stay_dropped (plain (λ _. BlockPtr)) no, (stay_dropped (plain (λ _. usize)) yes, tt)))) in
     proved 𝓛 goal kept_of c 𝓜 𝓡 (Goes-ref 𝓛 3 0 tt (plain (λ _. Chain)), (Goes-dropped 𝓛 3 (plain (λ _. u64)) yes (λ κs x f. refl), (Goes-dropped 𝓛 3 (plain (λ _. BlockPtr)) no (λ κs x f. refl), (Goes-dropped 𝓛 3 (plain (λ _. usize)) yes (λ κs x f. refl), tt)))) (#self at_types) mir
     (code.unfolded 𝓤 H 𝓜 𝓡 wired (S, (A, tt)) da dd) (λ κs. (mut_vals, (uint_vals w64, ((λ x. place_val x.ptr ∷ []), (uint_vals w64, tt)))))
-    (λ κs. (mut_Tells (named 0) κs.0 Chain, (uint_Tells w64, (place_told R, (uint_Tells w64, tt))))) (λ κs qs bounds a ghost are.
+    (λ κs. (mut_Tells (named 0) κs.0 Chain, (uint_Tells w64, (place_values R, (uint_Tells w64, tt))))) (λ κs qs bounds a ghost are.
     let y : (walk_of 𝓛 goal kept_of c).Ghost = ((κs, qs, bounds, a, (vptr a.0.ref_ptr.0 a.0.ref_ptr.1 ∷ [], (vint w64 a.1.0 ∷ [], (place_val a.1.1.0.ptr ∷ [], (vint w64 a.1.1.1.0 ∷ [], tt))))), ghost) in let Post : Val → SProp 𝓤 = (walk_of 𝓛 goal kept_of c).post y in
     let b' : ℕ = a.0.ref_ptr.0 in let o' : ℕ = a.0.ref_ptr.1 in let h : Chain.Denot = a.0.now in let bs : List (Block S.Denot) = h.blocks in let token : Ty → Ptr → Fml = ga.dealloc_token h.heap in let k : ℕ = a.1.0 in let p : Ptr = a.1.1.0.ptr in let i : ℕ = a.1.1.1.0 in
     let Asked : Type 0 = InBlock p × HoldsWord bs k p i in let others : Fml = fsep (flft κs.1.0 qs.1.0) (fsep (flft κs.1.1.0 qs.1.1.0) (ftrue)) in
-    let n : ℕ = word_of bs k i in let e : ℕ = i * 8 + (count_of p + 8) in let b : ℕ = block_of p in let Told : Type 0 = (h ≡ h) × (n ≡ n) in let Again = blocks.Reworded 𝓛 R token bs k p i in
+    let n : ℕ = word_of bs k i in let e : ℕ = i * 8 + (count_of p + 8) in let b : ℕ = block_of p in let Ensured : Type 0 = (h ≡ h) × (n ≡ n) in let Again = blocks.Reworded 𝓛 R token bs k p i in
     qed 𝓛 (((‵ (flft κs.0 qs.0) ⊛ ‵ others) ⊛ ‵ (owns (types_at goal.signature.params κs) a y.0.4)) ∷ raw (fact 𝓤 _) ∷ raw (fact 𝓤 _) ∷ raw (fact 𝓤 Asked) ∷ []) ∵
     keep ! (3 ∷ 0 ∷ []) $ heard ! Asked (λ asked. takes_ref ! $
     enters_at ! p asked.0 𝓣.C 𝓣.Λ mir (λ u. vptr a.0.ref_ptr.0 a.0.ref_ptr.1 ∷ vint w64 a.1.0 ∷ place_val u ∷ vint w64 a.1.1.1.0 ∷ []) Post $ alloc_all ! (λ l.
@@ -31,5 +31,5 @@ word_spec 𝓤 𝓛 𝓜 𝓡 wired S A L _ ga da dd _ _ =
     let small : i * 8 < 2 ^ 64 = omega (arith, near) in first ! $ blocks ! $ sets ! (addr ! (from ! (fld ! refl (hop ! (look_in_at ! 3 (sub ! 0 refl (all_of_it !))) (fld ! refl (stop !)))))) refl (tt, tt) $
     sets ! (bin ! (get ! refl) (lit ! tt) (record { fits = small })) refl (tt, record { fits = small }) $ sets ! (bin ! (get ! refl) (get ! refl) tt) refl (tt, tt) $
     sets_last ! (of_opd ! (load ! (through ! refl (stop !)) (look ! 0 refl))) refl typed $ exec ! 𝓣.C 𝓣.Λ locals (after 1 mir.body) (at_ret locals Post) $ sets ! (of_opd ! (get ! refl)) refl typed $ puts_back ! (word b e) (λ x. chain_owns R token (with_word bs k i x)) n $
-    rewrite ! 0 (λ (xs : List (Block S.Denot)). ‵ (chain_owns R token xs)) (blocks.same_word 𝓛 R token bs k i) refl $ shuts_ref ! tt Chain h ts b' o' 3 refl refl $ tells ! Told (refl, refl) $ numbers ! n typed.1.fits $
+    rewrite ! 0 (λ (xs : List (Block S.Denot)). ‵ (chain_owns R token xs)) (blocks.same_word 𝓛 R token bs k i) refl $ shuts_ref ! tt Chain h ts b' o' 3 refl refl $ tells ! Ensured (refl, refl) $ numbers ! n typed.1.fits $
     returns ! (look_at ! 0 refl) $ free_all ! refl $ keep ! (2 ∷ 3 ∷ 0 ∷ 1 ∷ []) $ by ! (leaves 𝓛 goal kept_of c y (vint w64 n) n (h, (tt, (tt, (tt, tt)))) (tt, (tt, (tt, (tt, tt)))))))))))

@@ -2,7 +2,7 @@
 use Rattle.mem_blocks.proofs.Walks.{◌≡◌, ℕ, List, [], ◌∷◌, sym, refl, subst, lit<, w64, Ty, a_type, dcons, dnil, named, ty_unit, Val, vunit, vint, vptr, has_ty, WT, inst_fn, bare, SProp, Lft, Share, Fml, ftrue, fsep, froom, flft, Incl-trans, align, ‵, raw, ◌⊛◌, given, later, at_ret}
 use Rattle.mem_blocks.proofs.Walks.{◌$◌, ◌∵◌, !, qed, by, move, keep, drop, use1, use3, split, join, fsplit, fsplit3, fjoin, fpick, fpack, learn, await, rewrite, feq_i, stop, fld, lit, unit_lit, of_opd, no_more, and_then, first, blocks, exec, returns, alloc_all, pass_all, free_all}
 use Rattle.mem_blocks.proofs.Walks.{look_at, get, get_in, sets, lands_last, env, sub, all_of_it, tables, fact, ◌⊑◌, yes, no, RattleType, owns, types_at, plain, Ptr, block_ptr, block_of, count_of, at_block, nothing, heard, param, bounded, RefOf, usize, shr_vals, shr_Tells, uint_vals}
-use Rattle.mem_blocks.proofs.Walks.{uint_Tells, Tuple, calls_at_last, Stays, stay_dropped, walk_of, Goes-dropped, proved, leaves, fm, Block, alive_at, Sized, hub_ty, hub_rim, head_of, hub_size, block_owns, after, blank_val, place_val, blank_told, place_told, spends, enters_at}
+use Rattle.mem_blocks.proofs.Walks.{uint_Tells, Tuple, calls_at_last, Stays, stay_dropped, walk_of, Goes-dropped, proved, leaves, fm, Block, alive_at, Sized, hub_ty, hub_rim, head_of, hub_size, block_owns, after, blank_val, place_val, blank_values, place_values, spends, enters_at}
 use Rattle.std.proofs.alloc.Calls.{Al as Handle, at_gives, Gives, Gives-goes, Gives-Gives}
 use Rattle.mem_blocks.specs.contracts.block.BlockPtr as link
 use Rattle.mem_blocks.specs.contracts.block.Loose as loose
@@ -34,7 +34,7 @@ free_spec 𝓤 𝓛 𝓜 𝓡 wired S A L LA ga da dd met _ =
       ),
     ) (#self at_types) mir
     (code.unfolded 𝓤 H 𝓜 𝓡 wired (S, (A, tt)) da dd) (λ κs. ((λ _. blank_val ∷ []), (shr_vals, ((λ x. place_val x.ptr ∷ []), ((λ _. blank_val ∷ []), ((λ _. blank_val ∷ []), (uint_vals w64, tt)))))))
-    (λ κs. ((λ x vs so. blank_told (Tuple (R ∷ Z ∷ [])) vs so.0), (shr_Tells (named 0) κs.0 Z, (place_told R, ((λ x vs so. blank_told (Tuple (R ∷ Z ∷ [])) vs so.0), ((λ x vs so. blank_told (Tuple (R ∷ Z ∷ [])) vs so.0), (uint_Tells w64, tt))))))) (λ κs qs bounds a ghost are.
+    (λ κs. ((λ x vs so. blank_values (Tuple (R ∷ Z ∷ [])) vs so.0), (shr_Tells (named 0) κs.0 Z, (place_values R, ((λ x vs so. blank_values (Tuple (R ∷ Z ∷ [])) vs so.0), ((λ x vs so. blank_values (Tuple (R ∷ Z ∷ [])) vs so.0), (uint_Tells w64, tt))))))) (λ κs qs bounds a ghost are.
     let y : (walk_of 𝓛 goal kept_of c).Ghost =
     ((κs, qs, bounds, a, (blank_val ∷ [], (vptr a.1.0.ref_ptr.0 a.1.0.ref_ptr.1 ∷ [], (place_val a.1.1.0.ptr ∷ [], (blank_val ∷ [], (blank_val ∷ [], (vint w64 a.1.1.1.1.1.0 ∷ [], tt))))))), ghost) in
     let Post : Val → SProp 𝓤 = (walk_of 𝓛 goal kept_of c).post y in

@@ -4,7 +4,7 @@ use Rattle.mem_blocks.proofs.Walks.{◌<◌, ◌≤◌, List, [], ◌∷◌, sta
 use Rattle.mem_blocks.proofs.Walks.{◌++◌, sym, refl, ap, assigns_last, init, Option, Some, None, of_opd, bin, first, subst, arith, w64, full_share, Coded, suffices, rewrite, param_laws, usize}
 use Rattle.mem_blocks.proofs.Walks.{mul-le-mul_right, RattleType, owns, inst_fn, bare, Member, Stays, proved_at, leaves, Hand, SLOTS, after, place_val}
 use Rattle.mem_blocks.proofs.Walks.{a_type, dcons, dnil, at_ret, ◌$◌, ◌∵◌, !, qed, by, move, keep, unit_lit, size_word, SProp, ent, id⊢, Fml, full_product, tells, alloc_all, pass_all, slots_at, hand_owns}
-use Rattle.mem_blocks.proofs.Walks.{Val, vunit, vint, vptr, place_told, enters_at, walk_of, Goes-dropped, Goes-ref, one, gather, fsplit, fsplit3, fjoin, feq_i, stop, fld, addr, free_all, look_at, get, param, bounded, layout}
+use Rattle.mem_blocks.proofs.Walks.{Val, vunit, vint, vptr, place_values, enters_at, walk_of, Goes-dropped, Goes-ref, one, gather, fsplit, fsplit3, fjoin, feq_i, stop, fld, addr, free_all, look_at, get, param, bounded, layout}
 use Rattle.mem_blocks.specs.contracts.block.BlockPtr as link
 use Rattle.mem_blocks.specs.contracts.web.Seat as seat
 use Rattle.mem_blocks.proofs.Blocks as blocks
@@ -28,7 +28,7 @@ put_spec 𝓤 𝓛 𝓜 𝓡 wired S V A L _ _ ga da dd _ _ =
     keep ! (4 ∷ 0 ∷ []) $ heard ! Asked (λ asked. split ! $ split ! $ move ! (2 ∷ []) $ fsplit3 ! $ fsplit3 ! $ move ! (4 ∷ []) $ fsplit3 ! $ keep ! (4 ∷ 5 ∷ 7 ∷ 1 ∷ 8 ∷ []) $
     rewrite ! 3 (λ (ws : List Val). ‵ (R.own_val new ws)) got.1 refl $ let us : Ptr → List Val = λ u. vptr b' o' ∷ place_val u ∷ vint w64 j ∷ vy ∷ [] in let Run : List Val → SProp 𝓤 = λ ws. WpFn 𝓤 H 𝓣.C 𝓣.Λ mir ws Post in
     suffices ! (Run (us p)) (subst (λ (ws : List Val). ent 𝓤 (Run (us p)) (Run ws))
-    (sym (λ i. are.0.0 i ++ (place_told R a.1.0 vss.1.0 are.1.0 i ++ (are.1.1.0.0 i ++ (got.1 i ++ []))))) (id⊢ 𝓤 (Run (us p)))) $ enters_at ! p asked.0 𝓣.C 𝓣.Λ mir us Post $
+    (sym (λ i. are.0.0 i ++ (place_values R a.1.0 vss.1.0 are.1.0 i ++ (are.1.1.0.0 i ++ (got.1 i ++ []))))) (id⊢ 𝓤 (Run (us p)))) $ enters_at ! p asked.0 𝓣.C 𝓣.Λ mir us Post $
     alloc_all ! (λ l. pass_all ! refl ((tt, tt), ((tt, (tt, tt)), ((tt, record { fits = are.1.1.0.1 }), (got.2, tt)))) $ let locals = env mir.locals l in
     opens_ref ! tt Seat h b' o' (λ ts. refl) (λ ts. fsplit3 ! $ rewrite ! 1 (λ (u : Option (Hand S.Denot)). ‵ (hand_owns R u)) asked.1 refl $ move ! (1 ∷ []) $ fsplit ! $ fpick ! (λ at. drop ! $
     let near : j < SLOTS = at.2 in let less : j * sz ≤ SLOTS * sz = mul-le-mul_right sz (omega arith) in let tiny : sz < 2 ^ 31 = at.1 in let small : j * sz < 2 ^ 64 = omega arith in use1 𝓛 (‵ (froom (layout S) b e)) (𝓛.laws.raw-room (layout S) b e) $ first ! $ blocks ! $
@@ -38,6 +38,6 @@ put_spec 𝓤 𝓛 𝓜 𝓡 wired S V A L _ _ ga da dd _ _ =
     use1 𝓛 (‵ (fat full_share (bare (layout S)) b e vy)) (𝓛.laws.at_raw full_share (layout S) b e vy) $
     -- [the slot; the view; the block that is carried; the seat's fields; its place in four; the value; the other tokens]
     move ! (0 ∷ 8 ∷ []) $ gather v ! new vy b e $ nothing ! $ fpack ! Placed (λ _. ftrue) at $ fjoin ! $ move ! (1 ∷ 0 ∷ 2 ∷ []) $ fjoin3 ! $
-    let m' : Sitter S.Denot V.Denot = sitter m.view (Some (p, j, Some new)) m.spare in let h' : Seat.Denot = record { marker = h.marker; web = h.web; heap = h.heap; id = h.id; sitter = m' } in let Told : Type 0 = m' ≡ m' in let Kept : Type 0 = Same h' h in
-    shuts_ref ! tt Seat h' ts b' o' 3 are.0.0 refl $ tells ! Told refl $ tells ! Kept (refl, refl, refl) $ join ! $ feq_i ! (List Val) (vunit ∷ []) (vunit ∷ []) refl $
+    let m' : Sitter S.Denot V.Denot = sitter m.view (Some (p, j, Some new)) m.spare in let h' : Seat.Denot = record { marker = h.marker; web = h.web; heap = h.heap; id = h.id; sitter = m' } in let Ensured : Type 0 = m' ≡ m' in let Kept : Type 0 = Same h' h in
+    shuts_ref ! tt Seat h' ts b' o' 3 are.0.0 refl $ tells ! Ensured refl $ tells ! Kept (refl, refl, refl) $ join ! $ feq_i ! (List Val) (vunit ∷ []) (vunit ∷ []) refl $
     returns ! (look_at ! 0 refl) $ free_all ! refl $ keep ! (2 ∷ 3 ∷ 0 ∷ 1 ∷ []) $ by ! (leaves 𝓛 goal kept_of c y vunit tt (h', (tt, (tt, (tt, tt)))) (tt, (tt, (tt, (tt, tt))))))))))

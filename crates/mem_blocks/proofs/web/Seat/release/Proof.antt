@@ -19,11 +19,11 @@ release_spec 𝓤 𝓛 𝓜 𝓡 wired S V A L _ _ ga da dd _ _ =
     let y : (walk_of 𝓛 goal kept_of c).Ghost = ((κs, qs, bounds, a, (vptr a.0.ref_ptr.0 a.0.ref_ptr.1 ∷ [], tt)), ghost) in let Post : Val → SProp 𝓤 = (walk_of 𝓛 goal kept_of c).post y in
     let b' : ℕ = a.0.ref_ptr.0 in let o' : ℕ = a.0.ref_ptr.1 in let h : Seat.Denot = a.0.now in let m : Sitter S.Denot V.Denot = h.sitter in let token : Ty → Ptr → Fml = ga.dealloc_token h.heap in
     let Asked : Type 0 = (x : Ptr × Ptr × List ℕ × List (Home S.Denot)) × (m.spare ≡ Some (alive_at x.0 x.1 x.2 x.3)) in let others : Fml = fsep (flft κs.1.0 qs.1.0) (fsep (flft κs.1.1.0 qs.1.1.0) (fsep (flft κs.1.1.1.0 qs.1.1.1.0) (ftrue))) in
-    let m' : Sitter S.Denot V.Denot = sitter m.view m.hand None in let h' : Seat.Denot = record { marker = h.marker; web = h.web; heap = h.heap; id = h.id; sitter = m' } in let Told : Type 0 = Same h' h × (m' ≡ m') in
+    let m' : Sitter S.Denot V.Denot = sitter m.view m.hand None in let h' : Seat.Denot = record { marker = h.marker; web = h.web; heap = h.heap; id = h.id; sitter = m' } in let Ensured : Type 0 = Same h' h × (m' ≡ m') in
     qed 𝓛 (((‵ (flft κs.0 qs.0) ⊛ ‵ others) ⊛ ‵ (owns (types_at goal.signature.params κs) a y.0.4)) ∷ raw (fact 𝓤 _) ∷ raw (fact 𝓤 _) ∷ raw (fact 𝓤 _) ∷ raw (fact 𝓤 Asked) ∷ []) ∵
     keep ! (4 ∷ 0 ∷ []) $ heard ! Asked (λ asked. let x = asked.0 in takes_ref ! $ let r : Loose.Denot = record { marker = record {}; heap = h.heap; at = x.0; next = x.1; words = x.2; homes = x.3 } in let Out : Type 0 = (h.heap ≡ h.heap) × (m.spare ≡ Some (alive_at x.0 x.1 x.2 x.3)) in
     enter ! 𝓣.C 𝓣.Λ mir (vptr b' o' ∷ []) Post $ alloc_all ! (λ l. pass_all ! refl ((tt, tt), tt) $ let locals = env mir.locals l in
     opens_ref ! tt Seat h b' o' (λ ts. refl) (λ ts. fsplit3 ! $ rewrite ! 2 (λ (u : Option (Block S.Denot)). ‵ (spare_owns R token u)) asked.1 refl $
     nothing ! $ move ! (1 ∷ 2 ∷ 0 ∷ []) $ fjoin3 ! $ move ! (0 ∷ 2 ∷ 3 ∷ 4 ∷ 5 ∷ 6 ∷ 7 ∷ []) $ shuts_ref ! tt Seat h' ts b' o' 0 refl refl $ move ! (2 ∷ []) $ blank ! (Tuple (R ∷ Z ∷ [])) $
-    sets ! (agg ! (no_more !)) refl (tt, tt) $ sets ! (agg ! (and_then ! (get ! refl) (no_more !))) refl (tt, (tt, tt)) $ tells ! Out (refl, asked.1) $ tells ! Told ((refl, refl, refl), refl) $ join ! $
+    sets ! (agg ! (no_more !)) refl (tt, tt) $ sets ! (agg ! (and_then ! (get ! refl) (no_more !))) refl (tt, (tt, tt)) $ tells ! Out (refl, asked.1) $ tells ! Ensured ((refl, refl, refl), refl) $ join ! $
     returns ! (look_at ! 0 refl) $ free_all ! refl $ keep ! (2 ∷ 3 ∷ 1 ∷ 0 ∷ []) $ by ! (leaves 𝓛 goal kept_of c y blank_val r (h', tt) (tt, tt))))))

@@ -2,7 +2,7 @@
 use Rattle.mem_blocks.proofs.Walks.{◌≡◌, ℕ, ◌+◌, ◌*◌, ◌^◌, ◌<◌, ◌≤◌, [], ◌∷◌, sym, refl, ap, subst, arith, w64, Option, Some, None, mul-le-mul_right, a_type, dcons, dnil, named, Val, vint, vptr, inst_fn, bare, Coded, SProp, Fml, ftrue, fsep, froom, flft, ‵, raw, ◌⊛◌, at_ret, ◌$◌, ◌∵◌}
 use Rattle.mem_blocks.proofs.Walks.{ !, qed, by, move, keep, drop, use1, join, fsplit, fsplit3, fjoin, fjoin3, fpick, fpack, rewrite, stop, fld, load, addr, size_word, of_opd, bin, first, blocks, exec, returns, look_raw, alloc_all, pass_all, free_all, look_at, get, get_in, through}
 use Rattle.mem_blocks.proofs.Walks.{sets, sets_last, is, env, sub, all_of_it, tables, fact, yes, no, RattleType, owns, types_at, plain, mem, Ptr, block_of, count_of, InBlock, nothing, heard, param, bounded, layout, param_laws, usize, mut_vals, mut_Tells, uint_vals, uint_Tells, Member}
-use Rattle.mem_blocks.proofs.Walks.{Stays, stay_dropped, stay_ref, walk_of, Goes-dropped, Goes-ref, spread, proved, leaves, Hand, Sitter, sitter, Same, slots_at, hand_owns, SLOTS, after, place_val, place_told, full_product, tells, takes_ref, opens_ref, shuts_ref, enters_at}
+use Rattle.mem_blocks.proofs.Walks.{Stays, stay_dropped, stay_ref, walk_of, Goes-dropped, Goes-ref, spread, proved, leaves, Hand, Sitter, sitter, Same, slots_at, hand_owns, SLOTS, after, place_val, place_values, full_product, tells, takes_ref, opens_ref, shuts_ref, enters_at}
 use Rattle.mem_blocks.specs.contracts.block.BlockPtr as link
 use Rattle.mem_blocks.specs.contracts.web.Seat as seat
 use Rattle.mem_blocks.proofs.Blocks as blocks
@@ -18,7 +18,7 @@ take_spec 𝓤 𝓛 𝓜 𝓡 wired S V A L _ _ ga da dd _ _ =
     let kept_of : Stays goal.signature.params goal.kept = (stay_ref (0 ∷ []) tt (plain (λ _. Seat)), (stay_dropped (plain (λ _. BlockPtr)) no, (stay_dropped (plain (λ _. usize)) yes, tt))) in
     proved 𝓛 goal kept_of c 𝓜 𝓡 (Goes-ref 𝓛 4 0 tt (plain (λ _. Seat)), (Goes-dropped 𝓛 4 (plain (λ _. BlockPtr)) no (λ κs x f. refl), (Goes-dropped 𝓛 4 (plain (λ _. usize)) yes (λ κs x f. refl), tt))) (#self at_types) mir
     (code.unfolded 𝓤 H 𝓜 𝓡 wired (S, (V, (A, tt))) da dd) (λ κs. (mut_vals, ((λ x. place_val x.ptr ∷ []), (uint_vals w64, tt))))
-    (λ κs. (mut_Tells (named 0) κs.0 Seat, (place_told R, (uint_Tells w64, tt)))) (λ κs qs bounds a ghost are.
+    (λ κs. (mut_Tells (named 0) κs.0 Seat, (place_values R, (uint_Tells w64, tt)))) (λ κs qs bounds a ghost are.
     let y : (walk_of 𝓛 goal kept_of c).Ghost = ((κs, qs, bounds, a, (vptr a.0.ref_ptr.0 a.0.ref_ptr.1 ∷ [], (place_val a.1.0.ptr ∷ [], (vint w64 a.1.1.0 ∷ [], tt)))), ghost) in let Post : Val → SProp 𝓤 = (walk_of 𝓛 goal kept_of c).post y in
     let lawful = (param_laws 0 S L).lawful 𝓛 in let v : Member = record { row = R; ty = layout S } in let b' : ℕ = a.0.ref_ptr.0 in let o' : ℕ = a.0.ref_ptr.1 in let h : Seat.Denot = a.0.now in let m : Sitter S.Denot V.Denot = h.sitter in let p : Ptr = a.1.0.ptr in let j : ℕ = a.1.1.0 in
     let others : Fml = fsep (flft κs.1.0 qs.1.0) (fsep (flft κs.1.1.0 qs.1.1.0) (fsep (flft κs.1.1.1.0 qs.1.1.1.0) (ftrue))) in let Asked : Type 0 = InBlock p × ((x : S.Denot) × (m.hand ≡ Some (p, j, Some x))) in
@@ -33,6 +33,6 @@ take_spec 𝓤 𝓛 𝓜 𝓡 wired S V A L _ _ ga da dd _ _ =
     sets_last ! (of_opd ! (load ! (through ! refl (stop !)) (look_raw ! 0 refl))) refl good $ exec ! 𝓣.C 𝓣.Λ locals (after 1 mir.body) (at_ret locals Post) $ sets ! (of_opd ! (get ! refl)) refl good $ use1 𝓛 (‵ (froom (bare (layout S)) b e)) (𝓛.laws.at_room (bare (layout S)) b e w) $
     -- [the slot; the value; the view; the block that is carried; the seat's fields; its place in four; the other tokens]
     nothing ! $ fpack ! Placed (λ _. ftrue) at $ fjoin ! $ move ! (2 ∷ 0 ∷ 3 ∷ []) $ fjoin3 ! $ move ! (0 ∷ 2 ∷ 3 ∷ 4 ∷ 5 ∷ 6 ∷ 7 ∷ []) $
-    let m' : Sitter S.Denot V.Denot = sitter m.view (Some (p, j, None)) m.spare in let h' : Seat.Denot = record { marker = h.marker; web = h.web; heap = h.heap; id = h.id; sitter = m' } in let Told : Type 0 = (m.hand ≡ Some (p, j, Some x)) × (m' ≡ m') in let Kept : Type 0 = Same h' h in
-    shuts_ref ! tt Seat h' ts b' o' 2 refl refl $ tells ! Told (asked.1.1, refl) $ tells ! Kept (refl, refl, refl) $ join ! $
+    let m' : Sitter S.Denot V.Denot = sitter m.view (Some (p, j, None)) m.spare in let h' : Seat.Denot = record { marker = h.marker; web = h.web; heap = h.heap; id = h.id; sitter = m' } in let Ensured : Type 0 = (m.hand ≡ Some (p, j, Some x)) × (m' ≡ m') in let Kept : Type 0 = Same h' h in
+    shuts_ref ! tt Seat h' ts b' o' 2 refl refl $ tells ! Ensured (asked.1.1, refl) $ tells ! Kept (refl, refl, refl) $ join ! $
     returns ! (look_at ! 0 refl) $ free_all ! refl $ keep ! (1 ∷ 2 ∷ 3 ∷ 0 ∷ []) $ by ! (leaves 𝓛 goal kept_of c y w x (h', (tt, (tt, tt))) (tt, (tt, (tt, tt))))))))))

@@ -2,7 +2,7 @@
 use Rattle.mem_blocks.proofs.Walks.{◌≡◌, ℕ, ◌+◌, List, [], ◌∷◌, sym, refl, lit<, Ty, a_type, dcons, dnil, named, Val, vunit, vptr, inst_fn, Coded, SProp, via, Lft, Fml, ftrue, fsep, flft, mean, ‵, raw, ◌⊛◌, given, at_ret, ◌$◌, ◌∵◌, !, qed, by, move, keep, drop, use3, split, split3}
 use Rattle.mem_blocks.proofs.Walks.{join, fsplit, fsplit3, fjoin, learn, rewrite, feq_i, stop, from, fld, hop, addr, lit, unit_lit, of_opd, no_more, and_then, first, blocks, exec, Calls-last, returns, alloc_all, pass_all, free_all, look_at, look_in_at, get, sets, lands_last, env, agg}
 use Rattle.mem_blocks.proofs.Walks.{sub, all_of_it, obor_close, tokens_halve, tables, fact, yes, no, RattleType, owns, types_at, plain, Ptr, block_ptr, block_of, count_of, InBlock, nothing, unhide, param, bounded, RefOf, mut_vals, mut_Tells, shr_vals, shr_Tells, Stays, stay_dropped}
-use Rattle.mem_blocks.proofs.Walks.{stay_ref, walk_of, Goes-dropped, Goes-ref, proved, leaves, fm, seq_cst, found, finds, loads, Sitter, sitter, CanMerge, Sits, Same, WebId, age, seat_owns, after, place_val, place_told, begins_step, tells, alone, opens_ref, closes_ref, enters_at}
+use Rattle.mem_blocks.proofs.Walks.{stay_ref, walk_of, Goes-dropped, Goes-ref, proved, leaves, fm, seq_cst, found, finds, loads, Sitter, sitter, CanMerge, Sits, Same, WebId, age, seat_owns, after, place_val, place_values, begins_step, tells, alone, opens_ref, closes_ref, enters_at}
 use Rattle.mem_blocks.specs.contracts.block.BlockPtr as link
 use Rattle.mem_blocks.specs.contracts.web.Web as web
 use Rattle.mem_blocks.specs.contracts.web.Seat as seat
@@ -21,7 +21,7 @@ merge_spec 𝓤 𝓛 𝓜 𝓡 wired S V K P A M _ _ _ _ _ _ g d ga da dd g' d' 
     let kept_of : Stays goal.signature.params goal.kept = (stay_dropped (RefOf (0 ∷ []) tt (plain (λ _. Web)) (λ _. tt)) yes, (stay_ref (1 ∷ []) tt (plain (λ _. Seat)), (stay_ref (2 ∷ []) tt (plain (λ _. Seat)), (stay_dropped (plain (λ _. BlockPtr)) no, tt)))) in
     proved 𝓛 goal kept_of c 𝓜 𝓡 (Goes-dropped 𝓛 9 (RefOf (0 ∷ []) tt (plain (λ _. Web)) (λ _. tt)) yes (λ κs x f. refl), (Goes-ref 𝓛 9 1 tt (plain (λ _. Seat)), (Goes-ref 𝓛 9 2 tt (plain (λ _. Seat)), (Goes-dropped 𝓛 9 (plain (λ _. BlockPtr)) no (λ κs x f. refl), tt)))) (#self at_types) mir
     (code.unfolded 𝓤 H 𝓜 𝓡 wired (S, (V, (K, (P, (A, (M, tt)))))) d da dd d') (λ κs. (shr_vals, (mut_vals, (mut_vals, ((λ x. place_val x.ptr ∷ []), tt)))))
-    (λ κs. (shr_Tells (named 0) κs.0 Web, (mut_Tells (named 1) κs.1.0 Seat, (mut_Tells (named 2) κs.1.1.0 Seat, (place_told R, tt))))) (λ κs qs bounds a ghost are.
+    (λ κs. (shr_Tells (named 0) κs.0 Web, (mut_Tells (named 1) κs.1.0 Seat, (mut_Tells (named 2) κs.1.1.0 Seat, (place_values R, tt))))) (λ κs qs bounds a ghost are.
     let y : (walk_of 𝓛 goal kept_of c).Ghost =
     ((κs, qs, bounds, a, (vptr a.0.ref_ptr.0 a.0.ref_ptr.1 ∷ [], (vptr a.1.0.ref_ptr.0 a.1.0.ref_ptr.1 ∷ [], (vptr a.1.1.0.ref_ptr.0 a.1.1.0.ref_ptr.1 ∷ [], (place_val a.1.1.1.0.ptr ∷ [], tt))))), ghost) in
     let Post : Val → SProp 𝓤 = (walk_of 𝓛 goal kept_of c).post y in
@@ -47,7 +47,7 @@ merge_spec 𝓤 𝓛 𝓜 𝓡 wired S V K P A M _ _ _ _ _ _ g d ga da dd g' d' 
     Calls-last ! (fm 𝓛 𝓜 𝓡) (found out) (and_then ! (get ! refl) (and_then ! (get ! refl) (no_more !))) (λ u. finds ! out (λ n fits. lands_last ! refl (tt, record { fits = fits }) $ exec ! 𝓣.C 𝓣.Λ locals (after 1 mir.body) (at_ret locals Post) $
     sets ! (of_opd ! (unit_lit !)) refl (tt, tt) $ fsplit ! $ move ! (12 ∷ 0 ∷ []) $ obor_close ! tt $ drop ! $ move ! (1 ∷ []) $ fsplit ! $
     let m' : Sitter S.Denot V.Denot = sitter both m.hand m.spare in let h' : Seat.Denot = record { marker = h.marker; web = z; heap = t.heap; id = id; sitter = m' } in
-    let h₃ : Seat.Denot = record { marker = h₂.marker; web = z; heap = t.heap; id = h₂.id; sitter = sitter g'.spent it.hand it.spare } in let Told : Type 0 = Same h' h × (m' ≡ m') in
+    let h₃ : Seat.Denot = record { marker = h₂.marker; web = z; heap = t.heap; id = h₂.id; sitter = sitter g'.spent it.hand it.spare } in let Ensured : Type 0 = Same h' h × (m' ≡ m') in
     move ! (1 ∷ 3 ∷ 4 ∷ 5 ∷ 6 ∷ 7 ∷ []) $ closes_ref ! tt Seat h₃ us₂ b₂ o₂ refl refl $ alone ! 1 $ move ! (2 ∷ 4 ∷ 5 ∷ 6 ∷ 7 ∷ 8 ∷ []) $ closes_ref ! tt Seat h' ts b' o' refl refl $
-    move ! (0 ∷ 2 ∷ []) $ fjoin ! $ nothing ! $ fjoin ! $ move ! (2 ∷ 4 ∷ []) $ join ! $ move ! (2 ∷ 0 ∷ []) $ join ! $ move ! (2 ∷ 0 ∷ []) $ join ! $ tells ! Told ((sym sits.0, sym sits.1, refl), refl) $ feq_i ! (List Val) (vunit ∷ []) (vunit ∷ []) refl $
+    move ! (0 ∷ 2 ∷ []) $ fjoin ! $ nothing ! $ fjoin ! $ move ! (2 ∷ 4 ∷ []) $ join ! $ move ! (2 ∷ 0 ∷ []) $ join ! $ move ! (2 ∷ 0 ∷ []) $ join ! $ tells ! Ensured ((sym sits.0, sym sits.1, refl), refl) $ feq_i ! (List Val) (vunit ∷ []) (vunit ∷ []) refl $
     returns ! (look_at ! 0 refl) $ free_all ! refl $ keep ! (2 ∷ 3 ∷ 0 ∷ 1 ∷ []) $ by ! (leaves 𝓛 goal kept_of c y vunit tt (tt, (h', (h₃, (tt, tt)))) (tt, (tt, (tt, (tt, tt)))))))))))))))

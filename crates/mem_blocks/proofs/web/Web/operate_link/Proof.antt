@@ -3,13 +3,13 @@ use Rattle.mem_blocks.proofs.Walks.{ℕ, ◌+◌, List, [], ◌∷◌, sym, refl
 use Rattle.mem_blocks.proofs.Walks.{◌∵◌, !, qed, by, move, keep, drop, use0, use1, use3, split3, learn, rewrite, stop, from, fld, hop, addr, lit, of_opd, switches, no_more, and_then, first, blocks, exec, Calls-last, returns, switches_on, alloc_all, pass_all}
 use Rattle.mem_blocks.proofs.Walks.{free_all, look_at, look_in_at, get, get_in, get_tag, sets, sets_last, lands_last, env, vrt, in_variant, agg, sub, all_of_it, tokens_halve, tables, fact, yes, no, RattleType, owns, types_at, plain, Ptr, block_ptr, null_ptr}
 use Rattle.mem_blocks.proofs.Walks.{ptr_val, block_of, count_of, InBlock, param, bounded, RefOf, u64, mut_vals, mut_Tells, shr_vals, shr_Tells, Stays, stay_dropped, stay_ref, walk_of, Goes-dropped, Goes-ref, Ok, Err, Good-round, proved, leaves, fm, seq_cst}
-use Rattle.mem_blocks.proofs.Walks.{stored, has_stored, Sitter, AllowsLink, Sits, Same, WebId, age, seat_owns, head, after, arm_body, ptr_good, place_val, place_told, place_made, word_laws, tells, fpick, lent_back, begins_step, ends_step, takes_step, enters_at}
+use Rattle.mem_blocks.proofs.Walks.{stored, has_stored, Sitter, AllowsLink, Sits, Same, WebId, age, seat_owns, head, after, arm_body, ptr_good, place_val, place_values, place_made, word_laws, tells, fpick, lent_back, begins_step, ends_step, takes_step, enters_at}
 use Rattle.mem_blocks.specs.contracts.block.BlockPtr as link
 use Rattle.mem_blocks.specs.contracts.web.Web as web
 use Rattle.mem_blocks.specs.contracts.web.Seat as seat
-use Rattle.mem_blocks.{specs.Links.leads_to, specs.Links.told_place, specs.Links.IsToldPlace, specs.declared.operation.LinkOperation.LinkOperation, proofs.web.Web.operate_link.Statement.statement}
+use Rattle.mem_blocks.{specs.Links.leads_to, specs.Links.answered_place, specs.Links.IsAnsweredPlace, specs.declared.operation.LinkOperation.LinkOperation, proofs.web.Web.operate_link.Statement.statement}
 use Rattle.mem_blocks.specs.contracts.operation.LinkOperation as operation
-use Rattle.mem_blocks.proofs.LinkOperations.{link_tag, link_operation_val, link_operation_told, link_operation_good, no_fourth, asks_link}
+use Rattle.mem_blocks.proofs.LinkOperations.{link_tag, link_operation_val, link_operation_values, link_operation_good, no_fourth, asks_link}
 use Rattle.mem_blocks.proofs.Moves as moves
 use types.{Kit.Item, Kit.Sq, Kit.runs, ByLocal.forget_but, ByLocal.holding}
 use prog.Wp.{Out}
@@ -37,7 +37,7 @@ operate_link_spec 𝓤 𝓛 𝓜 𝓡 wired S V K P A M _ _ _ _ _ _ g d ga da dd
     )
     (#self at_types) mir
     (code.unfolded 𝓤 H 𝓜 𝓡 wired (S, (V, (K, (P, (A, (M, tt)))))) d da dd d') (λ κs. (shr_vals, (mut_vals, ((λ x. place_val x.ptr ∷ []), ((λ x. link_operation_val x ∷ []), ((λ x. place_val x.ptr ∷ []), tt))))))
-    (λ κs. (shr_Tells (named 0) κs.0 Web, (mut_Tells (named 1) κs.1.0 Seat, (place_told R, (link_operation_told, (place_told R, tt)))))) (λ κs qs bounds a ghost are.
+    (λ κs. (shr_Tells (named 0) κs.0 Web, (mut_Tells (named 1) κs.1.0 Seat, (place_values R, (link_operation_values, (place_values R, tt)))))) (λ κs qs bounds a ghost are.
     let op : LinkOperation = a.1.1.1.0 in let n : Ptr = a.1.1.1.1.0.ptr in
     let y : (walk_of 𝓛 goal kept_of c).Ghost =
     ((κs, qs, bounds, a, (vptr a.0.ref_ptr.0 a.0.ref_ptr.1 ∷ [], (vptr a.1.0.ref_ptr.0 a.1.0.ref_ptr.1 ∷ [], (place_val a.1.1.0.ptr ∷ [], (link_operation_val op ∷ [], (place_val n ∷ [], tt)))))), ghost) in
@@ -49,19 +49,19 @@ operate_link_spec 𝓤 𝓛 𝓜 𝓡 wired S V K P A M _ _ _ _ _ _ g d ga da dd
     let others : Fml = fsep (flft κs.1.1.0 qs.1.1.0) (fsep (flft κs.1.1.1.0 qs.1.1.1.0) (fsep (flft κs.1.1.1.1.0 qs.1.1.1.1.0)
     (fsep (flft κs.1.1.1.1.1.0 qs.1.1.1.1.1.0) (fsep (flft κs.1.1.1.1.1.1.0 qs.1.1.1.1.1.1.0) (fsep (flft κs.1.1.1.1.1.1.1.0 qs.1.1.1.1.1.1.1.0) (ftrue)))))) in
     qed 𝓛 (((‵ (flft κs.0 qs.0) ⊛ ‵ (flft κs.1.0 qs.1.0) ⊛ ‵ others) ⊛ ‵ (owns (types_at goal.signature.params κs) a y.0.4)) ∷ raw (fact 𝓤 _) ∷ raw (fact 𝓤 _) ∷ raw (fact 𝓤 _) ∷ raw (fact 𝓤 _) ∷ raw (fact 𝓤 _) ∷ raw (fact 𝓤 _)
-    ∷ (given (Sits h t) (‵ ftrue) ⊛ given (InBlock p) (‵ ftrue) ⊛ given (AllowsLink holds id m p (leads_to op n) (λ q. then (told_place op n q))) (‵ ftrue)) ∷ []) ∵
+    ∷ (given (Sits h t) (‵ ftrue) ⊛ given (InBlock p) (‵ ftrue) ⊛ given (AllowsLink holds id m p (leads_to op n) (λ q. then (answered_place op n q))) (‵ ftrue)) ∷ []) ∵
     keep ! (7 ∷ 0 ∷ []) $ split3 ! $ learn ! (λ sits. drop ! $ learn ! (λ there. drop ! $ learn ! (λ allows. drop ! $ takes_step ! $
     enters_at ! p there 𝓣.C 𝓣.Λ mir (λ u. vptr a.0.ref_ptr.0 a.0.ref_ptr.1 ∷ vptr b' o' ∷ place_val u ∷ link_operation_val op ∷ place_val n ∷ []) Post $
     alloc_all ! (λ l. pass_all ! refl ((tt, tt), ((tt, tt), ((tt, (tt, tt)), (link_operation_good op, ((Good-round [] ty_ptr _ (ptr_good n)), tt))))) $
     let locals = env mir.locals l in
     begins_step ! tt Seat h (tokens_halve 𝓛 α) b' o' (λ (x : WebId × A.Denot). seat_owns R (ga.dealloc_token x.1) code_of.code x.0 id m) (λ j. (sits.0 j, sits.1 j)) (λ ts. refl) (λ s ts.
     -- [the seat; its fields; its place in three; the web's open token; its token; the invariant; the other tokens]
-    let out : Ptr → Fml = λ u. fsep (flft α s) (moves.told 𝓛 R token code_of holds z s p id m (IsToldPlace op n) then u) in let more : Body = after 4 mir.body in let arm : ℕ → Body = λ i. arm_body i (head (after 3 mir.body)) in
+    let out : Ptr → Fml = λ u. fsep (flft α s) (moves.answered 𝓛 R token code_of holds z s p id m (IsAnsweredPlace op n) then u) in let more : Body = after 4 mir.body in let arm : ℕ → Body = λ i. arm_body i (head (after 3 mir.body)) in
     let goes_on : (Out → SProp 𝓤) → Body → Out → SProp 𝓤 = λ Q rest. after_seq 𝓤 H (Wp 𝓤 H 𝓣.C 𝓣.Λ locals rest Q) Q in let Then = goes_on (at_return 𝓤 H locals Post) more in
     let Ended : Sitter S.Denot V.Denot → List (Item 𝓤) → Type 1 = λ m' Γ. Sq 𝓛 ((‵ (flft κs.0 qs.0) ⊛ ‵ (flft κs.1.0 qs.1.0) ⊛ ‵ others) ∷ ‵ (fsep ftrue (lent_back Seat κs.1.0 (vptr b' o' ∷ []) b' o' a.1.0.ghost_name (seated m') 3)) ∷ Γ) (runs 𝓣.C 𝓣.Λ locals more (at_ret locals Post)) in
-    let ends : (q : Ptr) (m' : Sitter S.Denot V.Denot) → IsToldPlace op n q × then q m' → Ended m' (holding 𝓛 locals ((12, ptr_val q) ∷ [])) = λ q m' so. sets ! (of_opd ! (get ! refl)) refl (ptr_good q) $ sets ! (of_opd ! (get ! refl)) refl (ptr_good q) $
+    let ends : (q : Ptr) (m' : Sitter S.Denot V.Denot) → IsAnsweredPlace op n q × then q m' → Ended m' (holding 𝓛 locals ((12, ptr_val q) ∷ [])) = λ q m' so. sets ! (of_opd ! (get ! refl)) refl (ptr_good q) $ sets ! (of_opd ! (get ! refl)) refl (ptr_good q) $
     sets ! (agg ! (and_then ! (get ! refl) (no_more !))) refl (Good-round [] ty_ptr _ (ptr_good q)) $
-    tells ! (Same (seated m') h × IsToldPlace op n q × then q m') ((sym sits.0, sym sits.1, refl), so.0, so.1) $
+    tells ! (Same (seated m') h × IsAnsweredPlace op n q × then q m') ((sym sits.0, sym sits.1, refl), so.0, so.1) $
     use0 𝓛 (‵ (BlockPtr.own_val (record { ptr = q }) (place_val q ∷ []))) (place_made R 𝓛 q) $
     returns ! (look_at ! 0 refl) $ free_all ! refl $ keep ! (2 ∷ 3 ∷ 0 ∷ 1 ∷ []) $ by ! (leaves 𝓛 goal kept_of c y (place_val q) (record { ptr = q }) (tt, (seated m', (tt, (tt, (tt, tt))))) (tt, (tt, (tt, (tt, (tt, tt)))))) in
     first ! $ blocks ! $ sets_last ! (addr ! (from ! (fld ! refl (hop ! (look_in_at ! 3 (sub ! 0 refl (all_of_it !))) (fld ! refl (stop !)))))) refl (tt, tt) $ exec ! 𝓣.C 𝓣.Λ locals (after 1 mir.body) (at_ret locals Post) $

@@ -2,7 +2,7 @@
 use Rattle.mem_blocks.proofs.Walks.{◌≡◌, ℕ, ◌+◌, [], ◌∷◌, sym, refl, lit<, None, Ty, a_type, dcons, dnil, named, Val, vptr, inst_fn, Coded, SProp, via, Lft, Fml, ftrue, fsep, fex, flft, mean, ‵, raw, ◌⊛◌, given, at_ret, ◌$◌, ◌∵◌, !, qed, by, move, keep, drop, use3}
 use Rattle.mem_blocks.proofs.Walks.{join, split3, learn, stop, from, fld, hop, addr, lit, no_more, and_then, first, blocks, exec, Calls-last, returns, alloc_all, pass_all, free_all, look_at, look_in_at, get, sets, lands_last, env, agg, sub, all_of_it, tokens_halve}
 use Rattle.mem_blocks.proofs.Walks.{tables, fact, yes, no, RattleType, owns, types_at, plain, Ptr, block_ptr, block_of, count_of, InBlock, param, bounded, RefOf, mut_vals, mut_Tells, shr_vals, shr_Tells, Tuple, Stays, stay_dropped, stay_ref, walk_of, Goes-dropped}
-use Rattle.mem_blocks.proofs.Walks.{Goes-ref, proved, leaves, fm, seq_cst, found, finds, loads, Sitter, sitter, CanFork, Sits, Same, WebId, age, seat_owns, after, blank_val, place_val, place_told, begins_step, tells, blank, takes_step, ends_step, enters_at}
+use Rattle.mem_blocks.proofs.Walks.{Goes-ref, proved, leaves, fm, seq_cst, found, finds, loads, Sitter, sitter, CanFork, Sits, Same, WebId, age, seat_owns, after, blank_val, place_val, place_values, begins_step, tells, blank, takes_step, ends_step, enters_at}
 use Rattle.mem_blocks.specs.contracts.block.BlockPtr as link
 use Rattle.mem_blocks.specs.contracts.web.Web as web
 use Rattle.mem_blocks.specs.contracts.web.Seat as seat
@@ -21,7 +21,7 @@ split_spec 𝓤 𝓛 𝓜 𝓡 wired S V K P A M _ _ _ _ _ _ g d ga da dd g' d' 
     let kept_of : Stays goal.signature.params goal.kept = (stay_dropped (RefOf (0 ∷ []) tt (plain (λ _. Web)) (λ _. tt)) yes, (stay_ref (1 ∷ []) tt (plain (λ _. Seat)), (stay_dropped (plain (λ _. BlockPtr)) no, tt))) in
     proved 𝓛 goal kept_of c 𝓜 𝓡 (Goes-dropped 𝓛 8 (RefOf (0 ∷ []) tt (plain (λ _. Web)) (λ _. tt)) yes (λ κs x f. refl), (Goes-ref 𝓛 8 1 tt (plain (λ _. Seat)), (Goes-dropped 𝓛 8 (plain (λ _. BlockPtr)) no (λ κs x f. refl), tt))) (#self at_types) mir
     (code.unfolded 𝓤 H 𝓜 𝓡 wired (S, (V, (K, (P, (A, (M, tt)))))) d da dd d') (λ κs. (shr_vals, (mut_vals, ((λ x. place_val x.ptr ∷ []), tt))))
-    (λ κs. (shr_Tells (named 0) κs.0 Web, (mut_Tells (named 1) κs.1.0 Seat, (place_told R, tt)))) (λ κs qs bounds a ghost are.
+    (λ κs. (shr_Tells (named 0) κs.0 Web, (mut_Tells (named 1) κs.1.0 Seat, (place_values R, tt)))) (λ κs qs bounds a ghost are.
     let y : (walk_of 𝓛 goal kept_of c).Ghost = ((κs, qs, bounds, a, (vptr a.0.ref_ptr.0 a.0.ref_ptr.1 ∷ [], (vptr a.1.0.ref_ptr.0 a.1.0.ref_ptr.1 ∷ [], (place_val a.1.1.0.ptr ∷ [], tt)))), ghost) in let Post : Val → SProp 𝓤 = (walk_of 𝓛 goal kept_of c).post y in
     let κ : Lft = κs.0 in let t : Web.Denot = a.0.now in let z : WebId = t.id in let α : Lft = age z in let token : Ty → Ptr → Fml = ga.dealloc_token t.heap in let holds = g.holds t.key in
     let b' : ℕ = a.1.0.ref_ptr.0 in let o' : ℕ = a.1.0.ref_ptr.1 in let h : Seat.Denot = a.1.0.now in let id : ℕ = h.id in let m : Sitter S.Denot V.Denot = h.sitter in let p : Ptr = a.1.1.0.ptr in

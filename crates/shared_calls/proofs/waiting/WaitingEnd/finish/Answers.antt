@@ -14,7 +14,7 @@ pub retry-requires-clause-on_way : goal.retry-requires-clause-on_way
 retry-requires-clause-on_way g c = c.loop.invariant.going
 
 pub returns-in-Break : goal.returns-in-Break
-returns-in-Break g c = λ n call first solo start. c.in-Break.ensures n call first (c.loop.invariant.goes n call first start)
+returns-in-Break g c = λ n call first alone start. c.in-Break.ensures n call first (c.loop.invariant.goes n call first start)
 
 pub loop-preserved-then-must_give_way : goal.loop-preserved-then-must_give_way
 loop-preserved-then-must_give_way g c =

@@ -3,4 +3,4 @@ use Rattle.mem_blocks.specs.Web.{Lives}
 use Rattle.shared_chain.proofs.web.ChainWeb.peek_tail.Goals as goal
 
 pub peek-requires-clause-stays : goal.peek-requires-clause-stays
-peek-requires-clause-stays g c = let w = c.args.self.now in λ s so. (0, subst (Lives s.blocks 0) w.ends.0 so.codes.tail)
+peek-requires-clause-stays g c = let w = c.args.self.now in λ s so. (0, subst (Lives s.blocks 0) w.ends.0 so.codes.tail.lives)

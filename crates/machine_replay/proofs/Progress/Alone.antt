@@ -1,8 +1,8 @@
--- How soon a solo call and a wait-free call reply.
+-- How soon a call alone and a wait-free call reply.
 use Rattle.std.proofs.Common.{◌≡◌, ◌≢◌, ◌⊎◌, ◌∙◌, ℕ, zero, suc, ◌+◌, ◌<◌, ◌&&◌, nat_lt, Bool, true, false, Option, Some, None, is_some, is_none, refl, sym, ap, subst, arith, inl, inr}
 use Rattle.std.proofs.lemmas.Bool.{ltb-true, eq-eqb, Decides.eqb_tells}
 use Rattle.queue_laws.proofs.Common.Tests.{is_none_true}
-use Rattle.machine_replay.specs.Vocabulary.{Reply, SOLO_STEPS, WAIT_FREE_STEPS, Event, Told, EffectKind, Begin, Step, Skipped, Ran}
+use Rattle.machine_replay.specs.Vocabulary.{Reply, STEPS_ALONE, WAIT_FREE_STEPS, Event, Told, EffectKind, Begin, Step, Skipped, Ran}
 use Rattle.machine_replay.specs.Book.{Book, Open, Happens, Steps, is_wait_free, opening, put, at_open, joined, watched, after_own, begun}
 use Rattle.machine_replay.proofs.Traces.TraceSteps.{put-cases, at_open-cases}
 
@@ -61,11 +61,11 @@ one-at_open h (Some o) = refl
 pub record Counts {T : Type 0} (parties : ℕ) (b : Book T) : Type 0 where
   pub busy : b.busy ≡ count parties b.open_call
   pub within : (j : ℕ) (o : Open T) → b.open_call j ≡ Some o → j < parties
-  pub solo : (j : ℕ) (o : Open T) → b.open_call j ≡ Some o → o.alone < SOLO_STEPS
+  pub alone : (j : ℕ) (o : Open T) → b.open_call j ≡ Some o → o.alone < STEPS_ALONE
   pub wait_free : (j : ℕ) (o : Open T) → b.open_call j ≡ Some o → is_wait_free o.call ≡ true → o.steps < WAIT_FREE_STEPS
 
 pub counts-first : (T : Type 0) (cap : Option ℕ) (parties : ℕ) → Counts {T = T} parties (opening cap)
-counts-first T cap parties = record { busy = sym (count-none (Open T) parties); within = λ j o e. cc; solo = λ j o e. cc; wait_free = λ j o e. cc }
+counts-first T cap parties = record { busy = sym (count-none (Open T) parties); within = λ j o e. cc; alone = λ j o e. cc; wait_free = λ j o e. cc }
 
 pub and-left : (a b : Bool) → (a && b) ≡ true → a ≡ true
 and-left true b e = refl
@@ -88,7 +88,7 @@ counts-begun {T} parties b c p k h lt free same = rw same (record {
     | inl m ↦ let at = m.0 in omega arith
     | inr m ↦ let old = at_open-cases joined (b.open_call j) o m.1 in h.within j old.0 old.1
   ];
-  solo = λ j o e. elim (put-cases (λ j. at_open joined (b.open_call j)) p j (Some (begun k)) o e) [
+  alone = λ j o e. elim (put-cases (λ j. at_open joined (b.open_call j)) p j (Some (begun k)) o e) [
     | inl m ↦ let is : begun k ≡ o = let x = m.1 in cc in let zero : o.alone ≡ 0 = ap (λ z. z.alone) (sym is) in omega arith
     | inr m ↦ let old = at_open-cases joined (b.open_call j) o m.1 in let zero : o.alone ≡ 0 = ap (λ z. z.alone) (sym old.2) in omega arith
   ];
@@ -118,9 +118,9 @@ counts-stepped {T} parties b c p k None h lt s = record {
     | inl m ↦ let at = m.0 in omega arith
     | inr m ↦ let old = at_open-cases (watched c.queue) (b.open_call j) o m.1 in h.within j old.0 old.1
   ];
-  solo = λ j o e. elim (put-cases others p j (Some mine) o (sym (ap (λ z. z j) s.calls) ∙ e)) [
-    | inl m ↦ let is : mine ≡ o = let x = m.1 in cc in subst (λ z. z.alone < SOLO_STEPS) is s.goes.solo
-    | inr m ↦ let old = at_open-cases (watched c.queue) (b.open_call j) o m.1 in subst (λ z. z.alone < SOLO_STEPS) old.2 (h.solo j old.0 old.1)
+  alone = λ j o e. elim (put-cases others p j (Some mine) o (sym (ap (λ z. z j) s.calls) ∙ e)) [
+    | inl m ↦ let is : mine ≡ o = let x = m.1 in cc in subst (λ z. z.alone < STEPS_ALONE) is s.goes.alone
+    | inr m ↦ let old = at_open-cases (watched c.queue) (b.open_call j) o m.1 in subst (λ z. z.alone < STEPS_ALONE) old.2 (h.alone j old.0 old.1)
   ];
   wait_free = λ j o e is_p. elim (put-cases others p j (Some mine) o (sym (ap (λ z. z j) s.calls) ∙ e)) [
     | inl m ↦ let is : mine ≡ o = let x = m.1 in cc in subst (λ z. z.steps < WAIT_FREE_STEPS) is (s.goes.wait_free (ap (λ z. is_wait_free z.call) is ∙ is_p))
@@ -146,9 +146,9 @@ counts-stepped {T} parties b c p k (Some r) h lt s = record {
     | inl m ↦ let x = m.1 in cc
     | inr m ↦ let old = at_open-cases (watched c.queue) (b.open_call j) o m.1 in h.within j old.0 old.1
   ];
-  solo = λ j o e. elim (put-cases others p j None o (sym (ap (λ z. z j) s.calls) ∙ e)) [
+  alone = λ j o e. elim (put-cases others p j None o (sym (ap (λ z. z j) s.calls) ∙ e)) [
     | inl m ↦ let x = m.1 in cc
-    | inr m ↦ let old = at_open-cases (watched c.queue) (b.open_call j) o m.1 in subst (λ z. z.alone < SOLO_STEPS) old.2 (h.solo j old.0 old.1)
+    | inr m ↦ let old = at_open-cases (watched c.queue) (b.open_call j) o m.1 in subst (λ z. z.alone < STEPS_ALONE) old.2 (h.alone j old.0 old.1)
   ];
   wait_free = λ j o e is_p. elim (put-cases others p j None o (sym (ap (λ z. z j) s.calls) ∙ e)) [
     | inl m ↦ let x = m.1 in cc

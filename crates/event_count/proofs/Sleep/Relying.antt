@@ -5,14 +5,14 @@ use Rattle.event_count.specs.Sleep.{World.Party, World.Awake, World.Asleep, Worl
 use Rattle.event_count.proofs.Sleep.Counts.{one, count_at, count_set, set_get}
 
 -- it made what all wait for come for the n-th time, and has not moved `EVENTS`
-abbrev pub is_untold : ℕ → Party → Bool
-is_untold n (Awake Clearing m) = m == n
-is_untold n (Awake (Moving All) m) = m == n
-is_untold n other = false
+abbrev pub is_unannounced : ℕ → Party → Bool
+is_unannounced n (Awake Clearing m) = m == n
+is_unannounced n (Awake (Moving All) m) = m == n
+is_unannounced n other = false
 
--- for a party that is about to park: who told since it looked has not moved `EVENTS`
+-- for a party that is about to park: who tells since it looked has not moved `EVENTS`
 abbrev pub MayPark : World → ℕ → Type 0
-MayPark w m = (m ≤ w.times) × ((n : ℕ) → m < n → n ≤ w.times → 1 ≤ count_by (is_untold n) w.parties)
+MayPark w m = (m ≤ w.times) × ((n : ℕ) → m < n → n ≤ w.times → 1 ≤ count_by (is_unannounced n) w.parties)
 
 -- for a party that sleeps
 abbrev pub MaySleep : World → ℕ → Type 0
@@ -26,8 +26,8 @@ Relies w (Awake (Prepared t) m) = t ≤ w.events
 Relies w (Awake (Missed t) m) = (t ≤ w.events) × (t ≡ w.events → MayPark w m)
 Relies w other = Unit {0}
 
-abbrev pub Told : World → Type 0
-Told w = (k : ℕ) (p : Party) → slice_get w.parties k ≡ Some p → Relies w p
+abbrev pub AllRely : World → Type 0
+AllRely w = (k : ℕ) (p : Party) → slice_get w.parties k ≡ Some p → Relies w p
 
 -- what an event owes that makes v of w
 pub record Changes (w v : World) : Type 0 where
@@ -51,8 +51,8 @@ still_fits w v c k (Awake (Missed t) m) is f =
     )
 still_fits w v c k (Awake p m) is f = tt
 
-pub keeps : (w v : World) → Changes w v → Told w → Told v
-keeps w v c told = λ k p is. elim (c.parties k p is) [ inl f ↦ f | inr old ↦ still_fits w v c k p is (told k p old) ]
+pub keeps : (w v : World) → Changes w v → AllRely w → AllRely v
+keeps w v c rely = λ k p is. elim (c.parties k p is) [ inl f ↦ f | inr old ↦ still_fits w v c k p is (rely k p old) ]
 
 -- the party at k is q, the words are these, and so many items are left
 abbrev pub turned : World → ℕ → Party → ℕ → ℕ → ℕ → ℕ → World
@@ -64,21 +64,21 @@ still a b p q e le some = omega (arith, e, le, some)
 
 -- the party goes from p to q
 pub turned_keeps : (w : World) (k : ℕ) (p q : Party) (events sleepers items late : ℕ) → slice_get w.parties k ≡ Some p → w.events ≤ events → Relies (turned w k q events sleepers items late) q
-    → (events ≡ w.events → (n : ℕ) → one (is_untold n) p ≤ one (is_untold n) q)
+    → (events ≡ w.events → (n : ℕ) → one (is_unannounced n) p ≤ one (is_unannounced n) q)
     → (1 ≤ count_by is_asleep (slice_set w.parties k q) → (n : ℕ) → one (is_telling n) p ≤ one (is_telling n) q)
-    → Told w → Told (turned w k q events sleepers items late)
-turned_keeps w k p q events sleepers items late at grows fits untold telling told = keeps w (turned w k q events sleepers items late) (record {
+    → AllRely w → AllRely (turned w k q events sleepers items late)
+turned_keeps w k p q events sleepers items late at grows fits unannounced telling rely = keeps w (turned w k q events sleepers items late) (record {
   events = grows;
   parties = λ i r is. elim (set_get w.parties k i q r is) [ inl same ↦ inl (subst (Relies (turned w k q events sleepers items late)) (sym same) fits) | inr old ↦ inr old ];
   park = λ stays m h. (
     h.0,
-    λ n since come. still (count_by (is_untold n) w.parties) (count_by (is_untold n) (slice_set w.parties k q)) _ _ (count_set (is_untold n) w.parties k p q at) (untold stays n) (h.1 n since come),
+    λ n since come. still (count_by (is_unannounced n) w.parties) (count_by (is_unannounced n) (slice_set w.parties k q)) _ _ (count_set (is_unannounced n) w.parties k p q at) (unannounced stays n) (h.1 n since come),
   );
   sleep = λ asleep m h. (
     h.0,
     λ n since come. still (count_by (is_telling n) w.parties) (count_by (is_telling n) (slice_set w.parties k q)) _ _ (count_set (is_telling n) w.parties k p q at) (telling asleep n) (h.1 n since come),
   );
-}) told
+}) rely
 
 -- it does not tell
 abbrev pub is_plain : Party → Bool
@@ -87,10 +87,10 @@ is_plain (Awake (Moving All) m) = false
 is_plain (Awake (Waking All) m) = false
 is_plain other = true
 
-plain_untold : (n : ℕ) (p : Party) → is_plain p ≡ true → one (is_untold n) p ≡ 0
-plain_untold n (Awake Clearing m) is = absurd (cc)
-plain_untold n (Awake (Moving All) m) is = absurd (cc)
-plain_untold n other is = refl
+plain_unannounced : (n : ℕ) (p : Party) → is_plain p ≡ true → one (is_unannounced n) p ≡ 0
+plain_unannounced n (Awake Clearing m) is = absurd (cc)
+plain_unannounced n (Awake (Moving All) m) is = absurd (cc)
+plain_unannounced n other is = refl
 
 plain_telling : (n : ℕ) (p : Party) → is_plain p ≡ true → one (is_telling n) p ≡ 0
 plain_telling n (Awake Clearing m) is = absurd (cc)
@@ -99,8 +99,8 @@ plain_telling n (Awake (Waking All) m) is = absurd (cc)
 plain_telling n other is = refl
 
 pub plain_keeps : (w : World) (k : ℕ) (p q : Party) (events sleepers items late : ℕ) → slice_get w.parties k ≡ Some p → is_plain p ≡ true → w.events ≤ events
-    → Relies (turned w k q events sleepers items late) q → Told w → Told (turned w k q events sleepers items late)
-plain_keeps w k p q events sleepers items late at plain grows fits told = turned_keeps w k p q events sleepers items late at grows fits
-    (λ stays n. (let a = plain_untold n p plain in omega (arith, a)))
+    → Relies (turned w k q events sleepers items late) q → AllRely w → AllRely (turned w k q events sleepers items late)
+plain_keeps w k p q events sleepers items late at plain grows fits rely = turned_keeps w k p q events sleepers items late at grows fits
+    (λ stays n. (let a = plain_unannounced n p plain in omega (arith, a)))
     (λ asleep n. (let a = plain_telling n p plain in omega (arith, a)))
-    told
+    rely

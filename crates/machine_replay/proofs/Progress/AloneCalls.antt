@@ -1,9 +1,9 @@
 -- A call that is the only one in progress is hindered by nobody.
 use Rattle.std.proofs.Common.{◌≡◌, ◌≢◌, ◌∙◌, ℕ, Some, None, List, [], ◌∷◌, refl, sym, subst}
 use Rattle.machine_replay.specs.{Vocabulary.Kind, Vocabulary.Event, Vocabulary.Told, Vocabulary.Skipped, Vocabulary.Ran, Vocabulary.Running, Played.world_after}
-use Rattle.machine_replay.specs.Progress.{Between, standing, effect_told, BeginsNone, IsAloneIn, IsLeftToIt, NobodyShows, SoloRunsReply}
+use Rattle.machine_replay.specs.Progress.{Between, standing, effect_told, BeginsNone, IsAloneIn, IsLeftToIt, NobodyShows, RunsAloneReply}
 use Rattle.machine_steps.specs.{Left.opening_world, World.call_at}
-use Rattle.machine_replay.proofs.{Chain.Stretch.chain_rules, Progress.Standings.Agrees, Progress.Stretch.Rules, Progress.Stretch.reach, Progress.Stretch.first, Progress.Stretch.party-open, Progress.Unhindered.unhindered_calls}
+use Rattle.machine_replay.proofs.{Chain.Kind.chain_rules, Progress.Standings.Agrees, Engine.KindLaws.Rules, Progress.Stretch.reach, Progress.Stretch.first, Progress.Stretch.party-open, Progress.Unhindered.unhindered_calls}
 
 without_effect : {T : Type 0} (t : Told T) → BeginsNone t → effect_told t ≡ None
 without_effect Skipped none = refl
@@ -30,6 +30,6 @@ nobody_shows Kind.Single parties p past others = tt
 nobody_shows (Kind.Bounded n) parties p past others = tt
 nobody_shows {T} Kind.Unbounded parties p past others = λ q r ne is shows. has_none Kind.Unbounded (chain_rules T) parties q past r (others q ne) is
 
-pub solo_runs : (T : Type 0) → SoloRunsReply T
-solo_runs T k can small parties p past stretch mine others alone =
+pub runs_alone : (T : Type 0) → RunsAloneReply T
+runs_alone T k can small parties p past stretch mine others alone =
     unhindered_calls k can small parties p past stretch (nobody_shows k parties p past others) mine (λ q ne half. let rests = others q ne in cc) (left_alone p stretch _ alone)

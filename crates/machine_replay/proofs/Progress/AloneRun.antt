@@ -1,11 +1,11 @@
--- A solo call replies within its bound, and a wait-free call by its second step.
+-- A call alone replies within its bound, and a wait-free call by its second step.
 use Rattle.std.proofs.Common.{◌≡◌, ◌≢◌, ◌⊎◌, ◌∙◌, ℕ, ◌+◌, ◌<◌, ◌≤◌, nat_lt, Bool, true, false, cond, if◌then◌else◌, Option, Some, None, is_some, is_none, List, [], ◌∷◌, ◌++◌, length, refl, sym, ap, subst, arith, inl, inr, count_by, drop, slice_get, append-nil, append_assoc}
 use Rattle.std.proofs.lemmas.{Bool.lt-ltb, Bool.Decides.eqb_tells, List.drop-append-le, List.drop_all, List.take-append-le, List.take_all, List.Elements.Contains-push, List.Sums.sum_by-append}
 use Rattle.queue_laws.proofs.Common.Tests.{none_if, is_none_true}
-use Rattle.machine_replay.specs.Vocabulary.{Call, Reply, SOLO_STEPS, WAIT_FREE_STEPS, Event, Told, Replay, Begin, Step, Skipped, Ran}
+use Rattle.machine_replay.specs.Vocabulary.{Call, Reply, STEPS_ALONE, WAIT_FREE_STEPS, Event, Told, Replay, Begin, Step, Skipped, Ran}
 use Rattle.machine_replay.specs.Book.{Book, Open, Happens, Run, fits, is_wait_free, opening, at_open, joined, watched, after_own, begun}
-use Rattle.machine_replay.specs.{Conforms.Conforms, Conforms.party_of, InCall.IsInCall, Within.is_step_of, Within.steps_between, Within.IsAloneBetween, Within.SoloCallsReply, Within.WaitFreeCallsReply}
-use Rattle.machine_replay.proofs.{Engine.Calls.with_reply, Engine.Entries.event-last, Engine.Entries.length-one, Progress.Solo.Counts, Progress.Solo.counts-first, Progress.Solo.counts-happens, Progress.Solo.count-alone, Progress.Solo.put-same, Progress.Solo.and-right, Replays.Skips.noted}
+use Rattle.machine_replay.specs.{Conforms.Conforms, Conforms.party_of, InCall.IsInCall, Within.is_step_of, Within.steps_between, Within.IsAloneBetween, Within.CallsAloneReply, Within.WaitFreeCallsReply}
+use Rattle.machine_replay.proofs.{Engine.Calls.with_reply, Engine.Entries.event-last, Engine.Entries.length-one, Progress.Alone.Counts, Progress.Alone.counts-first, Progress.Alone.counts-happens, Progress.Alone.count-alone, Progress.Alone.put-same, Progress.Alone.and-right, Replays.Skips.noted}
 use Rattle.machine_replay.proofs.Replays.{Skips.earlier-now, Skips.earlier-before, Skips.there-before, Skips.was-there, Skips.last-or-earlier, SkipsRun.Fair, SkipsRun.is_skipped, SkipsRun.reply_told, SkipsAll.fair-first, SkipsAll.fair-next, SkipsAll.some-open}
 use Rattle.machine_replay.proofs.Traces.TraceSteps.{put-cases, at_open-cases}
 
@@ -186,7 +186,7 @@ record Paced {T : Type 0} (parties : ℕ) (past : List (Event T)) (told : List (
   fair : Fair parties past told n S R b
   counts : Counts parties b
   paces : (p : ℕ) (o : Open T) → b.open_call p ≡ Some o → (k : IsInCall past S R p n) → Pace past S R p n o k
-  solo : (m p since : ℕ) (k : IsInCall past S R p m) → m ≤ n → k.first ≤ since → IsAloneBetween past S R p since m → steps_between past p since m < SOLO_STEPS
+  alone : (m p since : ℕ) (k : IsInCall past S R p m) → m ≤ n → k.first ≤ since → IsAloneBetween past S R p since m → steps_between past p since m < STEPS_ALONE
   wait_free : (m p : ℕ) (k : IsInCall past S R p m) → m ≤ n → is_wait_free k.call ≡ true → steps_between past p k.first m < WAIT_FREE_STEPS
 
 steps-before : {T : Type 0} (past ys : List (Event T)) (p since m : ℕ) → m ≤ length past → steps_between (past ++ ys) p since m ≡ steps_between past p since m
@@ -221,10 +221,10 @@ module _ (T : Type 0) (cap : Option ℕ) (parties : ℕ) (past : List (Event T))
   paces = pace-next cap parties past told n S R b c x t f d.counts d.paces fair happens
 
   -- at the end
-  last_solo : (p since : ℕ) (k : IsInCall later omitted answers p (n + 1)) → k.first ≤ since → IsAloneBetween later omitted answers p since (n + 1) → steps_between later p since (n + 1) < SOLO_STEPS
-  last_solo p since k from quiet =
+  last_alone : (p since : ℕ) (k : IsInCall later omitted answers p (n + 1)) → k.first ≤ since → IsAloneBetween later omitted answers p since (n + 1) → steps_between later p since (n + 1) < STEPS_ALONE
+  last_alone p since k from quiet =
       let at = some-open (c.open_call p) (λ none. fair.outside p none k) in
-      let few = counts.solo p at.0 at.1 in
+      let few = counts.alone p at.0 at.1 in
       let taken = (paces p at.0 at.1 k).alone since from quiet in
       let all = steps-all later p since (n + 1) fair.len in
       omega arith
@@ -238,11 +238,11 @@ module _ (T : Type 0) (cap : Option ℕ) (parties : ℕ) (past : List (Event T))
       let all = steps-all later p k.first (n + 1) fair.len in
       omega arith
 
-  solo : (m p since : ℕ) (k : IsInCall later omitted answers p m) → m ≤ n + 1 → k.first ≤ since → IsAloneBetween later omitted answers p since m → steps_between later p since m < SOLO_STEPS
-  solo m p since k le from quiet = elim (last-or-earlier m (n + 1) (omega arith)) [
-    | inl at ↦ subst (λ i. (k : IsInCall later omitted answers p i) → k.first ≤ since → IsAloneBetween later omitted answers p since i → steps_between later p since i < SOLO_STEPS) (sym at) (last_solo p since) k from quiet
+  alone : (m p since : ℕ) (k : IsInCall later omitted answers p m) → m ≤ n + 1 → k.first ≤ since → IsAloneBetween later omitted answers p since m → steps_between later p since m < STEPS_ALONE
+  alone m p since k le from quiet = elim (last-or-earlier m (n + 1) (omega arith)) [
+    | inl at ↦ subst (λ i. (k : IsInCall later omitted answers p i) → k.first ≤ since → IsAloneBetween later omitted answers p since i → steps_between later p since i < STEPS_ALONE) (sym at) (last_alone p since) k from quiet
     | inr lt ↦ rw (steps-before past (x ∷ []) p since m (omega (arith, len))) (
-        d.solo m p since (earlier-before T past x S R n (party_of x) (is_skipped t) (reply_told t) f.len f.early p m (omega arith) k) (omega arith) from
+        d.alone m p since (earlier-before T past x S R n (party_of x) (is_skipped t) (reply_told t) f.len f.early p m (omega arith) k) (omega arith) from
         (λ q i ne low high in_call. quiet q i ne low high (earlier-now T past x S R n (party_of x) (is_skipped t) (reply_told t) f.len f.early q i (omega arith) in_call))
         )
   ]
@@ -254,14 +254,14 @@ module _ (T : Type 0) (cap : Option ℕ) (parties : ℕ) (past : List (Event T))
   ]
 
   paced-next : Paced parties later (told ++ t ∷ []) (n + 1) omitted answers c
-  paced-next = record { fair = fair; counts = counts; paces = paces; solo = solo; wait_free = wait_free }
+  paced-next = record { fair = fair; counts = counts; paces = paces; alone = alone; wait_free = wait_free }
 
 paced-first : (T : Type 0) (cap : Option ℕ) (parties : ℕ) → Paced {T = T} parties [] [] 0 [] [] (opening cap)
 paced-first T cap parties = record {
   fair = fair-first T cap parties;
   counts = counts-first T cap parties;
   paces = λ p o e. cc;
-  solo = λ m p since k le. let before = k.before in absurd (omega arith);
+  alone = λ m p since k le. let before = k.before in absurd (omega arith);
   wait_free = λ m p k le. let before = k.before in absurd (omega arith);
 }
 
@@ -283,8 +283,8 @@ whole-paced {T} cap parties events r c =
     let whole = run-paced cap parties [] events [] c.told 0 [] [] (opening cap) c.last (paced-first T cap parties) c.run in
     rw (← whole.paced.fair.len, c.skipped ∙ sym whole.paced.fair.skipped, c.replies ∙ sym whole.paced.fair.replies) whole.paced
 
-pub solo_calls : {T A : Type 0} → SoloCallsReply T A
-solo_calls cap parties events r c p since last k le from quiet = (whole-paced cap parties events r c).solo last p since k le from quiet
+pub calls_alone : {T A : Type 0} → CallsAloneReply T A
+calls_alone cap parties events r c p since last k le from quiet = (whole-paced cap parties events r c).alone last p since k le from quiet
 
 pub wait_free_calls : {T A : Type 0} → WaitFreeCallsReply T A
 wait_free_calls cap parties events r c p last k le is = (whole-paced cap parties events r c).wait_free last p k le is
