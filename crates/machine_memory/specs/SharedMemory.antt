@@ -1,7 +1,7 @@
 -- The words, slots and blocks of the machine, and what one operation and one touch do to them.
 use Rattle.std.specs.Prelude.{ℕ, ◌+◌, ◌<◌, ◌^◌, Bool, true, false, Option, Some, None, IsSome, List, [], ◌∷◌, ◌++◌, length, slice_index_or, slice_set}
 use Rattle.queue_steps.specs.declared.steps.types.{Answer.Answer, Answer.Answer as answer, Link.Link, Link.Link as link, Op.Op, Op.Op as op, Touch.Touch, Touch.Touch as touch, Word.Word, Word.Word as word}
-use Rattle.queue_laws.specs.Common.Operations.{op_word, op_makes, answer_for}
+use Rattle.queue_laws.specs.Common.Operations.{op_word, op_makes, answer_for, offered}
 use Rattle.machine_memory.specs.declared.shared_memory.SharedMemory.{SharedMemory}
 use Rattle.machine_memory.specs.Blocks.{BlockState, fresh_block, block_of, place_count, state_of, item_of, behind, put_state, put_item, put_next}
 
@@ -54,11 +54,6 @@ put_link s link.HeadBlock f = record s { head_block = Some f }
 put_link s link.TailBlock f = record s { tail_block = Some f }
 put_link s (link.Next b) f = record s { blocks = put_next s.blocks b (Some f) }
 
--- the pushers' block once one is installed: the one that was there, or the one that is offered
-abbrev pub installed : Option ℕ → ℕ → Option ℕ
-installed None f = Some f
-installed (Some b) f = Some b
-
 -- the operation is one on a word or link that the machine has, and no sum is too large for a word
 abbrev pub CanOperate : {T : Type 0} → MemoryState T → Op ℕ → Type 0
 CanOperate s (op.LoadLink l) = HasLink s l
@@ -91,7 +86,7 @@ abbrev pub operated : {T : Type 0} → Bool → MemoryState T → Op ℕ → Mem
 operated ok s (op.Load w) = s
 operated ok s (op.LoadLink l) = s
 operated ok s (op.StoreLink l f) = put_link s l f
-operated ok s (op.Install f) = record s { tail_block = installed s.tail_block f }
+operated ok s (op.Install f) = record s { tail_block = offered s.tail_block f }
 operated ok s op.Ask = granted_if ok s
 operated ok s o = put_word s (op_word o) (op_makes o (word_at s (op_word o)))
 

@@ -16,6 +16,8 @@ pub mod ChainClaim
 pub mod ChainPop
 pub mod ChainWalk
 pub mod ChainRead
+pub mod ChainEnds
+pub mod ChainSlots
 pub mod ChainLook
 pub mod ChainEmpty
 pub mod ChainPeek

@@ -36,7 +36,7 @@ on_goes s who ms x b name slot lt named is over on =
     (λ more is over. walking x b name (slot + 1) on is named) (λ last is over. (over refl, inr (b, named, is), (Reply.Pop (Ok x), refl, refl, λ e. cc))) is over
 
 -- the walk is at this slot
-walker_ok : {A : Type 0} (c : Chain A) (who b slot : ℕ) → ChainOk c → c.walks b ≡ Walker who slot → (slot < LAST) × IsWalked c.readers b slot
+pub walker_ok : {A : Type 0} (c : Chain A) (who b slot : ℕ) → ChainOk c → c.walks b ≡ Walker who slot → (slot < LAST) × IsWalked c.readers b slot
 walker_ok c who b slot ok is = subst (λ w. WalkOk c.readers b w) is (ok.walk b)
 
 walks_mine : {A : Type 0} (c : Chain A) (who b slot : ℕ) → c.walks b ≡ Walker who slot → (other : ℕ) → other ≢ who → walker_of (c.walks b) ≢ Some other

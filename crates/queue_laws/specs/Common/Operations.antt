@@ -1,5 +1,5 @@
 -- What the operations of calls on words do, whatever the words are kept in.
-use Rattle.std.specs.Prelude.{ℕ, ◌+◌, ◌%◌, ◌^◌, ◌==◌, bit_and, bit_or}
+use Rattle.std.specs.Prelude.{ℕ, ◌+◌, ◌%◌, ◌^◌, ◌==◌, Option, Some, None, bit_and, bit_or}
 use prog.Atomic.{either}
 use Rattle.queue_laws.specs.Common.Vocabulary.{Word, Op, Answer}
 
@@ -37,3 +37,8 @@ op_makes _ n = n
 abbrev pub answer_for : Op ℕ → ℕ → Answer ℕ
 answer_for (Op.Store w x) n = Answer.Done
 answer_for _ n = Answer.Found n
+
+-- where a link leads once a block is offered: to the one that was there, or to this
+abbrev pub offered : Option ℕ → ℕ → Option ℕ
+offered None f = Some f
+offered (Some b) f = Some b
