@@ -1,14 +1,12 @@
 pub mod Codes
 pub mod Names
 pub mod Fresh
-pub mod CodesPush
-pub mod CodesPop
 pub mod CodesAt
-pub mod CodesWalk
-pub mod Holding
+pub mod CodesPush
 pub mod Blocks
 pub mod Gives
 pub mod Coded
+pub mod Holding
 pub mod CodedPush
 pub mod CodedPop
 pub mod CodedRead

@@ -1,6 +1,6 @@
 -- What the machine's changes of a block do to the list of its blocks.
 use Rattle.std.proofs.Common.{ℕ, ◌<◌, ◌≡◌, ◌∙◌, inl, inr, Option, Some, None, List, length, refl, sym, ap, subst, get_or, set, get_or-set_same, get_or-set_other}
-use Rattle.std.proofs.lemmas.{List.get_or_past, List.length-set, List.set-set, List.set-get_or, Bool.cases_lt}
+use Rattle.std.proofs.lemmas.{List.get_or_past, List.length-set, List.set-set, Bool.cases_lt}
 use Rattle.machine_memory.specs.declared.blocks.BlockPlace.{BlockPlace}
 use Rattle.machine_memory.specs.Blocks.{BlockState, blank, places_in, with_place, with_next, state_of, put_state, put_item, put_next}
 use Rattle.machine_replay.proofs.Chain.Names.{Changed}
@@ -63,7 +63,3 @@ both_put {A} bs f i n v x is low =
     same =
         ap (λ p. placed (placed x i (record (place_in x i) { item = v })) i (record p { state = n })) (get_or-set_same x.places i (record (place_in x i) { item = v }) blank low)
         ∙ ap (λ ps. record x { places = ps }) (set-set x.places i (record (place_in x i) { item = v }) (record { state = n; item = v }))
-
--- a place that is put back as it is
-pub placed_same : {A : Type 0} (x : BlockState A) (i : ℕ) → placed x i (place_in x i) ≡ x
-placed_same x i = ap (λ ps. record x { places = ps }) (set-get_or x.places i blank)

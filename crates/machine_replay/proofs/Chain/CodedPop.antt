@@ -1,49 +1,12 @@
--- The shared memory at each step of a pop on a chain up to the wait for its item, and at the steps that only look.
-use Rattle.std.proofs.Common.{ℕ, ◌+◌, ◌*◌, ◌/◌, ◌<◌, ◌≤◌, ◌≡◌, ◌≢◌, ◌==◌, ◌∙◌, ◌⊎◌, inl, inr, Bool, true, false, if◌then◌else◌, IsSome, List, refl, sym, ap, subst, arith}
-use Rattle.std.proofs.lemmas.Bool.Decides.{eqb_tells}
-use Rattle.machine_replay.specs.Vocabulary.{Answer, BLOCK_SLOTS, TAIL_STEP}
+-- The shared memory at each step of a pop on a chain that reads the link or the state of a block.
+use Rattle.std.proofs.Common.{ℕ, ◌+◌, ◌/◌, ◌<◌, ◌≤◌, ◌≡◌, ◌≢◌, ◌∙◌, Bool, IsSome, List, refl, sym, ap, subst, arith}
+use Rattle.machine_replay.specs.Vocabulary.{Answer, BLOCK_SLOTS}
 use Rattle.queue_steps.specs.{State.State, ChainWords.offset_of}
-use Rattle.queue_laws.specs.{Chain.ChainAnswers.head_word, Chain.ChainAnswers.linked_of, Chain.ChainAnswers.IsState, Chain.ChainTransitions.taken, Chain.ChainAfter.taken_if, Chain.ChainAfter.if_taken}
-use Rattle.queue_laws.specs.Chain.ChainFacts.{place, head_of, HeadIs, IsNamed, HeadBlockIs, IsMore, Got}
-use Rattle.queue_laws.specs.Chain.ChainCells.{Writer, Writing, Wrote, Reader, Reading, Done, Stands as Rested, Passing, GivenUp, Chain, FrontOk, ChainOk, Read, Head, HoldsOnly, Nothing, item_at, Free, ItemOk}
-use prog.Atomic.{either}
+use Rattle.queue_laws.specs.Chain.{ChainAnswers.linked_of, ChainAnswers.IsState, ChainFacts.head_of, ChainFacts.IsNamed, ChainFacts.Got, ChainAt.Only, ChainAt.Either, ChainAt.IsBehind, ChainAt.following, ChainAt.peeking, ChainAt.awaiting}
+use Rattle.queue_laws.specs.Chain.ChainCells.{Writer, Writing, Wrote, Reader, Reading, Done, Passing, GivenUp, Chain, FrontOk, ChainOk, Read, Head, HoldsOnly, item_at, Free, ItemOk}
 use Rattle.machine_memory.specs.{Blocks.block_of, Blocks.behind, Blocks.behind_in, Blocks.state_of, SharedMemory.MemoryState}
-use Rattle.machine_replay.proofs.Chain.{Names.Codes, Blocks.state_is, Gives.block_at, Gives.has_place, Coded.CodesShared, Coded.Coded, Coded.coded_by, CodesPop.codes_taken, CodesPop.codes_passed}
-use Rattle.queue_laws.proofs.Chain.{ChainReads.front_is, ChainAnswers.same_head, ChainAnswers.head_offset, ChainReads.not_given_up, ChainStates.one_block, ChainStates.state_answers}
-use Rattle.queue_laws.specs.Chain.ChainAt.{Only, Either, IsBehind, IsFurther, taking, following, peeking, passing, awaiting}
-
-module _ {A : Type 0} (c : Chain A) (who : ℕ) (ms : List (State A)) (ok : Bool) (s : MemoryState A) where
-  -- V4: the head is exchanged, by which the front is taken
-  pub coded_taking : (n name next : ℕ) (more new : Bool) (none : HoldsOnly c who Nothing) (front : HeadIs c n) (there : HeadBlockIs c n name) (word_is : n < c.tail) (room : next ≡ place n * 2 + TAIL_STEP + (if new then 1 else 0)) (least : IsMore c n new)
-      → ChainOk c → CodesShared s c → Coded c who ms ok s (taking n name next more new none front there word_is room least)
-  coded_taking n name after more new none is front lt word_is room right codes =
-      coded_by (taking n name after more new none is front lt word_is room) tt tt (ap (λ w. Answer.Found w) codes.head_is) refl
-      (subst (λ w. CodesShared (moved (w == head_of n more)) (if_taken c who n more new)) (sym codes.head_is) (go (eqb_tells (head_word c) (head_of n more))))
-    where
-      moved : Bool → MemoryState A
-      moved b = record s { head = either b after s.head }
-
-      won : head_word c ≡ head_of n more → (((offset_of (head_of n more) + 1 == BLOCK_SLOTS) ≡ true) × (offset_of (head_of n more) + 1 ≡ BLOCK_SLOTS)) ⊎ (((offset_of (head_of n more) + 1 == BLOCK_SLOTS) ≡ false) × (offset_of (head_of n more) + 1 ≢ BLOCK_SLOTS))
-          → CodesShared (record s { head = after }) (taken_if c who new true (offset_of (head_of n more) + 1 == BLOCK_SLOTS))
-      won e (inl t) =
-          let same = same_head c n more right is e in
-          let at_n = same.1 in
-          let slot = head_offset n more in
-          let last = t.1 in
-          subst (λ b. CodesShared (record s { head = after }) (taken_if c who new true b)) (sym t.0)
-          (subst (λ m. Codes (taken c who (Passing who) new) m s.tail s.head_block s.tail_block s.blocks) (ap (λ m. place m * 2 + TAIL_STEP + (if new then 1 else 0)) at_n ∙ sym word_is)
-          (codes_taken who (Passing who) new (front_is c right (omega arith)).0 (inr (who, refl, omega arith)) codes))
-      won e (inr t) =
-          let same = same_head c n more right is e in
-          let at_n = same.1 in
-          let slot = head_offset n more in
-          subst (λ b. CodesShared (record s { head = after }) (taken_if c who new true b)) (sym t.0)
-          (subst (λ m. Codes (taken c who Rested new) m s.tail s.head_block s.tail_block s.blocks) (ap (λ m. place m * 2 + TAIL_STEP + (if new then 1 else 0)) at_n ∙ sym word_is)
-          (codes_taken who Rested new (front_is c right (omega arith)).0 (inl (refl, λ z. t.1 (omega arith))) codes))
-
-      go : (((head_word c == head_of n more) ≡ true) × (head_word c ≡ head_of n more)) ⊎ (((head_word c == head_of n more) ≡ false) × (head_word c ≢ head_of n more)) → CodesShared (moved (head_word c == head_of n more)) (if_taken c who n more new)
-      go (inl e) = subst (λ b. CodesShared (moved b) (taken_if c who new b (offset_of (head_of n more) + 1 == BLOCK_SLOTS))) (sym e.0) (won e.1 (eqb_tells (offset_of (head_of n more) + 1) BLOCK_SLOTS))
-      go (inr e) = subst (λ b. CodesShared (moved b) (taken_if c who new b (offset_of (head_of n more) + 1 == BLOCK_SLOTS))) (sym e.0) codes
+use Rattle.machine_replay.proofs.Chain.{Blocks.state_is, Gives.block_at, Gives.has_place, Coded.CodesShared, Coded.Coded, Coded.coded_by}
+use Rattle.queue_laws.proofs.Chain.{ChainAnswers.head_offset, ChainReads.not_given_up, ChainStates.one_block, ChainStates.state_answers}
 
 -- an item that is being read is not read
 unread_got : {A : Type 0} (c : Chain A) (n who : ℕ) → c.readers n ≡ Reading who → c.readers n ≢ Done
@@ -87,15 +50,6 @@ module _ {A : Type 0} (c : Chain A) (who : ℕ) (ms : List (State A)) (ok : Bool
       let on = subst (λ b. c.walks b ≢ GivenUp) next_block (not_given_up c c.head right (unread_ahead c c.head right (omega arith))) in
       let links = link_answers s (n / BLOCK_SLOTS + 1) after right behind_it.1 on codes in
       coded_by (peeking x n name after more holds got pass behind_it) tt links.0 links.1 refl codes
-
-  -- V7: the next block is shown to the poppers
-  pub coded_passing : (x : A) (n name after : ℕ) (more further : Bool) (holds : HoldsOnly c who (Either (Read n) Head)) (got : Got c who n x name) (pass : (c.passer ≡ Passing who) × (c.head ≡ n + 1)) (behind_it : IsBehind c n after) (room : IsFurther c n further)
-      → ChainOk c → CodesShared s c → Coded c who ms ok s (passing x n name after more further holds got pass behind_it room)
-  coded_passing x n name after more further holds got pass behind_it room right codes =
-      let front : FrontOk c.head c.front (Passing who) = subst (λ p. FrontOk c.head c.front p) pass.0 right.fronted in
-      let at_n = pass.1 in
-      let front_is : n / BLOCK_SLOTS + 1 ≡ c.front + 1 = omega arith in
-      coded_by (passing x n name after more further holds got pass behind_it room) tt tt refl refl (codes_passed who after right pass.0 (subst (λ b. IsNamed c b after) front_is behind_it.1) codes)
 
   -- V9: the slot's state is read, until its item is written
   pub coded_awaiting : (x : A) (n name : ℕ) (more : Bool) (holds : HoldsOnly c who (Only (Read n))) (got : Got c who n x name)

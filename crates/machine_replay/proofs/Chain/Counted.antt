@@ -70,7 +70,7 @@ chain_counted {A} w b g holds busy each = record {
       let same : blocks_of b.queue ≡ blocks_of (queue_of g) = ap blocks_of holds.queue_is in
       omega (arith, many, all, same);
   none = λ n e. let z : None ≡ Some n = sym (ap (λ q. q.cap) holds.queue_is) ∙ e in cc;
-  held_is = λ some. rw (holds.codes.tail_is, holds.codes.head_is) (held_items g holds.ok ∙ sym (ap (λ q. length q.items) holds.queue_is));
+  held_is = λ some. rw (ap (λ e. e.tail) holds.codes.ends, ap (λ e. e.head) holds.codes.ends) (held_items g holds.ok ∙ sym (ap (λ q. length q.items) holds.queue_is));
 }
   where
     hands : (p : ℕ) → HandOf g p (is_some (call_at w p))

@@ -3,12 +3,10 @@ use Rattle.std.proofs.Common.{ℕ, ◌+◌, ◌<◌, ◌≡◌, ◌⊎◌, inl, 
 use Rattle.std.proofs.lemmas.Bool.Decides.{eqb_tells}
 use Rattle.machine_replay.specs.{Vocabulary.Kind, Vocabulary.Answer, Vocabulary.Local, Vocabulary.Next, Vocabulary.BLOCK_SLOTS, Vocabulary.Running, Book.Open, Progress.Standing, Progress.IsToShow, Progress.NobodyShows, Progress.UnhinderedWithin}
 use Rattle.queue_steps.specs.{State.State, Next.next_of, Words.position_of, declared.steps.chain.ChainLocal.ChainLocal as chain}
-use Rattle.queue_laws.specs.{Common.Effects.with_effect, Common.Stand.Stand, Chain.ChainAfter.after_of, Chain.ChainAfter.left_by, Chain.ChainAnswers.tail_word, Chain.ChainAnswers.shown_of}
+use Rattle.queue_laws.specs.{Common.Effects.with_effect, Common.Stand.Stand, Chain.ChainAfter.after_of, Chain.ChainAfter.left_by, Chain.ChainAnswers.tail_word, Chain.ChainAnswers.shown_of, Chain.ChainAt.empty_head, Chain.ChainAt.empty_tail, Chain.ChainAt.closing, Chain.ChainAt.closed_tail}
 use Rattle.machine_replay.proofs.{Engine.StandOf.running_of, Chain.Pops.is_pop, Chain.Pops.by_call, Chain.Pops.goes_as, Chain.Fits.ChainFits, Chain.Holding.ChainHolds, Chain.Laws.StepStands, Chain.Laws.chain_then, Chain.Laws.next_on, Chain.Stands.steps_stand, Chain.Kind.chain_rules}
-use Rattle.machine_replay.proofs.Chain.{Stretch.not_empty, Stretch.ready_on, Stretch.words_stay, Waits.holds_at, Waits.holder, Waits.unseen_if}
-use Rattle.machine_replay.proofs.Progress.Stretch.{Paces, Turns, Here, party-open, unhindered}
+use Rattle.machine_replay.proofs.{Chain.Stretch.not_empty, Chain.Stretch.ready_on, Chain.Stretch.words_stay, Chain.Waits.holds_at, Chain.Waits.holder, Chain.Waits.unseen_if, Progress.Stretch.Paces, Progress.Stretch.Turns, Progress.Stretch.Here, Progress.Stretch.party-open, Progress.Stretch.unhindered}
 use Rattle.queue_laws.specs.Chain.ChainAt.{At, Only, push_tail, push_block, asking, installing, showing, claiming, spending, pop_head, pop_block, pop_tail, taking, following, peeking, passing, entering, awaiting, reading, beginning, walking, destroying, count_tail, count_head, count_again}
-use Rattle.queue_laws.specs.Chain.ChainAt.{empty_head, empty_tail, closing, closed_tail}
 use Rattle.queue_laws.specs.Chain.ChainCells.{Shown, Hidden, Showing, Seen, Chain, ShownOk, First, shower_of, HoldsOnly, queue_of}
 use Rattle.queue_laws.proofs.Chain.ChainRanks.{is_seen, rank, rank_at, rank_small, rank_some, Falls, IsBare}
 use Rattle.queue_laws.proofs.Chain.{ChainRanksPush.first_place, ChainRanksStep.IsReady, ChainRanksStep.step_falls, ChainRight.NextOkSpares, ChainRight.step_right, ChainStep.is_chain}
@@ -96,7 +94,7 @@ module _ (A : Type 0) where
       go (Some b) e = absurd (not_none (step_of Kind.Unbounded ok s r).shared.head_block none (ready_on A ok s r (subst (λ z. IsSome z) (sym e) refl)))
 
   unseen_front : (s : MemoryState A) (Q : State A) (g : Chain A) → ChainHolds s Q g → is_seen g.shown ≡ false → s.head_block ≡ None
-  unseen_front s Q g holds unseen = holds.codes.front_is ∙ go g.shown unseen
+  unseen_front s Q g holds unseen = ap (λ e. e.front) holds.codes.ends ∙ go g.shown unseen
     where
       go : (x : Shown) → is_seen x ≡ false → shown_of x (g.names g.front) ≡ None
       go Seen e = cc
@@ -134,17 +132,17 @@ module _ (A : Type 0) where
 
       less : near t x' < near s x
       less =
-          let first = ready_at g x.local (λ pop unseen. sym (ap position_of holds.codes.tail_is) ∙ ready pop (unseen_front s Q g holds unseen)) in
+          let first = ready_at g x.local (λ pop unseen. sym (ap (λ e. position_of e.tail) holds.codes.ends) ∙ ready pop (unseen_front s Q g holds unseen)) in
           let falls = goes_on (after_of f.here a) (next_on ok s x) (carried_then s x) (rank g x.local) x' on (step_falls f.here a holds.ok step.found bare first) in
-          let there : near t x' ≡ rank after x'.local = ap (λ z. rank_at z t.head x'.local) step.codes.tail_is ∙ ap (λ z. rank_at (tail_word after) z x'.local) step.codes.head_is in
-          let here : near s x ≡ rank g x.local = ap (λ z. rank_at z s.head x.local) holds.codes.tail_is ∙ ap (λ z. rank_at (tail_word g) z x.local) holds.codes.head_is in
+          let there : near t x' ≡ rank after x'.local = ap (λ e. rank_at e.tail e.head x'.local) step.codes.ends in
+          let here : near s x ≡ rank g x.local = ap (λ e. rank_at e.tail e.head x.local) holds.codes.ends in
           omega (arith, falls, there, here)
 
   -- the step of another party that has had no effect, and has none
   keeps_ready : (s s' : MemoryState A) (Q : State A) (g : Chain A) (r : Running A) → ChainHolds s Q g → Ready s r → (s' ≡ s) ⊎ Turns (chain_rules A) s s' Q g → Ready s' r × (near s' r ≡ near s r)
   keeps_ready s s' Q g r holds ready (inl same) = (subst (λ z. Ready z r) (sym same) ready, ap (λ z. near z r) same)
   keeps_ready s s' Q g r holds ready (inr t) =
-      let words = words_stay t.granted s t.fits.here t.none holds.codes.tail_is t.quiet in
+      let words = words_stay t.granted s t.fits.here t.none (ap (λ e. e.tail) holds.codes.ends) t.quiet in
       let tail : s'.tail ≡ s.tail = ap (λ z. z.tail) t.leaves ∙ words.1 in
       let head : s'.head ≡ s.head = ap (λ z. z.head) t.leaves ∙ words.0 in (
         λ pop none. ap position_of tail ∙ ready pop (none_before t.granted s t.call (sym (ap (λ z. z.head_block) t.leaves) ∙ none)),
@@ -169,8 +167,8 @@ module _ (A : Type 0) where
   readies parties w st h p r is nobody pop none = go h.sim.g.shown refl h.sim.holds.ok.seen
     where
       go : (x : Shown) → h.sim.g.shown ≡ x → ShownOk h.sim.g.blocks h.sim.g.head h.sim.g.front h.sim.g.known h.sim.g.passer x → position_of w.shared.tail ≡ 0
-      go Hidden e shown = ap position_of h.sim.holds.codes.tail_is ∙ first_place h.sim.g h.sim.holds.ok shown.0
-      go Seen e shown = let no : true ≡ false = sym (ap is_seen e) ∙ unseen_if h.sim.g.shown (h.sim.g.names h.sim.g.front) (sym h.sim.holds.codes.front_is ∙ none) in cc
+      go Hidden e shown = ap position_of (ap (λ e. e.tail) h.sim.holds.codes.ends) ∙ first_place h.sim.g h.sim.holds.ok shown.0
+      go Seen e shown = let no : true ≡ false = sym (ap is_seen e) ∙ unseen_if h.sim.g.shown (h.sim.g.names h.sim.g.front) (sym (ap (λ e. e.front) h.sim.holds.codes.ends) ∙ none) in cc
       go (Showing q) e shown = elim (eqb_tells q p) [
         | inl same ↦
             let o = party-open A Kind.Unbounded (chain_rules A) parties h.b.busy w.shared h.b.queue h.sim.g p (call_at w p) (h.b.open_call p) r (h.sim.each p) is in

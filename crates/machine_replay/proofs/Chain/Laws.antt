@@ -4,7 +4,7 @@ use Rattle.queue_steps.specs.{State.State, Next.CanNext, Next.next_of, ChainNext
 use Rattle.machine_replay.specs.{Vocabulary.Call, Vocabulary.Effect, Vocabulary.Kind, Vocabulary.Next, Vocabulary.Running, Book.Open, Book.Moves, Book.after_own}
 use Rattle.queue_laws.specs.{Common.Effects.with_effect, Chain.ChainCells.Chain, Chain.ChainCells.queue_of, Chain.ChainAt.At, Chain.ChainAnswers.Answers, Chain.ChainPasses.Spares, Chain.ChainPasses.spare_in}
 use Rattle.queue_laws.specs.Chain.ChainAfter.{chain_of, after_of, carried_of, left_by}
-use Rattle.machine_replay.proofs.{Engine.StandOf.stand_of, Engine.KindLaws.LawsOf, Chain.Names.Codes, Chain.Holding.ChainHolds, Chain.Moments.chain_moves}
+use Rattle.machine_replay.proofs.{Engine.StandOf.stand_of, Engine.KindLaws.LawsOf, Chain.Coded.CodesShared, Chain.Holding.ChainHolds, Chain.Moments.chain_moves}
 use Rattle.machine_replay.proofs.Chain.Fits.{ChainIdle, ChainFits, ChainGoes, chain_goes, chain_watched, chain_idle, chain_joins, chain_begins}
 use Rattle.queue_laws.proofs.Chain.{ChainStep.is_chain, ChainRight.NextOkSpares, ChainRight.step_right}
 use Rattle.machine_memory.specs.{SharedMemory.MemoryState, SharedMemory.CanTouch, SharedMemory.CanOperate, SharedMemory.block_touched, SharedMemory.slots_there, EffectOf.effect_of}
@@ -25,7 +25,7 @@ pub record StepStands {A : Type 0} (ok : Bool) (s : MemoryState A) (g : Chain A)
   pub operates : CanOperate (after_touch s x) x.op
   pub found : Answers g x.op (answer_to ok s x)
   pub carried : carried_then s x ≡ carried_of at
-  pub codes : Codes (chain_then ok s g p ms x k es at) (shared_then Kind.Unbounded ok s x).head (shared_then Kind.Unbounded ok s x).tail (shared_then Kind.Unbounded ok s x).head_block (shared_then Kind.Unbounded ok s x).tail_block (shared_then Kind.Unbounded ok s x).blocks
+  pub codes : CodesShared (shared_then Kind.Unbounded ok s x) (chain_then ok s g p ms x k es at)
 
 -- each step of each call does so
 abbrev pub StepsStand : Type 0 → Type 0

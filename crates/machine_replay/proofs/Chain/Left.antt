@@ -4,10 +4,10 @@ use Rattle.std.proofs.lemmas.{Bool.ltb-true, Bool.ltb-false, Bool.Decides.eqb_te
 use Rattle.queue_steps.specs.State.{State}
 use Rattle.machine_replay.specs.{Vocabulary.Kind, Vocabulary.BLOCK_SLOTS, Vocabulary.Running, Book.Book}
 use Rattle.queue_laws.specs.Chain.ChainCells.{Reading, Done, Passer, Stands, Passing, Entering, Shown, Hidden, Showing, Seen, GivenUp, Before, Unused, Spare, Chained, Chain, ChainOk, FrontOk, ShownOk, item_at, LAST, Head, passer_of}
-use Rattle.queue_laws.proofs.Chain.{ChainStates.unwalked, ChainTransitions.no_block, ChainCount.number_of, ChainSpan.not_done, Count.count_all, Count.count_into}
+use Rattle.queue_laws.proofs.Chain.{ChainStates.unwalked, ChainTransitions.no_block, ChainSlots.next_items, ChainCount.number_of, ChainSpan.not_done, Count.count_all, Count.count_into}
 use Rattle.machine_memory.specs.{Blocks.BlockState, Blocks.fresh_block, Blocks.places_in, Blocks.behind_in, Blocks.without, SharedMemory.MemoryState}
 use Rattle.machine_steps.specs.{ChainLeft.unread, ChainLeft.chained, ChainLeft.settled_blocks, Left.left_of, World.World, World.call_at}
-use Rattle.machine_replay.proofs.Chain.{Codes.BlockIs, Names.NameIs, Names.name_of, Names.alive_of, Fresh.next_high, Holding.ChainHolds, Counted.StandsAt, Done.all_done, Done.settled_block, Shows.AllStand, Shows.deed_at, Shows.in_call, Shows.block_shows}
+use Rattle.machine_replay.proofs.Chain.{Codes.BlockIs, Names.NameIs, Names.name_of, Names.alive_of, Holding.ChainHolds, Counted.StandsAt, Done.all_done, Done.settled_block, Shows.AllStand, Shows.deed_at, Shows.in_call, Shows.block_shows}
 use Rattle.machine_replay.proofs.Chain.Links.{next_is, last_next, spare_empty, front_then, front_is}
 
 -- from no block on there is nothing
@@ -63,7 +63,7 @@ walk {A} g calls blocks bs start k (suc fuel) b w low left enough agrees =
     there = agrees (g.names b) (λ j less. names_apart g b j w.ok lt less) ∙ settled_block calls blocks (g.names b) here.0 here.1
 
     over : g.blocks ≡ b + 1 → drop ((b + 1) * BLOCK_SLOTS - g.head) g.items ≡ []
-    over last = let high = next_high g.tail g.blocks g.mover w.ok.laid in let count_is = w.ok.count in drop_all ((b + 1) * BLOCK_SLOTS - g.head) g.items (omega arith)
+    over last = let high = next_items g.tail g.blocks g.mover w.ok.laid in let count_is = w.ok.count in drop_all ((b + 1) * BLOCK_SLOTS - g.head) g.items (omega arith)
 
     last : g.blocks ≡ b + 1 → chained fuel (set bs (g.names b) None) (all_done calls (g.names b) here.0).next ≡ []
     last at = go (last_next g calls b here.0 w.ok w.each (sym at) here.2)
@@ -147,7 +147,7 @@ walk_from s Q g calls holds each lt =
 -- the list that is left is the queue's
 pub chain_left : {A : Type 0} (w : World (MemoryState A) (Running A)) (b : Book A) (g : Chain A) → ChainHolds w.shared b.queue g → ((p : ℕ) → StandsAt g p (call_at w p)) → left_of Kind.Unbounded w ≡ b.queue.items
 chain_left {A} w b g holds each =
-    ap (λ y. chained (length w.shared.blocks) (settled_blocks w.calls w.shared.blocks) y) (front_is g w.calls w.shared.head_block holds.ok each holds.codes.front_is)
+    ap (λ y. chained (length w.shared.blocks) (settled_blocks w.calls w.shared.blocks) y) (front_is g w.calls w.shared.head_block holds.ok each (ap (λ e. e.front) holds.codes.ends))
     ∙ (go g.shown refl holds.ok.seen ∙ sym (ap (λ q. q.items) holds.queue_is))
   where
     none_left : (xs : List A) → length xs ≡ 0 → xs ≡ []

@@ -1,10 +1,9 @@
 -- How the words, links and blocks of the machine stand for a chain.
-use Rattle.std.proofs.Common.{ℕ, ◌+◌, ◌<◌, ◌≤◌, ◌≡◌, ◌≢◌, ◌∙◌, ◌⊎◌, inl, inr, Option, Some, None, List, length, refl, sym, ap, subst, get_or}
-use Rattle.machine_replay.specs.Vocabulary.{BLOCK_SLOTS}
-use Rattle.queue_laws.specs.Chain.{ChainCells.item_at, ChainCells.GivenUp, ChainCells.Use, ChainCells.Unused, ChainCells.Spare, ChainCells.Chained, ChainCells.Chain, ChainFacts.IsNamed, ChainAnswers.tail_word, ChainAnswers.head_word, ChainAnswers.last_of, ChainAnswers.shown_of}
-use Rattle.queue_laws.specs.Chain.ChainAnswers.{linked_of, is_done, waits_at}
-use Rattle.machine_memory.specs.Blocks.{BlockState, fresh_block}
-use Rattle.machine_replay.proofs.Chain.Codes.{BlockIs, SameItem, wrote_in, block_same}
+use Rattle.std.proofs.Common.{ℕ, ◌<◌, ◌≤◌, ◌≡◌, ◌≢◌, ◌∙◌, ◌⊎◌, inl, inr, Option, Some, None, List, length, refl, sym, subst, get_or}
+use Rattle.queue_laws.specs.Chain.{ChainCells.GivenUp, ChainCells.Use, ChainCells.Unused, ChainCells.Spare, ChainCells.Chained, ChainCells.Chain, ChainFacts.IsNamed, ChainTransitions.renamed}
+use Rattle.queue_laws.proofs.Chain.{ChainEnds.Ends, ChainEnds.ends_of, ChainSlots.SameBlock}
+use Rattle.machine_memory.specs.{Blocks.BlockState, Blocks.fresh_block, SharedMemory.MemoryState}
+use Rattle.machine_replay.proofs.Chain.Codes.{BlockIs, block_same}
 
 -- the block is there, and is the chain's block b
 abbrev pub AliveIs : {A : Type 0} → Chain A → ℕ → Option (BlockState A) → Type 0
@@ -21,55 +20,32 @@ NameIs c f (Spare who) y = y ≡ Some fresh_block
 NameIs c f (Chained b) y = IsNamed c b f × HeldIs c b y
 NameIs c f x y = y ≡ None
 
+-- the machine's words, and its links to the poppers' and the pushers' block
+abbrev pub ends_in : {A : Type 0} → MemoryState A → Ends
+ends_in s = record { head = s.head; tail = s.tail; front = s.head_block; last = s.tail_block }
+
 -- the words, the links and the blocks are those of the chain. The names are given out in their order
-pub record Codes {A : Type 0} (c : Chain A) (head tail : ℕ) (head_block tail_block : Option ℕ) (blocks : List (Option (BlockState A))) : Type 0 where
-  pub head_is : head ≡ head_word c
-  pub tail_is : tail ≡ tail_word c
-  pub front_is : head_block ≡ shown_of c.shown (c.names c.front)
-  pub last_is : tail_block ≡ last_of c.names c.blocks
+pub record Codes {A : Type 0} (c : Chain A) (e : Ends) (blocks : List (Option (BlockState A))) : Type 0 where
+  pub ends : e ≡ ends_of c
   pub unused : (f : ℕ) → length blocks ≤ f → c.uses f ≡ Unused
   pub name : (f : ℕ) → NameIs c f (c.uses f) (get_or blocks f None)
 
--- the chain's block b stands for the same
-pub record SameBlock {A : Type 0} (c s : Chain A) (b : ℕ) : Type 0 where
-  pub over : c.walks b ≡ GivenUp → s.walks b ≡ GivenUp
-  pub on : s.walks b ≡ GivenUp → c.walks b ≡ GivenUp
-  pub same : (j : ℕ) → j < BLOCK_SLOTS → SameItem c s b j
-  pub link : linked_of (c.links b) (c.names (b + 1)) ≡ linked_of (s.links b) (s.names (b + 1))
-
 alive_kept : {A : Type 0} (c s : Chain A) (b : ℕ) (y : Option (BlockState A)) → SameBlock c s b → AliveIs c b y → AliveIs s b y
 alive_kept c s b None keeps h = h
-alive_kept c s b (Some x) keeps h = block_same c s b x.places x.next x.next h keeps.same (h.linked ∙ keeps.link)
+alive_kept c s b (Some x) keeps h = block_same c s b x.places x.next x.next h keeps.slot (h.linked ∙ sym keeps.link)
 
 held_kept : {A : Type 0} (c s : Chain A) (b : ℕ) (y : Option (BlockState A)) → SameBlock c s b → HeldIs c b y → HeldIs s b y
-held_kept c s b y keeps (inl h) = inl (keeps.over h.0, h.1)
-held_kept c s b y keeps (inr h) = inr ((λ e. h.0 (keeps.on e)), alive_kept c s b y keeps h.1)
+held_kept c s b y keeps (inl h) = inl (keeps.walk ∙ h.0, h.1)
+held_kept c s b y keeps (inr h) = inr ((λ e. h.0 (sym keeps.walk ∙ e)), alive_kept c s b y keeps h.1)
 
 -- a name that is for the same
-pub name_kept : {A : Type 0} (c s : Chain A) (f : ℕ) (u : Use) (y : Option (BlockState A)) → ((b : ℕ) → IsNamed c b f → IsNamed s b f × SameBlock c s b) → NameIs c f u y → NameIs s f u y
-name_kept c s f (Chained b) y keeps h = let k = keeps b h.0 in (k.0, held_kept c s b y k.1 h.1)
+pub name_kept : {A : Type 0} (c s : Chain A) (f : ℕ) (u : Use) (y : Option (BlockState A)) → ((b : ℕ) → IsNamed c b f → (b < s.blocks) × SameBlock c s b) → NameIs c f u y → NameIs s f u y
+name_kept c s f (Chained b) y keeps h = let k = keeps b h.0 in ((k.0, h.0.1 ∙ sym k.1.name), held_kept c s b y k.1 h.1)
 name_kept c s f u y keeps h = h
 
--- a chain that has the same items, walks and links
-pub keeps_all : {A : Type 0} (c s : Chain A) (b : ℕ) → s.writers ≡ c.writers → s.readers ≡ c.readers → s.walks ≡ c.walks → linked_of (c.links b) (c.names (b + 1)) ≡ linked_of (s.links b) (s.names (b + 1)) → SameBlock c s b
-keeps_all c s b writers readers walks link = record {
-  over = λ e. ap (λ f. f b) walks ∙ e;
-  on = λ e. sym (ap (λ f. f b) walks) ∙ e;
-  same = λ j lt. record { wrote = ap (λ f. wrote_in (f (item_at b j))) writers; done = ap (λ f. is_done (f (item_at b j))) readers; waits = ap (λ f. waits_at (f b) j) walks };
-  link = link;
-}
-
--- a chain with other words, in which a name is for the same
-pub codes_kept : {A : Type 0} {c : Chain A} {head tail : ℕ} {front last : Option ℕ} {blocks : List (Option (BlockState A))} (s : Chain A) {h t : ℕ} {f l : Option ℕ} → s.uses ≡ c.uses → ((b g : ℕ) → IsNamed c b g → IsNamed s b g × SameBlock c s b)
-    → h ≡ head_word s → t ≡ tail_word s → f ≡ shown_of s.shown (s.names s.front) → l ≡ last_of s.names s.blocks → Codes c head tail front last blocks → Codes s h t f l blocks
-codes_kept {c = c} {blocks = blocks} s uses keeps head_is tail_is front_is last_is codes = record {
-  head_is = head_is;
-  tail_is = tail_is;
-  front_is = front_is;
-  last_is = last_is;
-  unused = λ g le. ap (λ u. u g) uses ∙ codes.unused g le;
-  name = λ g. subst (λ u. NameIs s g (u g) (get_or blocks g None)) (sym uses) (name_kept c s g (c.uses g) (get_or blocks g None) (λ b is. keeps b g is) (codes.name g));
-}
+-- where a name alone is for something else, each other name is for the same
+pub name_renamed : {A : Type 0} (c : Chain A) (f : ℕ) (v : Use) (g : ℕ) (u : Use) (y : Option (BlockState A)) → NameIs c g u y → NameIs (renamed c f v) g u y
+name_renamed c f v g u y h = name_kept c (renamed c f v) g u y (λ b named. (named.0, record { name = refl; link = refl; walk = refl; slot = λ j lt. record { wrote = refl; done = refl; waits = refl } })) h
 
 -- the blocks of the machine, of which one changes
 pub record Changed {A : Type 0} (blocks after : List (Option (BlockState A))) (f : ℕ) (y : Option (BlockState A)) : Type 0 where

@@ -9,10 +9,7 @@ pub chain_opens : (A : Type 0) → ChainHolds {A = A} (opening_shared Kind.Unbou
 chain_opens A = record {
   ok = first_ok;
   codes = record {
-    head_is = refl;
-    tail_is = refl;
-    front_is = refl;
-    last_is = refl;
+    ends = refl;
     unused = λ f low. refl;
     name = λ f. get_or_past [] f None (omega arith);
   };

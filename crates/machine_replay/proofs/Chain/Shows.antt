@@ -3,10 +3,10 @@ use Rattle.std.proofs.Common.{ℕ, suc, zero, ◌+◌, ◌-◌, ◌*◌, ◌/◌
 use Rattle.std.{proofs.lemmas.List.append_assoc, proofs.lemmas.List.drop_all, specs.Option.option_to_list}
 use Rattle.machine_replay.specs.Vocabulary.{BLOCK_SLOTS, READ, Running}
 use Rattle.queue_laws.specs.Chain.ChainCells.{Writer, Free, Writing, Wrote, Reader, Unread, Reading, Done, Chained, Chain, ChainOk, ItemOk, item_at, Part, Write, Read, owner, writer_of, reader_of}
-use Rattle.queue_laws.specs.Chain.ChainAnswers.{is_done}
+use Rattle.queue_laws.{specs.Chain.ChainAnswers.is_done, proofs.Chain.ChainSlots.lies}
 use Rattle.machine_memory.specs.{declared.blocks.BlockPlace.BlockPlace, Blocks.BlockState, Blocks.blank}
 use Rattle.machine_steps.specs.ChainLeft.{unread_in, unread, front_at}
-use Rattle.machine_replay.proofs.Chain.{Codes.BlockIs, Codes.lies, Counted.InCall, Counted.StandsAt, DeedsAt.at_deed}
+use Rattle.machine_replay.proofs.Chain.{Codes.BlockIs, Counted.InCall, Counted.StandsAt, DeedsAt.at_deed}
 use Rattle.machine_replay.proofs.Chain.Deeds.{Deed, Puts, Lays, Reads, deed_of, PutsAt, IsSlotOf, IsClaimed, DeedIs}
 use Rattle.machine_replay.proofs.Chain.Done.{all_done, done_to, keeps_all, makes_all, IsWide, wide_done, HasItem, item_kept, item_made, SaysUnread, unread_kept, read_made}
 

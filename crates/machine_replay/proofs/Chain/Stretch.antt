@@ -1,14 +1,15 @@
 -- A chain: a step without effect leaves the words, and where poppers see a block they go on seeing one. And the rules by which the machine's calls on it are counted.
-use Rattle.std.proofs.Common.{ℕ, if◌then◌else◌, ◌≡◌, ◌∙◌, Bool, true, false, Option, Some, None, IsSome, List, [], ◌∷◌, bit_or, refl, sym, ap, subst}
+use Rattle.std.proofs.Common.{ℕ, if◌then◌else◌, ◌≡◌, ◌∙◌, Bool, true, false, Some, None, IsSome, List, [], ◌∷◌, bit_or, refl, sym, ap, subst}
 use Rattle.queue_steps.specs.{State.State, Words.is_shut, Words.tail_of}
-use Rattle.machine_replay.specs.Vocabulary.{Kind, Word, Link, Op, Touch, MARK, EffectKind, Running}
+use Rattle.machine_replay.specs.Vocabulary.{Kind, Word, Link, Op, MARK, EffectKind, Running}
 use Rattle.queue_laws.specs.{Common.Stand.Stand, Chain.ChainCells.Chain, Chain.ChainAnswers.tail_place, Chain.ChainAnswers.tail_word, Common.Operations.op_word, Common.Operations.op_makes}
-use Rattle.queue_laws.proofs.{Common.Tails.mark_tail, Common.Tails.shut_tail}
-use Rattle.machine_replay.proofs.{Engine.StandOf.running_of}
+use Rattle.queue_laws.proofs.{Common.Tails.mark_tail, Common.Tails.shut_tail, Chain.ChainEnds.Ends, Chain.ChainEnds.ends_made}
+use Rattle.queue_laws.proofs.Chain.ChainEnds as made
+use Rattle.machine_replay.proofs.{Engine.StandOf.running_of, Chain.Names.ends_in, Chain.Coded.ends_after}
 use Rattle.queue_laws.specs.Chain.ChainAt.{At, push_tail, push_block, asking, installing, showing, claiming, spending, pop_head, pop_block, pop_tail, taking, count_tail, count_head, count_again, empty_head, empty_tail, closing, closed_tail}
 use prog.Atomic.{either}
-use Rattle.machine_memory.specs.SharedMemory.{MemoryState, word_at, put_word, put_at, touched, operated, granted_if, block_touched}
-use Rattle.machine_steps.specs.Steps.{step_of, after_touch}
+use Rattle.machine_memory.specs.SharedMemory.{MemoryState, put_word, granted_if}
+use Rattle.machine_steps.specs.Steps.{step_of}
 
 -- the words that a step leaves
 abbrev SameWords : {A : Type 0} → MemoryState A → MemoryState A → Type 0
@@ -57,33 +58,19 @@ words_stay ok s (closed_tail none) e is quiet = (refl, refl)
 words_stay ok s _ e is quiet = absurd (not_empty _ _ e)
 
 -- the poppers go on seeing a block
-put_at_front : {A : Type 0} (s : MemoryState A) (b : Option ℕ) (i : ℕ) (v : Option A) → (put_at s b i v).head_block ≡ s.head_block
-put_at_front s None i v = refl
-put_at_front s (Some b) i v = refl
+word_front : (e : Ends) (w : Word ℕ) (x : ℕ) → (made.put_word e w x).front ≡ e.front
+word_front e Word.Head x = refl
+word_front e Word.Tail x = refl
+word_front e w x = refl
 
-touched_front : {A : Type 0} (t : Touch) (b : Option ℕ) (s : MemoryState A) (v : Option A) → (touched t b s v).head_block ≡ s.head_block
-touched_front Touch.Nothing b s v = refl
-touched_front (Touch.Put i) b s v = put_at_front s b i v
-touched_front (Touch.Swap i) b s v = put_at_front s b i v
-touched_front (Touch.Take i) b s v = put_at_front s b i v
-
-put_word_front : {A : Type 0} (s : MemoryState A) (w : Word ℕ) (x : ℕ) → (put_word s w x).head_block ≡ s.head_block
-put_word_front s Word.Lock x = refl
-put_word_front s w x = refl
-
-granted_front : {A : Type 0} (ok : Bool) (s : MemoryState A) → IsSome s.head_block → IsSome (granted_if ok s).head_block
-granted_front true s h = h
-granted_front false s h = h
-
-operated_front : {A : Type 0} (ok : Bool) (s : MemoryState A) (o : Op ℕ) → IsSome s.head_block → IsSome (operated ok s o).head_block
-operated_front ok s (Op.Load w) h = h
-operated_front ok s (Op.LoadLink l) h = h
-operated_front ok s (Op.StoreLink Link.HeadBlock f) h = refl
-operated_front ok s (Op.StoreLink l f) h = h
-operated_front ok s (Op.Install f) h = h
-operated_front ok s Op.Ask h = granted_front ok s h
-operated_front ok s o h = subst (λ b. IsSome b) (sym (put_word_front s (op_word o) (op_makes o (word_at s (op_word o))))) h
+front_made : (o : Op ℕ) (e : Ends) → IsSome e.front → IsSome (ends_made o e).front
+front_made (Op.LoadLink l) e h = h
+front_made (Op.StoreLink Link.HeadBlock f) e h = refl
+front_made (Op.StoreLink l f) e h = h
+front_made (Op.Install f) e h = h
+front_made Op.Ask e h = h
+front_made o e h = subst (λ b. IsSome b) (sym (word_front e (op_word o) (op_makes o (made.end_word e (op_word o))))) h
 
 module _ (A : Type 0) where
   pub ready_on : (ok : Bool) (s : MemoryState A) (r : Running A) → IsSome s.head_block → IsSome (step_of Kind.Unbounded ok s r).shared.head_block
-  ready_on ok s r h = operated_front ok (after_touch s r) r.op (subst (λ b. IsSome b) (sym (touched_front r.touch (block_touched r.op) s r.carried)) h)
+  ready_on ok s r h = subst (λ e. IsSome e.front) (sym (ends_after ok s r)) (front_made r.op (ends_in s) h)

@@ -2,8 +2,7 @@
 use Rattle.std.proofs.Common.{ℕ, ◌+◌, ◌/◌, ◌%◌, ◌≤◌, ◌≡◌, ◌≢◌, ◌==◌, ◌⊎◌, inl, inr, ◌∙◌, not, false, true, Option, Some, None, List, refl, sym, ap, subst, arith}
 use Rattle.std.proofs.lemmas.Bool.{eq-eqb}
 use Rattle.machine_replay.specs.Vocabulary.{Call, Effect, Kind, Answer, Local, Next, PushKind, BLOCK_SLOTS, Running}
-use Rattle.queue_steps.specs.{State.State, Next.next_of, Words.position_of, ChainWords.offset_of, declared.steps.chain.ChainLocal.ChainLocal as chain}
-use Rattle.queue_steps.specs.ChainNext.{chain_tail_found, chain_head_found, chain_pop_tail_found, followed, written_found, chain_next}
+use Rattle.queue_steps.specs.{State.State, Next.next_of, Words.position_of, ChainWords.offset_of, declared.steps.chain.ChainLocal.ChainLocal as chain, ChainNext.chain_tail_found, ChainNext.chain_head_found, ChainNext.chain_pop_tail_found, ChainNext.followed, ChainNext.written_found, ChainNext.chain_next}
 use Rattle.queue_laws.specs.{Common.Stand.Stand, Chain.ChainAfter.chain_of, Chain.ChainFacts.head_of, Chain.ChainFacts.open_tail_of}
 use Rattle.queue_laws.specs.Chain.ChainAnswers.{Answers, IsState, tail_word, head_word, shown_of, linked_of, is_wrote}
 use Rattle.machine_replay.proofs.{Engine.StandOf.stand_of, Progress.Beside.apart, Progress.Beside.beside, Progress.Beside.not_back, Chain.Laws.next_on, Chain.Stands.steps_stand, Chain.Kind.chain_rules}
@@ -217,7 +216,7 @@ chain_waits A parties p past r x is goes =
       pop = λ at_it back. row parties w st h p r x (Local.Chain chain.PopHead) IsToMoveHead is goes back (λ such. subst IsToMoveHead at_it such)
           (λ ms c es here a found. pop_row here a found at_it);
       first = λ head at_it none back. row parties w st h p r x (Local.Chain chain.PopHead) IsToShow is goes back (λ such. subst IsToShow at_it such)
-          (λ ms c es here a found. first_row head here a ok found (unseen_if h.sim.g.shown (h.sim.g.names h.sim.g.front) (sym h.sim.holds.codes.front_is ∙ none)) at_it);
+          (λ ms c es here a found. first_row head here a ok found (unseen_if h.sim.g.shown (h.sim.g.names h.sim.g.front) (sym (ap (λ e. e.front) h.sim.holds.codes.ends) ∙ none)) at_it);
       link = λ head block at_it back. row parties w st h p r x (Local.Chain (chain.Following head block)) IsToLink is goes back (λ such. subst IsToLink at_it such)
           (λ ms c es here a found. link_row head block here a ok found at_it);
       item = λ head block at_it back. row parties w st h p r x (Local.Chain (chain.Awaiting head block)) IsToWrite is goes back (λ such. subst IsToWrite at_it such)
