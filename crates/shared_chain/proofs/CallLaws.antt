@@ -7,6 +7,7 @@ use Rattle.queue_laws.proofs.{Common.Tails.position_tail, Chain.ChainPlaces.plac
 use Rattle.queue_laws.specs.Chain.ChainCells.{Wrote, Reader, Reading, Chain, Part, Write, Read, HoldsOnly, Nothing, writer_of, reader_of}
 use Rattle.shared_parties.specs.Calling.{CallLaws, HasTouched, first_of, Opens}
 use Rattle.shared_chain.specs.ChainCalls.{OutChain, HasOut, Out, ChainLent, ChainIdle, SlotsAs, PassesOut, chain_calls}
+use Rattle.shared_chain.proofs.Frames.Leaves.{nothing_out, nothing_lent}
 
 pub reader_is : (r : Reader) (j : ℕ) → reader_of r ≡ Some j → r ≡ Reading j
 reader_is (Reading p) j e = ap (λ i. Reading i) (cc)
@@ -48,18 +49,6 @@ module _ {T : Type 0} where
   lent_stays g s who j xs ne pass (inl none) = inl (none.0, λ n h. none.1 n (out_back g s who j n ne pass h))
   lent_stays g s who j xs ne pass (inr (n, y, out, is)) = inr (n, y, out_stays g s who j n y ne pass out, is)
 
-  idle_none : (g : OutChain T) (j n : ℕ) → ChainIdle g j → ¬ (HasOut g j n)
-  idle_none g j n idle (inl e) = idle.0 (Write n) e
-  idle_none g j n idle (inr h) = idle.0 (Read n) (ap reader_of h.0)
-
-  has_out : (g : OutChain T) (j n : ℕ) (y : Option T) → Out g j n y → HasOut g j n
-  has_out g j n y (inl h) = inl h.0
-  has_out g j n y (inr h) = inr (h.0, h.1)
-
-  idle_lends : (g : OutChain T) (j : ℕ) (xs : List (ℕ × Option T)) → ChainIdle g j → ChainLent g j xs → xs ≡ []
-  idle_lends g j xs idle (inl none) = none.0
-  idle_lends g j xs idle (inr (n, y, out, is)) = absurd (idle_none g j n idle (has_out g j n y out))
-
   slots_stay : (g s : OutChain T) (who j : ℕ) (l : Local ℕ) → j ≢ who → PassesOut who g s → SlotsAs g j l → SlotsAs s j l
   slots_stay g s who j l ne pass slots n e =
       let before : g.chain.readers n ≡ Reading j = reader_is (g.chain.readers n) j (pass.0.owned (Read n) j ne (ap reader_of e)) in pass.1 j n ne before ∙ slots n before
@@ -99,8 +88,8 @@ module _ {T : Type 0} where
     at_stays = λ g s who j ms was c ok ok2 ne pass here. (at_stays ok ok2 ne pass.0 here.0, spares_stay who j (spare_in c.local) ne pass.0 here.1, slots_stay g s who j c.local ne pass here.2);
     lent_stays = λ g s who j xs ne pass lent. lent_stays g s who j xs ne pass lent;
     idle_stays = λ g s who j ne pass idle. (holds_stays who j Nothing ne pass.0 idle.0, spares_stay who j None ne pass.0 idle.1);
-    idle_none = λ g j xs idle lent. idle_lends g j xs idle lent;
-    idle_lent = λ g j idle. inl (refl, λ n. idle_none g j n idle);
+    idle_none = λ g j xs idle lent. nothing_lent g j xs idle.0 lent;
+    idle_lent = λ g j idle. inl (refl, nothing_out g j idle.0);
     coming = λ g j ms was c ok here between. absurd (no_front here.0 between);
     touches = λ g j ms was c xs here lent. touches_own g j xs here.0 here.2 lent;
   }

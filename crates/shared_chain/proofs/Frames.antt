@@ -1,8 +1,9 @@
 pub mod Blocks
-pub mod Slots
+pub mod Ends
+pub mod Leaves
+pub mod Stepping
 pub mod Homes
 pub mod States
-pub mod Links
 pub mod Resting
 pub mod Tested
 pub mod Written

@@ -1,11 +1,9 @@
-pub mod Loads
-pub mod Marking
+pub mod Spared
 pub mod Taking
 pub mod Claiming
 pub mod Follows
 pub mod Laying
 pub mod Linking
-pub mod Granting
 pub mod Walking
 pub mod Writing
 pub mod Awaiting

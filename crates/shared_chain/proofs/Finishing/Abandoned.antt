@@ -1,16 +1,16 @@
 -- A shared chain that no party has any more, whatever calls were on their way: where the head stands, the blocks from the front's on are in the web, and the state
 -- word of each slot tells where its item is.
+use Rattle.queue_laws.proofs.Chain.{ChainTransitions.item_free, ChainAnswers.tail_items, ChainAnswers.head_items, ChainAnswers.head_is_standing}
 use Rattle.std.proofs.Common.{◌≡◌, ◌≢◌, ◌⊎◌, ◌∙◌, inl, inr, ℕ, ◌+◌, ◌*◌, ◌<◌, ◌≤◌, Bool, true, bit_and, List, length, refl, sym, ap, subst, arith}
 use mathlib.Core.Option.{some}
 use denote.RawPtr.{Ptr, null_ptr, InBlock, Testable}
 use Rattle.queue_laws.specs.{Common.Vocabulary.LIMIT, Common.Vocabulary.BLOCK_SLOTS, Common.Vocabulary.WRITE, Common.Vocabulary.READ, Chain.ChainAnswers.linked_of, Chain.ChainAnswers.shown_of}
 use Rattle.queue_steps.specs.{Words.position_of, ChainWords.offset_of, ChainWords.items_before}
 use Rattle.queue_laws.specs.Chain.ChainCells.{Writer, Wrote, Reader, Unread, Done, Mover, Rests, Stands, LinkState as Joint, Linked, Shown, Seen, Passer, Before, GivenUp, Chain, ItemOk, BlocksOk, LinkOk, ShownOk, ChainOk, item_at}
-use Rattle.queue_laws.proofs.Chain.ChainAnswers.{tail_items, head_items, head_is_standing}
 use Rattle.mem_blocks.specs.{Web.Block, Web.block, Web.vacant, Web.full, Web.Lives, Web.without, Web.word_of, Web.LastBlocks, declared.hub.TheConstants.TAIL, declared.hub.TheConstants.HEAD}
 use Rattle.own_cells.specs.OneChain.ChainMemory.{block_of}
 use Rattle.shared_chain.specs.{Spots.spot, ChainCalls.OutChain, Leftover.SlotLeft, Leftover.BlockLeft, Leftover.StaysLeft, Leftover.BlocksLeft, Rule.home_of, Rule.plain_state, Rule.lead_of, Rule.BlockIs, Rule.Codes, Rule.Rule}
-use Rattle.shared_chain.proofs.{Frames.Blocks.alive_is, Frames.Tested.next_tested, Frames.Resting.free_item, Frames.Resting.front_before, Frames.Resting.word_front, Finishing.Finished.inner, Finishing.Finished.long_inner, Finishing.Finished.inner_else}
+use Rattle.shared_chain.proofs.{Frames.Blocks.alive_is, Frames.Tested.next_tested, Frames.Resting.front_before, Frames.Resting.word_front, Finishing.Finished.inner, Finishing.Finished.long_inner, Finishing.Finished.inner_else}
 
 -- an item that was taken, and is read, is out of its slot
 read_left : {A : Type 0} (w : Writer A) (r : Reader) (b : Bool) → bit_and (plain_state w r) READ ≢ 0 → home_of w r b ≡ vacant
@@ -79,7 +79,7 @@ module _ {A : Type 0} (te he : Ptr) (bs : List (Block A)) (last : LastBlocks (Ru
         record {
           read = λ lt set. home ∙ ap some (read_left (c.writers n) (c.readers n) (g.out n) (λ e. set (ap (λ w. bit_and w READ) word ∙ e)));
           written = λ le set. let w = written_left c.head c.tail c.items n (c.writers n) (c.readers n) (g.out n) le (λ e. set (ap (λ z. bit_and z WRITE) word ∙ e)) item in (w.0, home ∙ ap some w.1);
-          free = λ le. let f = free_item c.head c.tail c.items n (c.writers n) (c.readers n) (let e = ok.count in omega arith) le item in home ∙ (λ k. some (home_of (f.1 k) (f.0 k) (g.out n)));
+          free = λ le. let f = item_free c n ok le in home ∙ (λ k. some (home_of (f.0 k) (f.1 k) (g.out n)));
         }
 
     stays_left : (b : ℕ) → c.front ≤ b → b + 2 < length (inner bs two) → StaysLeft c.head c.tail b (inner bs two)

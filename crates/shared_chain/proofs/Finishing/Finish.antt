@@ -1,8 +1,9 @@
 -- What is left of a shared chain that its only party ended is a chain with one owner, in the state after the history.
-use Rattle.std.proofs.Common.{◌≡◌, ◌⊎◌, ◌∙◌, inl, inr, ℕ, suc, ◌+◌, ◌-◌, ◌*◌, ◌/◌, ◌%◌, ◌<◌, ◌≤◌, ◌==◌, Bool, true, List, [], ◌∷◌, length, slice_get, Option, Some, None, refl, sym, ap, subst, arith}
+use Rattle.queue_laws.proofs.Chain.ChainTransitions.{no_front}
+use Rattle.std.proofs.Common.{◌≡◌, ◌⊎◌, ◌∙◌, inl, inr, ℕ, suc, ◌+◌, ◌-◌, ◌*◌, ◌/◌, ◌%◌, ◌<◌, ◌≤◌, ◌==◌, Bool, true, List, [], ◌∷◌, length, slice_get, Option, Some, refl, sym, ap, subst, arith}
 use denote.RawPtr.{Ptr}
 use Rattle.queue_laws.specs.Common.Vocabulary.{BLOCK_SLOTS}
-use Rattle.queue_laws.specs.Chain.{ChainFacts.place, ChainCells.Shown, ChainCells.Seen, ChainCells.Passer, ChainCells.Chain, ChainCells.queue_of, ChainCells.ChainOk, ChainCells.ShownOk, ChainAnswers.tail_word, ChainAnswers.head_word, ChainAnswers.last_of, ChainAnswers.shown_of}
+use Rattle.queue_laws.specs.Chain.{ChainFacts.place, ChainCells.Chain, ChainCells.queue_of, ChainCells.ChainOk, ChainAnswers.tail_word, ChainAnswers.head_word, ChainAnswers.last_of, ChainAnswers.shown_of}
 use Rattle.queue_steps.specs.{Legal.IsShown, Words.is_shut, Words.tail_of, ChainWords.offset_at, ChainWords.offset_of}
 use Rattle.queue_laws.proofs.{Common.Tails.position_tail, Common.Tails.shut_tail, Chain.ChainPlaces.place_offset, Chain.ChainAnswers.tail_items, Chain.ChainAnswers.head_items, Chain.ChainAnswers.resting_word, Chain.ChainAnswers.standing_word}
 use Rattle.mem_blocks.specs.{Web.Block, Web.block, Web.word_of, declared.block.BlockPtr.BlockPtr, declared.hub.TheConstants.TAIL, declared.hub.TheConstants.HEAD}
@@ -14,11 +15,6 @@ use Rattle.shared_chain.proofs.Finishing.Ended.{lead_named, lead_none, items_are
 nil_if : {A : Type 0} (xs : List A) → length xs ≡ 0 → xs ≡ []
 nil_if [] e = refl
 nil_if (x ∷ xs) e = absurd (omega (arith, e))
-
--- without blocks the poppers see none
-none_shown : (blocks head front : ℕ) (known : Bool) (passer : Passer) (s : Shown) (name : ℕ) → blocks ≡ 0 → ShownOk blocks head front known passer s → shown_of s name ≡ None
-none_shown blocks head front known passer Seen name none ok = absurd (omega arith)
-none_shown blocks head front known passer s name none ok = refl
 
 -- a head at rest tells its front
 word_rests : (n : ℕ) (more : Bool) → offset_of (tail_of (place n) more) < BLOCK_SLOTS
@@ -51,7 +47,7 @@ module _ {A : Type 0} (te he : Ptr) (g : OutChain A) (bs : List (Block A)) (ok :
           start = refl;
           none = ap (pieces_of 0) (nil_if xs none);
           unused = no_item;
-          front = lead_none 0 front in_front (subst (LeadsTo front) (codes.head.next ∙ ap lead_of (none_shown c.blocks c.head c.front c.known c.passer c.shown (c.names c.front) no_block ok.seen)) to_front);
+          front = lead_none 0 front in_front (subst (LeadsTo front) (codes.head.next ∙ ap (λ s. lead_of (shown_of s (c.names c.front))) (no_front c ok no_block).0) to_front);
           back = lead_none (length xs - 1) back in_back (subst (LeadsTo back) (codes.tail.next ∙ ap (λ n. lead_of (last_of c.names n)) no_block) to_back);
         }
 

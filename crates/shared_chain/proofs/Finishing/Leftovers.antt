@@ -1,15 +1,15 @@
 -- Blocks of a chain that nobody shares any more are emptied, one slot after the other.
-use Rattle.std.proofs.Common.{◌≡◌, ◌∙◌, ◌⊎◌, inl, inr, ℕ, suc, ◌+◌, ◌-◌, ◌*◌, ◌<◌, ◌≤◌, ◌&&◌, ◌||◌, Bool, true, false, not, bit_and, List, [], ◌∷◌, length, Option, Some, None, IfSome, refl, sym, ap, subst, arith, slice_index_or}
+use Rattle.std.proofs.Common.{◌≡◌, ◌∙◌, ◌⊎◌, inl, inr, ℕ, suc, ◌+◌, ◌-◌, ◌*◌, ◌<◌, ◌≤◌, ◌&&◌, ◌||◌, Bool, true, false, not, bit_and, List, length, Option, Some, None, IfSome, refl, sym, ap, subst, arith, slice_index_or}
 use Rattle.std.proofs.lemmas.List.{length-set}
 use Rattle.atomic_table.proofs.Lists.{set_else}
-use mathlib.Core.Option.{some, some-injective}
+use mathlib.Core.Option.{some}
 use lib.ListN.{get_elem?}
 use denote.RawPtr.{Ptr, null_ptr, InBlock, Testable}
 use Rattle.queue_laws.specs.Common.Vocabulary.{LIMIT, BLOCK_SLOTS, WRITE, READ}
 use Rattle.mem_blocks.specs.{Web.Block, Web.Home, Web.block, Web.homed, Web.with_home, Web.without, Web.vacant, Web.full, Web.AllVacant, Web.Lives, declared.block.BlockPtr.BlockPtr, declared.sizes.TheConstants.SLOTS}
 use Rattle.shared_parties.proofs.CallSteps.{set_at}
 use Rattle.shared_chain.specs.Leftover.{SlotLeft, BlockLeft, StaysLeft, BlocksLeft, SameBut, Emptied, IsHere, is_held, any_held}
-use Rattle.shared_chain.proofs.Frames.{Blocks.home_here, Blocks.gone_else, Tested.alive_within}
+use Rattle.shared_chain.proofs.Frames.{Blocks.home_here, Blocks.gone_else, Homes.vacant_all, Tested.alive_within}
 
 -- the numbers of blocks that are there, and of their items, fit a word
 pub number_fits : (b n : ℕ) → n * BLOCK_SLOTS ≤ 2 * LIMIT → b + 2 < n → b + 2 < 18446744073709551616
@@ -66,10 +66,6 @@ module _ {A : Type 0} where
         let next : i + 1 ≡ suc i = omega arith in
         let same : is_held taken accepted (n + i) i new ≡ is_held taken accepted (n + i) i old = rw words refl in
         rw (next, before, here ∙ ap not same) (negated (any_held taken accepted n i old) (is_held taken accepted (n + i) i old))
-
-  vacant_all : (hs : List (Home A)) → ((j : ℕ) → j < length hs → get_elem? hs j ≡ some vacant) → AllVacant hs
-  vacant_all [] all = tt
-  vacant_all (h ∷ hs) all = (some-injective h vacant (all 0 (omega arith)), vacant_all hs (λ j lt. all (suc j) (omega arith)))
 
   -- a block all of whose slots are empty then may be given up
   pub emptied_vacant : (old new : Block A) (hs : List (Home A)) → length old.homes ≡ SLOTS → Emptied (λ j. j < SLOTS) true old new → hs ≡ new.homes → (length hs ≡ SLOTS) × AllVacant hs

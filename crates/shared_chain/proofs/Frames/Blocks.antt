@@ -1,13 +1,14 @@
 -- What changes of one word, link or slot leave of the blocks of a web, and which changes of a chain leave its blocks as they are.
 use Rattle.std.proofs.Common.{ℕ, ◌+◌, ◌<◌, ◌≤◌, ◌≡◌, ◌≢◌, ◌∙◌, inl, inr, Bool, true, false, Option, Some, List, length, refl, sym, ap, arith, set, slice_index_or, get_or-set_same, get_or-set_other, length-set}
-use Rattle.std.proofs.lemmas.List.{set-get_or}
+use Rattle.std.proofs.{lemmas.List.set-get_or, Common.subst}
 use mathlib.Core.Option.{some}
+use mathlib.Core.Option as maybe
 use lib.ListN.{get_elem?}
 use denote.RawPtr.{Ptr, Testable}
 use Rattle.queue_laws.specs.Common.{Vocabulary.Next, Vocabulary.BLOCK_SLOTS, Vocabulary.WRITE, Vocabulary.READ, Puts.put}
-use Rattle.queue_laws.specs.Chain.ChainCells.{Writer, Free, Wrote, Reader, Unread, Done, GivenUp, Unused, Spare, Chained, Use, Chain, item_at}
-use Rattle.queue_laws.specs.Chain.{ChainAnswers.linked_of, ChainAnswers.is_wrote, ChainAnswers.is_done, ChainAnswers.waits_at, ChainTransitions.lost_of, ChainTransitions.renamed, ChainAfter.left_by}
-use Rattle.queue_laws.proofs.{Common.Puts.put_ok, Chain.ChainAnswers.done_is, Chain.ChainStates.state_same}
+use Rattle.queue_laws.specs.Chain.ChainCells.{Writer, Free, Wrote, Reader, Unread, Done, Before, GivenUp, Unused, Spare, Chained, Use, Chain, item_at, LAST}
+use Rattle.queue_laws.specs.Chain.{ChainFacts.IsNamed, ChainAnswers.linked_of, ChainAnswers.is_wrote, ChainAnswers.is_done, ChainAnswers.IsState, ChainTransitions.lost_of, ChainTransitions.renamed, ChainAfter.left_by}
+use Rattle.queue_laws.proofs.{Common.Puts.put_ok, Chain.ChainAnswers.done_is, Chain.ChainSlots.wrote_alike, Chain.ChainSlots.SameSlot, Chain.ChainSlots.SameBlock, Chain.ChainSlots.state_kept}
 use Rattle.mem_blocks.specs.Web.{Block, block, worded, linked, homed, gone, with_word, with_next, with_home, without, word_of, Home, Lives}
 use Rattle.shared_chain.specs.{Spots.spot, ChainCalls.OutChain, Rule.home_of, Rule.plain_state, Rule.lead_of, Rule.EndIs, Rule.BlockIs, Rule.IsThere, Rule.IsUsed, Rule.Codes}
 
@@ -21,6 +22,11 @@ plain_tells : {A : Type 0} (w : Writer A) (r : Reader) → plain_state w r ≡ p
 plain_tells Free r = refl
 plain_tells (Wrote v) Unread = refl
 plain_tells w r = refl
+
+plain_same : {A : Type 0} {c s : Chain A} {b i : ℕ} → SameSlot c s b i → plain_state (c.writers (item_at b i)) (c.readers (item_at b i)) ≡ plain_state (s.writers (item_at b i)) (s.readers (item_at b i))
+plain_same {c = c} {s = s} {b = b} {i = i} same =
+    let w = s.writers (item_at b i) in let x = c.writers (item_at b i) in
+    plain_tells x (c.readers (item_at b i)) ∙ ((λ j. plain_by (sym (wrote_alike w x same.wrote) j) (sym same.done j)) ∙ sym (plain_tells w (s.readers (item_at b i))))
 
 used_before : (u : Use) → IsUsed (lost_of u) → IsUsed u
 used_before (Spare who) h = tt
@@ -61,8 +67,8 @@ module _ {A : Type 0} where
   pub end_worded : {p : Ptr} {w : ℕ} {l : Option ℕ} {x : Block A} → EndIs p w l x → (v : ℕ) → EndIs p v l (worded x 0 v)
   end_worded {x = x} e v = record { lives = e.lives; words = length-set x.words 0 v ∙ e.words; word = get_or-set_same x.words 0 v 0 (omega (arith, e.words)); next = e.next }
 
-  pub end_linked : {p : Ptr} {w : ℕ} {l : Option ℕ} {x : Block A} → EndIs p w l x → (f : ℕ) → EndIs p w (Some f) (linked x (spot f))
-  end_linked e f = record { lives = e.lives; words = e.words; word = e.word; next = refl }
+  pub end_linked : {p : Ptr} {w : ℕ} {l k : Option ℕ} {x : Block A} → EndIs p w l x → (q : Ptr) → q ≡ lead_of k → EndIs p w k (linked x q)
+  end_linked e q leads = record { lives = e.lives; words = e.words; word = e.word; next = leads }
 
   -- the block k with another slot j
   pub home_here : (bs : List (Block A)) (k j : ℕ) (h : Home A) → k < length bs → block (with_home bs k j h) k ≡ homed (block bs k) j h
@@ -82,16 +88,29 @@ module _ {A : Type 0} where
   abbrev pub home_in : OutChain A → ℕ → ℕ → Home A
   home_in g b i = home_of (g.chain.writers (item_at b i)) (g.chain.readers (item_at b i)) (g.out (item_at b i))
 
-  -- what of a chain the block b depends on but for the homes of its slots: its name, its link, its walk, and which slots are written and read
-  pub record LikeBlock (g r : OutChain A) (b : ℕ) : Type 0 where
-    pub name : r.chain.names b ≡ g.chain.names b
-    pub link : lead_of (linked_of (r.chain.links b) (r.chain.names (b + 1))) ≡ lead_of (linked_of (g.chain.links b) (g.chain.names (b + 1)))
-    pub walk : r.chain.walks b ≡ g.chain.walks b
-    pub wrote : (i : ℕ) → i < BLOCK_SLOTS → is_wrote (r.chain.writers (item_at b i)) ≡ is_wrote (g.chain.writers (item_at b i))
-    pub done : (i : ℕ) → i < BLOCK_SLOTS → is_done (r.chain.readers (item_at b i)) ≡ is_done (g.chain.readers (item_at b i))
+  -- what is said of one slot of a block, where its state word is n and its home h
+  pub record SlotIs (g : OutChain A) (b i n : ℕ) (h : maybe.Option (Home A)) : Type 0 where
+    pub state : (i ≡ LAST → g.chain.readers (item_at b i) ≢ Done) → IsState g.chain b i n
+    pub plain : g.chain.walks b ≡ Before → n ≡ plain_state (g.chain.writers (item_at b i)) (g.chain.readers (item_at b i))
+    pub slot : h ≡ some (home_in g b i)
 
-  -- where none of that changed, and these are the homes now, the block stands for the chain with them
-  pub there_with : (g r : OutChain A) (b : ℕ) (x : Block A) (hs : List (Home A)) → LikeBlock g r b → length hs ≡ length x.homes
+  pub slot_is : {g : OutChain A} {b : ℕ} {x : Block A} → BlockIs g b x → (i : ℕ) → i < BLOCK_SLOTS → SlotIs g b i (slice_index_or x.words i 0) (get_elem? x.homes i)
+  slot_is is i low = record { state = is.state i low; plain = λ before. is.plain before i low; slot = is.slot i low }
+
+  pub slots_are : {g : OutChain A} {b : ℕ} {x : Block A} → length x.words ≡ BLOCK_SLOTS → length x.homes ≡ BLOCK_SLOTS → ((i : ℕ) → i < BLOCK_SLOTS → SlotIs g b i (slice_index_or x.words i 0) (get_elem? x.homes i))
+      → x.next ≡ lead_of (linked_of (g.chain.links b) (g.chain.names (b + 1))) → BlockIs g b x
+  slots_are words homes each leads = record { words = words; homes = homes; state = λ i low. (each i low).state; plain = λ before i low. (each i low).plain before; slot = λ i low. (each i low).slot; linked = leads }
+
+  -- the same of a slot that is the same, and whose home is h now
+  pub slot_same : {g r : OutChain A} {b i n : ℕ} {h k : maybe.Option (Home A)} → SameSlot g.chain r.chain b i → (r.chain.walks b ≡ Before → g.chain.walks b ≡ Before) → SlotIs g b i n h → k ≡ some (home_in r b i) → SlotIs r b i n k
+  slot_same {r = r} {b = b} {i = i} {n = n} same begun s home = record {
+    state = λ ne. state_kept n same (s.state (λ last e. ne last (done_is (r.chain.readers (item_at b i)) (same.done ∙ ap is_done e))));
+    plain = λ before. s.plain (begun before) ∙ plain_same same;
+    slot = home;
+  }
+
+  -- where the chain's block b is the same, and these are the homes of its slots now, the block stands for it with them
+  pub there_with : (g r : OutChain A) (b : ℕ) (x : Block A) (hs : List (Home A)) → SameBlock g.chain r.chain b → length hs ≡ length x.homes
       → ((i : ℕ) → i < BLOCK_SLOTS → length x.homes ≡ BLOCK_SLOTS → get_elem? x.homes i ≡ some (home_in g b i) → get_elem? hs i ≡ some (home_in r b i)) → IsThere g b x
       → IsThere r b (record { at = x.at; alive = x.alive; next = x.next; words = x.words; homes = hs })
   there_with g r b x hs s long home (lies, inl gone) = (lies ∙ ap spot (sym s.name), inl (s.walk ∙ gone.0, gone.1))
@@ -100,39 +119,13 @@ module _ {A : Type 0} where
     inr (
       (λ e. on.0 (sym s.walk ∙ e)),
       on.1,
-      record {
-        words = on.2.words;
-        homes = long ∙ on.2.homes;
-        state = λ i low ne. state_same g.chain r.chain b i (slice_index_or x.words i 0) (s.wrote i low) (s.done i low) (ap (λ w. waits_at w i) s.walk) (on.2.state i low (λ last e. ne last (still i low e)));
-        plain = λ before i low. on.2.plain (sym s.walk ∙ before) i low ∙ plain_tells (g.chain.writers (item_at b i)) (g.chain.readers (item_at b i))
-            ∙ (λ j. plain_by (sym (s.wrote i low) j) (sym (s.done i low) j)) ∙ sym (plain_tells (r.chain.writers (item_at b i)) (r.chain.readers (item_at b i)));
-        slot = λ i low. home i low on.2.homes (on.2.slot i low);
-        linked = on.2.linked ∙ sym s.link;
-      },
+      slots_are on.2.words (long ∙ on.2.homes) (λ i low. slot_same (s.slot i low) (λ e. sym s.walk ∙ e) (slot_is on.2 i low) (home i low on.2.homes (on.2.slot i low))) (on.2.linked ∙ ap lead_of (sym s.link)),
     ),
   )
-    where
-      still : (i : ℕ) → i < BLOCK_SLOTS → g.chain.readers (item_at b i) ≡ Done → r.chain.readers (item_at b i) ≡ Done
-      still i low e = done_is (r.chain.readers (item_at b i)) (s.done i low ∙ ap is_done e)
 
-  -- all homes are the same
-  pub there_like : (g r : OutChain A) (b : ℕ) (x : Block A) → LikeBlock g r b → ((i : ℕ) → i < BLOCK_SLOTS → home_in r b i ≡ home_in g b i) → IsThere g b x → IsThere r b x
-  there_like g r b x s same there = there_with g r b x x.homes s refl (λ i low long at. at ∙ ap (λ h. some h) (sym (same i low))) there
-
-  -- what of a chain the block b depends on: its name, its link, its walk, and the items of its slots
-  pub record SameBlock (g r : OutChain A) (b : ℕ) : Type 0 where
-    pub name : r.chain.names b ≡ g.chain.names b
-    pub link : lead_of (linked_of (r.chain.links b) (r.chain.names (b + 1))) ≡ lead_of (linked_of (g.chain.links b) (g.chain.names (b + 1)))
-    pub walk : r.chain.walks b ≡ g.chain.walks b
-    pub writers : (i : ℕ) → i < BLOCK_SLOTS → r.chain.writers (item_at b i) ≡ g.chain.writers (item_at b i)
-    pub readers : (i : ℕ) → i < BLOCK_SLOTS → r.chain.readers (item_at b i) ≡ g.chain.readers (item_at b i)
-    pub out : (i : ℕ) → i < BLOCK_SLOTS → r.out (item_at b i) ≡ g.out (item_at b i)
-
-  -- where none of that changed, the block stands for it as before
-  pub there_same : (g r : OutChain A) (b : ℕ) (x : Block A) → SameBlock g r b → IsThere g b x → IsThere r b x
-  there_same g r b x s =
-      there_like g r b x (record { name = s.name; link = s.link; walk = s.walk; wrote = λ i low. ap (λ w. is_wrote w) (s.writers i low); done = λ i low. ap is_done (s.readers i low) })
-      (λ i low j. home_of (s.writers i low j) (s.readers i low j) (s.out i low j))
+  -- where its homes are the same too, the block stands for it as before
+  pub there_same : (g r : OutChain A) (b : ℕ) (x : Block A) → SameBlock g.chain r.chain b → ((i : ℕ) → i < BLOCK_SLOTS → home_in r b i ≡ home_in g b i) → IsThere g b x → IsThere r b x
+  there_same g r b x s same there = there_with g r b x x.homes s refl (λ i low long at. at ∙ ap (λ h. some h) (sym (same i low))) there
 
   -- where a name is used otherwise, the blocks stand for the chain as before
   pub codes_renamed : (tail_end head_end : Ptr) (g : OutChain A) (f : ℕ) (u : Use) (bs : List (Block A)) → Codes tail_end head_end g bs
@@ -143,7 +136,7 @@ module _ {A : Type 0} where
     head = codes.head;
     size = codes.size;
     there = λ b lt. there_same g (record { chain = renamed g.chain f u; out = g.out }) b (block bs (b + 2))
-        (record { name = refl; link = refl; walk = refl; writers = λ i low. refl; readers = λ i low. refl; out = λ i low. refl }) (codes.there b lt);
+        (record { name = refl; link = refl; walk = refl; slot = λ i low. record { wrote = refl; done = refl; waits = refl } }) (λ i low. refl) (codes.there b lt);
     tested = tested;
     fresh = fresh;
   }
@@ -160,3 +153,7 @@ module _ {A : Type 0} where
   pub alive_is : (tail_end head_end : Ptr) (g : OutChain A) (bs : List (Block A)) (b : ℕ) → Codes tail_end head_end g bs → b < g.chain.blocks → g.chain.walks b ≢ GivenUp
       → Lives bs (b + 2) (spot (g.chain.names b)) × BlockIs g b (block bs (b + 2))
   alive_is tail_end head_end g bs b codes lt on = let t = codes.there b lt in elim (t.1) [ inl h ↦ absurd (on h.0) | inr h ↦ ((h.1, t.0), h.2) ]
+
+  -- the same by the name of the block
+  pub named_alive : {te he : Ptr} {g : OutChain A} {bs : List (Block A)} {b name : ℕ} → Codes te he g bs → IsNamed g.chain b name → g.chain.walks b ≢ GivenUp → Lives bs (b + 2) (spot name) × BlockIs g b (block bs (b + 2))
+  named_alive {te = te} {he = he} {g = g} {bs = bs} {b = b} codes named on = let h = alive_is te he g bs b codes named.0 on in (subst (λ f. Lives bs (b + 2) (spot f)) (sym named.1) h.0, h.1)

@@ -1,9 +1,9 @@
 -- A chain on which no call is on its way: each item that was taken is read, each that was not is written, the blocks before the front's are given up, and the
 -- others are linked to one another.
+use Rattle.queue_laws.proofs.{Chain.ChainTransitions.item_free, Chain.ChainStates.unwalked, Chain.ChainSpan.not_done, Common.Tails.position_tail, Chain.ChainPlaces.place_block, Chain.ChainAnswers.standing_word, Chain.ChainRanks.rests_if, Chain.ChainRanks.stands_if}
 use Rattle.std.proofs.Common.{ℕ, ◌+◌, ◌-◌, ◌/◌, ◌<◌, ◌≤◌, ◌≡◌, ◌≢◌, ◌⊎◌, ◌∙◌, inl, inr, Bool, Some, List, refl, sym, ap, subst, arith, slice_get}
 use Rattle.queue_laws.specs.{Common.Vocabulary.BLOCK_SLOTS, Chain.ChainFacts.place, Chain.ChainAnswers.head_word}
 use Rattle.queue_steps.specs.ChainWords.{block_at}
-use Rattle.queue_laws.proofs.{Common.Tails.position_tail, Chain.ChainPlaces.place_block, Chain.ChainAnswers.standing_word, Chain.ChainRanks.rests_if, Chain.ChainRanks.stands_if}
 use Rattle.own_cells.specs.OneChain.ChainMemory.{block_of}
 use Rattle.queue_laws.specs.Chain.ChainCells.{Writer, Free, Writing, Wrote, Reader, Unread, Reading, Done, Rests, Passer, Stands, LinkState, Unlinked, Linking, Linked, Shown, Hidden, Showing, Seen, Walk, Before, Walker, Waits, GivenUp, Chain, ItemOk}
 use Rattle.queue_laws.specs.Chain.ChainCells.{BlocksOk, LinkOk, FrontOk, ShownOk, WalkOk, ChainOk, Write, Read, Tail, Head, Next, First, Passed, writer_of, reader_of, linker_of, shower_of, walker_of, HoldsOnly, Nothing, item_at, LAST}
@@ -31,24 +31,6 @@ module _ {A : Type 0} (head tail : ℕ) (items : List A) (n : ℕ) where
   held_item (Wrote v) Unread low lt quiet ok = (refl, (v, refl, ok.2))
   held_item w r low lt quiet ok = absurd (omega arith)
 
-  pub free_item : (w : Writer A) (r : Reader) → head ≤ tail → tail ≤ n → ItemOk head tail items n w r → (r ≡ Unread) × (w ≡ Free)
-  free_item Free Unread high low ok = (refl, refl)
-  free_item (Writing p v) Unread high low ok = absurd (let lt = ok.1 in omega arith)
-  free_item (Writing p v) (Reading q) high low ok = absurd (omega arith)
-  free_item (Wrote v) Unread high low ok = absurd (let lt = ok.1 in omega arith)
-  free_item (Wrote v) (Reading q) high low ok = absurd (omega arith)
-  free_item (Wrote v) Done high low ok = absurd (omega arith)
-  free_item w r high low ok = absurd ok
-
-  -- an item that was not taken is not read, whoever is on the way
-  pub untaken_item : (w : Writer A) (r : Reader) → head ≤ n → ItemOk head tail items n w r → r ≡ Unread
-  untaken_item Free (Reading p) low ok = absurd ok
-  untaken_item (Writing p v) (Reading q) low ok = absurd (omega arith)
-  untaken_item (Wrote v) (Reading q) low ok = absurd (omega arith)
-  untaken_item (Wrote v) Done low ok = absurd (omega arith)
-  untaken_item w Done low ok = absurd ok
-  untaken_item w Unread low ok = refl
-
 is_linked : (blocks b : ℕ) (l : LinkState) → ((p : ℕ) → linker_of l ≢ Some p) → LinkOk blocks b l → ((b + 1 < blocks) × (l ≡ Linked)) ⊎ ((blocks ≤ b + 1) × (l ≡ Unlinked))
 is_linked blocks b Unlinked none ok = inr (ok, refl)
 is_linked blocks b (Linking p) none ok = absurd (none p refl)
@@ -66,23 +48,13 @@ over f b (Walker p slot) all none h = absurd (none p refl)
 over f b (Waits slot) all none h = absurd (h.2 (all slot (let lt = h.0 in omega arith)))
 over f b GivenUp all none h = refl
 
--- over a block whose last slot is not read no walk began
-pub not_walked : (f : ℕ → Reader) (b : ℕ) (w : Walk) → f (item_at b LAST) ≢ Done → WalkOk f b w → w ≡ Before
-not_walked f b Before ne h = refl
-not_walked f b GivenUp ne h = absurd (ne h.0)
-not_walked f b w ne h = absurd (ne h.1.0)
-
 module _ {A : Type 0} (c : Chain A) (ok : ChainOk c) (stands : c.passer ≡ Stands) where
   pub standing_front : c.front ≡ c.head / BLOCK_SLOTS
   standing_front = subst (λ p. FrontOk c.head c.front p) stands ok.fronted
 
   -- where the head stands, over no block from the front's on a walk began
   pub front_before : (b : ℕ) → c.front ≤ b → c.walks b ≡ Before
-  front_before b from = not_walked c.readers b (c.walks b) unread (ok.walk b)
-    where
-      unread : c.readers (item_at b LAST) ≢ Done
-      unread done =
-          let z : Unread ≡ Done = sym (untaken_item c.head c.tail c.items (item_at b LAST) (c.writers (item_at b LAST)) (c.readers (item_at b LAST)) (let e = standing_front in omega arith) (ok.item (item_at b LAST))) ∙ done in cc
+  front_before b from = unwalked c b ok (not_done c.head c.tail c.items (item_at b LAST) (c.writers (item_at b LAST)) (c.readers (item_at b LAST)) (ok.item (item_at b LAST)) (let e = standing_front in omega arith))
 
   -- and its word tells the front
   pub word_front : block_of (head_word c) ≡ c.front
@@ -113,7 +85,7 @@ at_rest {A} c ok idle = record {
   seen = λ some. is_seen c.blocks c.head c.front c.known c.passer c.shown some (λ p e. idle p First e) ok.seen;
   taken = taken;
   held = λ n low lt. held_item c.head c.tail c.items n (c.writers n) (c.readers n) low lt (λ p e. idle p (Write n) e) (ok.item n);
-  free = λ n low. free_item c.head c.tail c.items n (c.writers n) (c.readers n) order low (ok.item n);
+  free = λ n low. let f = item_free c n ok low in (f.1, f.0);
   given = λ b lt. over c.readers b (c.walks b) (λ i low. (taken (item_at b i) (let e = front in omega arith)).0) (λ p e. idle p (Passed b) e) (ok.walk b);
   before = front_before c ok stands;
   linked = λ b. is_linked c.blocks b (c.links b) (λ p e. idle p (Next b) e) (ok.link b);

@@ -1,14 +1,14 @@
 -- Every link of the web can be compared with null, and neither a step of a call nor the acts beside it touch the count of parties.
-use Rattle.std.proofs.Common.{ℕ, zero, suc, ◌+◌, ◌<◌, ◌≡◌, ◌∙◌, inl, inr, true, false, Some, None, List, [], ◌∷◌, ◌++◌, length, refl, sym, ap, subst, arith, get_or, get_or-set_other, length-set, length-append}
+use Rattle.std.proofs.Common.{ℕ, zero, suc, ◌+◌, ◌<◌, ◌≡◌, ◌∙◌, inl, inr, true, false, Some, None, List, [], ◌∷◌, ◌++◌, length, refl, sym, ap, subst, arith, get_or, get_or-set_other, get_or-set_same, set, length-set, length-append}
 use mathlib.Core.Logic.{dite}
 use native.Mathlib.Decide.{ℕ_discrete}
 use denote.RawPtr.{Ptr, Testable}
 use Rattle.queue_laws.specs.{Common.Vocabulary.Op, Common.Vocabulary.BLOCK_SLOTS, Chain.ChainAnswers.last_of, Chain.ChainAnswers.shown_of, Chain.ChainAnswers.linked_of, Common.Operations.op_word, Common.Operations.op_makes}
 use Rattle.queue_laws.specs.Chain.ChainCells.{LinkState, Linked, Shown, Seen, Use, Chained, ChainOk, LinkOk, ShownOk}
-use Rattle.mem_blocks.specs.Web.{Block, Home, Act, takes, gives, lays, lifts, block, HoldsWord, word_of, homed, gone, linked, worded, with_word, with_next, with_home, without, acted, blocks_after, if_unset}
+use Rattle.mem_blocks.specs.Web.{Block, Act, takes, gives, lays, lifts, block, HoldsWord, word_of, homed, gone, linked, worded, with_word, with_next, acted, blocks_after, if_unset}
 use Rattle.mem_blocks.specs.declared.hub.TheConstants.{TAIL, PARTIES, HEAD}
 use Rattle.shared_chain.specs.{Spots.spot, ChainCalls.OutChain, Rule.lead_of, Rule.IsUsed, Rule.IsThere, Rule.Codes, Steps.word_index, Steps.blocks_made}
-use Rattle.shared_chain.proofs.Frames.Blocks.{word_here, word_else, next_here, next_else, home_here, home_else, gone_here, gone_else}
+use Rattle.shared_chain.proofs.Frames.Blocks.{word_here, word_else}
 
 used_chained : (u : Use) (b : ℕ) → u ≡ Chained b → IsUsed u
 used_chained u b e = rw e tt
@@ -66,21 +66,11 @@ module _ {A : Type 0} where
   pub ends_hold : {te he p q : Ptr} {g : OutChain A} {bs : List (Block A)} → te ≡ p → he ≡ q → Codes te he g bs → HoldsWord bs 0 p TAIL × HoldsWord bs 1 q HEAD
   ends_hold at_tail at_head codes = (((codes.tail.lives.0, codes.tail.lives.1 ∙ at_tail), omega (arith, codes.tail.words)), ((codes.head.lives.0, codes.head.lives.1 ∙ at_head), omega (arith, codes.head.words)))
 
-  -- one word is kept by a change of a slot, by a block more, and by a lift
-  home_word : (bs : List (Block A)) (b j : ℕ) (h : Home A) (k i : ℕ) → k < length bs → word_of (with_home bs b j h) k i ≡ word_of bs k i
-  home_word bs b j h k i lt = dite (ℕ_discrete k b)
-      (λ same. subst (λ z. word_of (with_home bs z j h) k i ≡ word_of bs k i) same (ap (λ (x : Block A). get_or x.words i 0) (home_here bs k j h lt)))
-      (λ ne. ap (λ (x : Block A). get_or x.words i 0) (home_else bs b j h k ne))
-
-  gone_word : (bs : List (Block A)) (b k i : ℕ) → k < length bs → word_of (without bs b) k i ≡ word_of bs k i
-  gone_word bs b k i lt = dite (ℕ_discrete k b)
-      (λ same. subst (λ z. word_of (without bs z) k i ≡ word_of bs k i) same (ap (λ (x : Block A). get_or x.words i 0) (gone_here bs k lt)))
-      (λ ne. ap (λ (x : Block A). get_or x.words i 0) (gone_else bs b k ne))
-
-  next_word : (bs : List (Block A)) (b : ℕ) (q : Ptr) (k i : ℕ) → k < length bs → word_of (with_next bs b q) k i ≡ word_of bs k i
-  next_word bs b q k i lt = dite (ℕ_discrete k b)
-      (λ same. subst (λ z. word_of (with_next bs z q) k i ≡ word_of bs k i) same (ap (λ (x : Block A). get_or x.words i 0) (next_here bs k q lt)))
-      (λ ne. ap (λ (x : Block A). get_or x.words i 0) (next_else bs b q k ne))
+  -- the words of a block that becomes another one with the same words, and of a block where one more is laid
+  set_word : (bs : List (Block A)) (b : ℕ) (x : Block A) (k i : ℕ) → k < length bs → x.words ≡ (block bs b).words → word_of (set bs b x) k i ≡ word_of bs k i
+  set_word bs b x k i lt same = dite (ℕ_discrete k b)
+      (λ e. ap (λ (y : Block A). get_or y.words i 0) (ap (λ z. block (set bs z x) k) (sym e) ∙ get_or-set_same bs k x _ lt) ∙ ap (λ ws. get_or ws i 0) (same ∙ ap (λ z. (block bs z).words) (sym e)))
+      (λ ne. ap (λ (y : Block A). get_or y.words i 0) (get_or-set_other bs b k x _ ne))
 
   laid_word : (bs : List (Block A)) (x : Block A) (k i : ℕ) → k < length bs → word_of (bs ++ x ∷ []) k i ≡ word_of bs k i
   laid_word [] x k i lt = absurd (omega arith)
@@ -88,12 +78,12 @@ module _ {A : Type 0} where
   laid_word (y ∷ bs) x (suc k) i lt = laid_word bs x k i (omega arith)
 
   act_word : (bs : List (Block A)) (a : Act A) (k i : ℕ) → k < length bs → (word_of (acted bs a) k i ≡ word_of bs k i) × (k < length (acted bs a))
-  act_word bs (takes b j c) k i lt = (home_word bs b j None k i lt, omega (arith, length-set bs b (homed (block bs b) j None)))
-  act_word bs (gives b j c) k i lt = (home_word bs b j (Some c) k i lt, omega (arith, length-set bs b (homed (block bs b) j (Some c))))
+  act_word bs (takes b j c) k i lt = (set_word bs b (homed (block bs b) j None) k i lt refl, omega (arith, length-set bs b (homed (block bs b) j None)))
+  act_word bs (gives b j c) k i lt = (set_word bs b (homed (block bs b) j (Some c)) k i lt refl, omega (arith, length-set bs b (homed (block bs b) j (Some c))))
   act_word bs (lays x) k i lt = (laid_word bs x k i lt, omega (arith, length-append bs (x ∷ [])))
-  act_word bs (lifts b) k i lt = (gone_word bs b k i lt, omega (arith, length-set bs b (gone (block bs b))))
+  act_word bs (lifts b) k i lt = (set_word bs b (gone (block bs b)) k i lt refl, omega (arith, length-set bs b (gone (block bs b))))
 
-  acts_word : (bs : List (Block A)) (acts : List (Act A)) (k i : ℕ) → k < length bs → word_of (blocks_after bs acts) k i ≡ word_of bs k i
+  pub acts_word : (bs : List (Block A)) (acts : List (Act A)) (k i : ℕ) → k < length bs → word_of (blocks_after bs acts) k i ≡ word_of bs k i
   acts_word bs [] k i lt = refl
   acts_word bs (a ∷ more) k i lt = let h = act_word bs a k i lt in acts_word (acted bs a) more k i h.1 ∙ h.0
 
@@ -108,7 +98,7 @@ module _ {A : Type 0} where
   written_count bs b i n lt at = (word_count bs b i n lt at, omega (arith, length-set bs b (worded (block bs b) i n)))
 
   next_count : (bs : List (Block A)) (b : ℕ) (q : Ptr) → 0 < length bs → (word_of (with_next bs b q) 0 PARTIES ≡ word_of bs 0 PARTIES) × (0 < length (with_next bs b q))
-  next_count bs b q lt = (next_word bs b q 0 PARTIES lt, omega (arith, length-set bs b (linked (block bs b) q)))
+  next_count bs b q lt = (set_word bs b (linked (block bs b) q) 0 PARTIES lt refl, omega (arith, length-set bs b (linked (block bs b) q)))
 
   made_count : (bs : List (Block A)) (o : Op ℕ) (b : ℕ) → 0 < length bs → (b ≡ 0 → word_index (op_word o) ≡ 0) → (word_of (blocks_made o b bs) 0 PARTIES ≡ word_of bs 0 PARTIES) × (0 < length (blocks_made o b bs))
   made_count bs (Op.LoadLink l) b lt at = next_count bs b (block bs b).next lt

@@ -1,11 +1,11 @@
 -- What the web asks of the steps of a call on a shared chain: each may be done, and tells how the call goes on.
-use Rattle.std.proofs.Common.{ℕ, ◌+◌, ◌%◌, ◌^◌, ◌<◌, ◌≡◌, true, Option, None, List, length, refl, sym, subst, arith, set}
+use Rattle.std.proofs.Common.{ℕ, ◌+◌, ◌%◌, ◌^◌, ◌<◌, ◌≡◌, true, Option, None, List, length, refl, sym, subst, arith}
 use mathlib.Core.Option.{some}
 use lib.ListN.{get_elem?}
 use denote.RawPtr.{Ptr, Testable}
 use Rattle.queue_laws.specs.Common.{Vocabulary.Word, Vocabulary.Link, Vocabulary.Op, Vocabulary.Answer, Operations.OnWord, Operations.op_word, Operations.op_makes, Operations.answer_for, Vocabulary.BLOCK_SLOTS}
 use Rattle.queue_laws.specs.Chain.{ChainCells.Chain, ChainAnswers.Answers, ChainAnswers.last_of}
-use Rattle.mem_blocks.specs.Web.{Block, State, Sitter, Lives, viewed, block, word_of, with_word, with_next, blocks_after, sitter_after, KeepsRule, Allows, AllowsLink}
+use Rattle.mem_blocks.specs.Web.{Block, State, Sitter, Lives, block, word_of, with_word, with_next, KeepsRule, Allows, AllowsLink}
 use Rattle.mem_blocks.specs.declared.hub.TheConstants.{PARTIES}
 use Rattle.shared_parties.specs.{declared.known.CallState.CallState, declared.known.InCall.InCall, Calling.Standing, Calling.touched_list, CallsAt.Ready}
 use Rattle.shared_parties.proofs.CallSteps.{stands_at}
@@ -79,7 +79,9 @@ module _ {A : Type 0} where
       lives = b.lives;
       leads = b.leads;
       tested = next_tested te he r.cells s.blocks r.all.ok r.codes b.number b.lives.0;
-      goes = (done.0, b.acts, b.mays, done.1, done.2);
+      goes = follows te he s r id m.view c at st (answered r.cells.chain s.blocks c.op b.number) (blocks_made c.op b.number s.blocks) m b.found
+          (record { out = b.out; acts = b.acts; mays = b.mays; codes = b.codes; others = b.others; slots = b.slots; lends = b.lends; lent = b.lent; holds = b.holds })
+          (count_kept s.blocks c.op b.number b.acts (let z = r.codes.size in omega arith) (λ e. b.counts (omega (arith, e))));
       held = λ low. word_held te he r.cells s.blocks r.codes b.number (word_index (op_word c.op)) b.lives.0 b.counts low;
       unset = λ word. finds_unset r.cells.chain id (word_of s.blocks b.number (word_index (op_word c.op))) st.here.0
           (subst (λ (a : Answer ℕ). Answers r.cells.chain c.op a) (made_word r.cells.chain c.op b.number s.blocks word).1 b.found);
@@ -89,15 +91,7 @@ module _ {A : Type 0} where
         st = stands_at chain_calls chain_call_laws OnBlocks r.cells r.history (word_of s.blocks 0 PARTIES) s.views r.all id m.view c (chain_opens c.call) at ready
 
         b : BlockStep te he r.cells id s.blocks m st.here.0
-        b = block_steps te he r.cells id s.blocks m st.here.0 on r.all.ok (out_wrote r.cells r.history (word_of s.blocks 0 PARTIES) s.views r.all) r.codes st.here.2 c.lends st.lent holds
-
-        made : List (Block A)
-        made = blocks_made c.op b.number s.blocks
-
-        done : (w : CallState A) × Rule te he record { blocks = blocks_after made b.acts; views = set s.views id w } × Follows c (answered r.cells.chain s.blocks c.op b.number) (viewed w (sitter_after made m b.acts))
-        done = follows te he s r id m.view c at st (answered r.cells.chain s.blocks c.op b.number) (blocks_after made b.acts) (sitter_after made m b.acts)
-            (count_kept s.blocks c.op b.number b.acts (let z = r.codes.size in omega arith) (λ e. b.counts (omega (arith, e))))
-            (record { found = b.found; out = b.out; codes = b.codes; others = b.others; slots = b.slots; lends = b.lends; lent = b.lent; holds = b.holds })
+        b = block_steps te he r.cells id s.blocks m r.all.ok (out_wrote r.cells r.history (word_of s.blocks 0 PARTIES) s.views r.all) r.codes c.lends st.here.0 on st.here.2 st.lent holds
 
     -- an operation on a word makes this of its block
     word_goes : (s : State A (CallState A)) (r : Rule te he s) (d : Done te he id m c s r) → IsWordOp c.op

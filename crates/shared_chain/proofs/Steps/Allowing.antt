@@ -1,18 +1,18 @@
 -- Each step of a call on a shared chain keeps the rule of the web, and tells its seat how the call goes on: what it finds in the blocks and makes of them, and the
 -- laws of the chain, say so.
-use Rattle.std.proofs.Common.{ℕ, ◌≡◌, ◌≢◌, ◌||◌, not, Bool, Option, Some, None, List, ◌∷◌, sym, ap, subst, set}
+use Rattle.std.proofs.Common.{ℕ, ◌≡◌, ◌||◌, not, Bool, Option, Some, None, List, ◌∷◌, sym, ap, subst, set}
 use mathlib.Core.Option.{some}
 use lib.ListN.{get_elem?}
 use denote.RawPtr.{Ptr}
-use Rattle.queue_laws.specs.Common.{Vocabulary.Call, Vocabulary.Effect, Vocabulary.Kind, Vocabulary.Answer, Vocabulary.Local, Vocabulary.Next, Effects.Leads, Effects.with_effect, Effects.MayFront, Stand.Stand}
-use Rattle.queue_laws.specs.Chain.{ChainCells.Reading, ChainCells.Chain, ChainCells.queue_of, ChainAt.At, ChainAnswers.Answers, ChainAfter.chain_of, ChainAfter.carried_of, ChainAfter.after_of}
+use Rattle.queue_laws.specs.Common.{Vocabulary.Call, Vocabulary.Effect, Vocabulary.Kind, Vocabulary.Answer, Vocabulary.Local, Vocabulary.Next, Effects.Leads, Effects.with_effect, Effects.MayFront}
+use Rattle.queue_laws.specs.Chain.{ChainCells.Chain, ChainCells.queue_of, ChainAt.At, ChainAnswers.Answers, ChainAfter.chain_of, ChainAfter.carried_of, ChainAfter.after_of}
 use Rattle.queue_steps.specs.{Next.CanNext, Next.next_of, State.State as Queue, ChainNext.FitsChain, ChainNext.chain_next}
 use Rattle.queue_laws.proofs.Chain.{ChainRight.NextOkSpares, ChainRight.Right, ChainRight.step_right, ChainStep.is_chain}
-use Rattle.mem_blocks.specs.{Web.Block, Web.State, Web.Sitter, Web.word_of, Web.viewed, declared.hub.TheConstants.PARTIES}
+use Rattle.mem_blocks.specs.{Web.Block, Web.State, Web.Sitter, Web.word_of, Web.viewed, declared.hub.TheConstants.PARTIES, Web.KeepsRule, Web.blocks_after, Web.sitter_after}
 use Rattle.shared_parties.specs.{declared.known.CallState.CallState, declared.known.InCall.InCall, Calling.Standing, Calling.NextOk, Calling.handed_by, Calling.stand_of, CallsAt.CallsAt}
 use Rattle.shared_parties.proofs.{Callings.grown, CallSteps.Stepping, CallSteps.call_step}
-use Rattle.shared_chain.specs.{ChainCalls.OutChain, ChainCalls.ChainLent, ChainCalls.chain_calls, Rule.Codes, Rule.Rule, Steps.HoldsFor, Steps.chain_then, Steps.SlotsFor, Steps.MayGoOn, Steps.After, Steps.Follows}
-use Rattle.shared_chain.proofs.{CallLaws.chain_call_laws, Steps.Carrying.carried_is, Steps.MaySteps.may_go_on}
+use Rattle.shared_chain.specs.{ChainCalls.OutChain, ChainCalls.chain_calls, Rule.Rule, Steps.HoldsFor, Steps.chain_then, Steps.SlotsFor, Steps.MayGoOn, Steps.After, Steps.Follows}
+use Rattle.shared_chain.proofs.{CallLaws.chain_call_laws, Steps.Carrying.carried_is, Steps.MaySteps.may_go_on, Frames.Leaves.Leaves}
 
 can_next : (l : Local ℕ) (a : Answer ℕ) → l ≡ Local.Chain (chain_of l) → FitsChain (chain_of l) a → CanNext Kind.Unbounded l a × (next_of Kind.Unbounded l a ≡ chain_next (chain_of l) a)
 can_next l a is fits = (subst (λ z. CanNext Kind.Unbounded z a) (sym is) fits, ap (λ z. next_of Kind.Unbounded z a) is)
@@ -35,27 +35,19 @@ module _ {A : Type 0} where
   holds_viewed w xs (Next.Reply x (Some f)) m h = h
 
   module _ (te he : Ptr) where
-    -- What a step finds and leaves, whatever its operation is: the blocks bs stand for the chain after it, and the seat holds what its call has then
-    pub record Found (g : OutChain A) (who : ℕ) {ms : List (Queue A)} {k : Stand A} (here : At g.chain who ms k) (a : Answer ℕ) (bs : List (Block A)) (q : Sitter A (CallState A)) : Type 0 where
-      pub found : Answers g.chain k.op a
-      pub out : ℕ → Bool
-      pub codes : Codes te he (record { chain = chain_then here a; out = out }) bs
-      pub others : (j : ℕ) → j ≢ who → (n : ℕ) → g.chain.readers n ≡ Reading j → out n ≡ g.out n
-      pub slots : SlotsFor (record { chain = chain_then here a; out = out }) who (chain_next (chain_of k.local) a)
-      pub lends : List (ℕ × Option A)
-      pub lent : ChainLent (record { chain = chain_then here a; out = out }) who lends
-      pub holds : HoldsFor lends (chain_next (chain_of k.local) a) q
-
-    -- it keeps the rule, and tells how the call goes on
-    pub follows : (s : State A (CallState A)) (r : Rule te he s) (id : ℕ) (u : CallState A) (c : InCall A) → get_elem? s.views id ≡ some u → (st : Standing chain_calls r.cells r.history id u.known c) → (a : Answer ℕ) (bs : List (Block A)) (q : Sitter A (CallState A))
-        → word_of bs 0 PARTIES ≡ word_of s.blocks 0 PARTIES → Found r.cells id st.here.0 a bs q → (w : CallState A) × Rule te he record { blocks = bs; views = set s.views id w } × Follows c a (viewed w q)
-    follows s r id u c at st a bs q count f = (
+    -- a step keeps the rule, and tells how the call goes on
+    pub follows : (s : State A (CallState A)) (r : Rule te he s) (id : ℕ) (u : CallState A) (c : InCall A) → get_elem? s.views id ≡ some u → (st : Standing chain_calls r.cells r.history id u.known c)
+        → (a : Answer ℕ) (cs : List (Block A)) (m : Sitter A (CallState A))
+        → Answers r.cells.chain c.op a → (left : Leaves te he r.cells id cs m (after_of st.here.0 a) (chain_next (chain_of c.local) a)) → word_of (blocks_after cs left.acts) 0 PARTIES ≡ word_of s.blocks 0 PARTIES
+        → KeepsRule (Rule te he) s cs id m (Follows c a)
+    follows s r id u c at st a cs m found left count = (
       stepping.view,
-      record { cells = after; history = grown r.history right.e; codes = f.codes; all = subst (λ (n : ℕ). CallsAt chain_calls after (grown r.history right.e) n (set s.views id stepping.view)) (sym count) stepping.all },
+      left.acts,
+      left.mays,
+      record { cells = after; history = grown r.history right.e; codes = left.codes; all = subst (λ (n : ℕ). CallsAt chain_calls after (grown r.history right.e) n (set s.views id stepping.view)) (sym count) stepping.all },
       (
         can.0,
-        subst (λ (n : Next ℕ). After c v n (viewed stepping.view q)) (sym can.1)
-            (f.lends, stepping.tells, holds_viewed stepping.view f.lends todo q f.holds, may),
+        subst (λ (n : Next ℕ). After c v n (viewed stepping.view (sitter_after cs m left.acts))) (sym can.1) (left.lends, stepping.tells, holds_viewed stepping.view left.lends todo (sitter_after cs m left.acts) left.holds, may),
       ),
     )
       where
@@ -63,13 +55,13 @@ module _ {A : Type 0} where
         here = st.here.0
 
         right : Right r.cells.chain (after_of here a) id st.ms (chain_of c.local) (carried_of here) c.call c.effects a
-        right = step_right here a r.all.ok f.found st.here.1
+        right = step_right here a r.all.ok found st.here.1
 
         todo : Next ℕ
         todo = chain_next (chain_of c.local) a
 
         after : OutChain A
-        after = record { chain = chain_then here a; out = f.out }
+        after = record { chain = chain_then here a; out = left.out }
 
         can : CanNext Kind.Unbounded c.local a × (next_of Kind.Unbounded c.local a ≡ todo)
         can = can_next c.local a (is_chain here) right.goes_on
@@ -79,12 +71,12 @@ module _ {A : Type 0} where
 
         goes : NextOk chain_calls after id (queue_of after.chain ∷ st.ms) (st.was || not (queue_of after.chain).closed) todo v c.call (with_effect c.effects right.e)
         goes = subst (λ (z : Option A). NextOk chain_calls after id (queue_of after.chain ∷ st.ms) (st.was || not (queue_of after.chain).closed) todo z c.call (with_effect c.effects right.e)) (carried_is r.cells id c.lends here st.here.2 st.lent)
-            (goes_well after id (queue_of after.chain ∷ st.ms) (st.was || not (queue_of after.chain).closed) todo (carried_of here) c.call (with_effect c.effects right.e) right.ends f.slots)
+            (goes_well after id (queue_of after.chain ∷ st.ms) (st.was || not (queue_of after.chain).closed) todo (carried_of here) c.call (with_effect c.effects right.e) right.ends left.slots)
 
-        may : MayGoOn v f.lends todo
-        may = subst (λ (z : Option A). MayGoOn z f.lends todo) (carried_is r.cells id c.lends here st.here.2 st.lent)
-            (may_go_on after id (queue_of after.chain ∷ st.ms) todo (carried_of here) c.call (with_effect c.effects right.e) f.lends right.ok right.ends f.slots f.lent)
+        may : MayGoOn v left.lends todo
+        may = subst (λ (z : Option A). MayGoOn z left.lends todo) (carried_is r.cells id c.lends here st.here.2 st.lent)
+            (may_go_on after id (queue_of after.chain ∷ st.ms) todo (carried_of here) c.call (with_effect c.effects right.e) left.lends right.ok right.ends left.slots left.lent)
 
-        stepping : Stepping chain_calls chain_call_laws after (grown r.history right.e) (word_of s.blocks 0 PARTIES) s.views id c v f.lends todo
-        stepping = call_step chain_calls chain_call_laws r.cells after r.history (word_of s.blocks 0 PARTIES) s.views id u c right.e v f.lends todo r.all at st right.ok right.makes
-            (right.passes, λ j n ne e. f.others j ne n e) (no_front r.cells.chain after.chain right.e st.was right.makes) f.lent goes
+        stepping : Stepping chain_calls chain_call_laws after (grown r.history right.e) (word_of s.blocks 0 PARTIES) s.views id c v left.lends todo
+        stepping = call_step chain_calls chain_call_laws r.cells after r.history (word_of s.blocks 0 PARTIES) s.views id u c right.e v left.lends todo r.all at st right.ok right.makes
+            (right.passes, λ j n ne e. left.others j ne n e) (no_front r.cells.chain after.chain right.e st.was right.makes) left.lent goes

@@ -135,11 +135,11 @@ module _ {T : Type 0} (m : Sitter T (CallState T)) (c : InCall T) (can : CanOper
 
   -- the look after a request that was refused
   pub may_refuse : (te he p : Ptr) (id : ℕ) → te ≡ p → Allows (Rule te he) id m p TAIL (λ n. n) (λ n q. Follows c Answer.Refused q)
-  may_refuse te he p id at = subst (λ z. Allows (Rule te he) id m z TAIL (λ n. n) (λ n q. Follows c Answer.Refused q)) at (allows_refusal te he id m c can.ready asks_empty asks_light asks)
+  may_refuse te he p id at = allows_refusal te he id m c p at can.ready asks_empty asks_light asks
 
   -- the look after one that was granted, with the block that the seat took up then
   pub may_grant : (te he p : Ptr) (id : ℕ) (k : Sitter T (CallState T)) (q : Ptr) (x : Block T) → te ≡ p → k ≡ sitter m.view m.hand (Some x) → x ≡ fresh_at q → InBlock q × Testable q
       → Allows (Rule te he) id k p TAIL (λ n. n) (λ n r. FollowsGrant c (carried_place k) r)
   may_grant te he p id k q x at holds fresh lies =
-      subst (λ (z : Ptr × Sitter T (CallState T)). Allows (Rule te he) id z.1 z.0 TAIL (λ n. n) (λ n r. FollowsGrant c (carried_place z.1) r)) (λ j. (at j, (sym (holds ∙ ap (λ (b : Block T). sitter m.view m.hand (Some b)) fresh)) j))
-      (allows_grant te he id (sitter m.view m.hand (Some (fresh_at q))) c q can.ready asks_empty refl lies asks)
+      subst (λ (z : Sitter T (CallState T)). Allows (Rule te he) id z p TAIL (λ n. n) (λ n r. FollowsGrant c (carried_place z) r)) (sym (holds ∙ ap (λ (b : Block T). sitter m.view m.hand (Some b)) fresh))
+      (allows_grant te he id (sitter m.view m.hand (Some (fresh_at q))) c p q at can.ready asks_empty refl lies asks)

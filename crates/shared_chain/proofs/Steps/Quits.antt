@@ -1,5 +1,7 @@
 -- A call on a chain that has had no effect is given up by a load of the tail's word: the rule stays, the seat is at nothing, and its spare is no block's name any more.
-use Rattle.std.proofs.Common.{◌≡◌, ◌≢◌, ℕ, Option, Some, None, List, [], set, refl, ap, sym, ◌∙◌, subst, arith}
+use Rattle.std.proofs.Common.{lit<}
+use Rattle.shared_chain.proofs.{Frames.Ends.looks_at, Frames.Blocks.codes_left, CallLaws.chain_call_laws, Frames.Leaves.nothing_lent}
+use Rattle.std.proofs.Common.{◌≡◌, ◌≢◌, ℕ, Option, Some, None, List, [], set, refl, ap, sym, ◌∙◌, subst}
 use mathlib.Core.{Option.some, List.IsPrefix}
 use lib.ListN.{get_elem?}
 use denote.RawPtr.{Ptr}
@@ -8,11 +10,10 @@ use Rattle.queue_laws.specs.Common.Vocabulary.{Reply, Effect, Next}
 use Rattle.queue_laws.specs.Chain.{ChainCells.Chain, ChainCells.queue_of, ChainCells.ChainOk, ChainCells.HoldsOnly, ChainCells.Nothing, ChainTransitions.given_up, ChainPasses.spare_in}
 use Rattle.queue_steps.specs.Kinds.{call_value}
 use Rattle.queue_laws.proofs.Chain.{ChainEarly.early, ChainEarly.unbound, ChainStepOk.GivesUp, ChainGiven.given_ok, ChainGiven.passes_given, ChainGiven.holds_given, ChainGiven.spares_given, ChainPasses.passes_same}
-use Rattle.mem_blocks.specs.{Web.Block, Web.State, Web.Sitter, Web.sitter, Web.word_of, Web.KeepsRule, Web.Allows, declared.hub.TheConstants.PARTIES}
+use Rattle.mem_blocks.specs.{Web.State, Web.Sitter, Web.sitter, Web.word_of, Web.Allows, declared.hub.TheConstants.PARTIES}
 use Rattle.shared_parties.specs.{declared.known.CallState.CallState, declared.known.InCall.InCall, declared.known.Known.Known, declared.known.Work.Work as work, CallStates.idle, Calling.Standing, Quitting.its_call}
 use Rattle.shared_parties.proofs.{Callings.others_stay, Quits.quit, Quits.quits}
 use Rattle.shared_chain.specs.{ChainCalls.OutChain, ChainCalls.PassesOut, ChainCalls.chain_calls, Rule.Rule, Steps.slot_block, Steps.hand_by, Quitting.MayQuit, Quitting.HasLeft, Quitting.ShowsPlace}
-use Rattle.shared_chain.proofs.{Frames.Blocks.word_same, Frames.Blocks.codes_left, CallLaws.chain_call_laws, Frames.Links.nothing_lent}
 
 -- a block that is given up is no part of the queue
 queue_given : {A : Type 0} (c : Chain A) (spare : Option ℕ) → queue_of (given_up c spare) ≡ queue_of c
@@ -71,21 +72,11 @@ module _ {T : Type 0} where
 
     -- the load of the tail's word by which the call is given up
     pub gives_up : (p : Ptr) → te ≡ p → Allows (Rule te he) id m p PARTIES (λ n. n) (λ n q. HasLeft m q)
-    gives_up p is = subst (λ z. Allows (Rule te he) id m z PARTIES (λ n. n) (λ n q. HasLeft m q)) is here
-      where
-        here : Allows (Rule te he) id m te PARTIES (λ n. n) (λ n q. HasLeft m q)
-        here s r at =
-            let d = leaves s r at in
-            (0, (r.codes.tail.lives, omega (arith, r.codes.tail.words)), λ small. subst (λ (bs : List (Block T)). KeepsRule (Rule te he) s bs id m (λ q. HasLeft m q)) (sym (word_same s.blocks 0 PARTIES)) (idle m.view.known, [], tt, d.0, d.1))
+    gives_up p is = looks_at te he id m p PARTIES (λ q. HasLeft m q) is (lit< tt) (λ s r at. let d = leaves s r at in (idle m.view.known, [], tt, d.0, d.1))
 
   module _ (te he : Ptr) (id : ℕ) (m : Sitter T (CallState T)) (calls : m.view.work ≡ work.Calls (its_call m.view)) where
     -- a load that changes nothing tells where a push is
     pub looks_on : (p : Ptr) → te ≡ p → Allows (Rule te he) id m p PARTIES (λ n. n) (λ n q. (q ≡ m) × ShowsPlace m)
-    looks_on p is = subst (λ z. Allows (Rule te he) id m z PARTIES (λ n. n) (λ n q. (q ≡ m) × ShowsPlace m)) is here
-      where
-        here : Allows (Rule te he) id m te PARTIES (λ n. n) (λ n q. (q ≡ m) × ShowsPlace m)
-        here s r at =
-            let c = its_call m.view in
-            let st = r.all.calls id m.view c at calls in
-            let rule : Rule te he record { blocks = s.blocks; views = set s.views id m.view } = subst (λ (vs : List (CallState T)). Rule te he record { blocks = s.blocks; views = vs }) (sym (set_again s.views id m.view at)) r in
-            (0, (r.codes.tail.lives, omega (arith, r.codes.tail.words)), λ small. subst (λ (bs : List (Block T)). KeepsRule (Rule te he) s bs id m (λ q. (q ≡ m) × ShowsPlace m)) (sym (word_same s.blocks 0 PARTIES)) (m.view, [], tt, rule, (refl, λ push. unbound push st.here.0)))
+    looks_on p is = looks_at te he id m p PARTIES (λ q. (q ≡ m) × ShowsPlace m) is (lit< tt) (λ s r at.
+        let st = r.all.calls id m.view (its_call m.view) at calls in
+        (m.view, [], tt, subst (λ (vs : List (CallState T)). Rule te he record { blocks = s.blocks; views = vs }) (sym (set_again s.views id m.view at)) r, (refl, λ push. unbound push st.here.0)))

@@ -1,110 +1,67 @@
 -- The read of an item: its slot goes back vacant. Where the walk waits for the slot its reader walks on, and the reader of the last slot begins the walk.
-use Rattle.std.proofs.Common.{ℕ, ◌+◌, ◌/◌, ◌%◌, ◌<◌, ◌≡◌, ◌≢◌, ◌==◌, ◌∙◌, not, inl, inr, Bool, true, false, if◌then◌else◌, Option, Ok, Some, None, List, length, refl, sym, ap, subst, arith, bit_and, bit_or, get_or}
-use Rattle.std.proofs.lemmas.{Bool.Decides.eqb_tells}
+use Rattle.shared_chain.proofs.{Frames.States.GaveBack, Frames.States.gave_back, Steps.Walking.walk_goes, Frames.Blocks.SlotIs}
+use Rattle.queue_laws.specs.{Chain.ChainAt.has_taken, Common.Puts.put, Common.Vocabulary.Answer, Chain.ChainAt.At, Common.Stand.Stand, Chain.ChainAfter.after_of}
+use Rattle.std.proofs.Common.{ℕ, ◌+◌, ◌/◌, ◌<◌, ◌≡◌, ◌≢◌, ◌==◌, ◌∙◌, not, Bool, true, false, if◌then◌else◌, Option, Ok, Some, None, List, refl, sym, ap, subst, arith, bit_and, bit_or}
 use mathlib.Core.Option.{some}
 use lib.ListN.{get_elem?}
 use denote.RawPtr.{Ptr}
-use Rattle.queue_laws.specs.Common.Puts.{put}
 use Rattle.queue_laws.specs.Chain.{ChainTransitions.reads, ChainTransitions.walk_after, ChainFacts.head_of, ChainFacts.Got, ChainAt.Only, ChainAt.IsLast, ChainAt.reading, ChainAt.beginning, ChainAnswers.IsState, ChainAnswers.is_done, ChainAnswers.waits_at, ChainPasses.spare_in}
-use Rattle.queue_laws.proofs.{Common.Puts.put_same, Common.Puts.put_other, Chain.ChainReads.own_item, Chain.ChainRead.waits_is, Chain.ChainAnswers.head_offset, Chain.ChainHolds.after_read, Chain.ChainHolds.after_read_on, Chain.ChainStates.unwalked, Chain.ChainStates.state_read}
+use Rattle.queue_laws.proofs.{Common.Puts.put_same, Common.Puts.put_other, Chain.ChainRead.waits_is, Chain.ChainAnswers.head_offset, Chain.ChainHolds.after_read, Chain.ChainHolds.after_read_on, Chain.ChainStates.state_read}
 use Rattle.queue_laws.specs.Common.Vocabulary.{Reply, Word, Op, Touch, Local, Next, BLOCK_SLOTS, WRITE, READ, DESTROY}
 use Rattle.queue_steps.specs.{State.State, ChainWords.offset_of, ChainNext.at, ChainNext.ends, ChainNext.walks_on, declared.steps.chain.ChainLocal.ChainLocal as chain}
-use Rattle.queue_laws.specs.Chain.ChainCells.{Wrote, Reading, Done, Walk, Before, Walker, Waits, GivenUp, ChainOk, WalkOk, Read, Passed, HoldsOnly, Nothing, reader_of, item_at, LAST}
-use Rattle.mem_blocks.specs.Web.{Block, Sitter, gives, block, Lives, word_of, with_word, with_home, vacant, May, sitter_acted}
+use Rattle.queue_laws.specs.Chain.ChainCells.{Wrote, Reading, Done, Walk, Before, Walker, Waits, GivenUp, ChainOk, WalkOk, Read, Passed, HoldsOnly, reader_of, item_at, LAST}
+use Rattle.mem_blocks.specs.Web.{Block, Sitter, gives, block, word_of, with_word, with_home, vacant, sitter_acted}
 use Rattle.shared_parties.specs.{declared.known.CallState.CallState, Calling.touched_list}
-use Rattle.shared_chain.specs.{Spots.spot, ChainCalls.OutChain, Rule.home_of, Rule.plain_state, Rule.BlockIs, Rule.Codes, Steps.BlockStep, Steps.HoldsBy, Steps.carried_by}
-use Rattle.shared_chain.proofs.{Frames.Blocks.alive_is, Steps.Walking.walk_goes}
-use Rattle.shared_chain.proofs.Frames.Homes.{turned, AllBut, SlotTurns, turns_not, turns_both, turns_word, turns_home, codes_turned, not_given, home_set, word_set, word_kept}
-use Rattle.shared_chain.proofs.Frames.States.{state_is, others_out, Leaves, acts_first, load_step, or_step, none_out, walks_none, idles}
+use Rattle.shared_chain.specs.{Spots.spot, ChainCalls.OutChain, Rule.home_of, Rule.plain_state, Rule.Codes, Steps.BlockStep, Steps.HoldsBy, Steps.carried_by}
+use Rattle.shared_chain.proofs.Frames.Homes.{OneSlot, one_item, SlotTurns, turns_not, turns_word, codes_turned, word_set}
+use Rattle.shared_chain.proofs.Frames.{States.SlotAt, States.slot_at, States.load_step, States.or_step, States.walks_none, Leaves.Leaves, Leaves.acts_first, Leaves.idles, Leaves.nothing_out, Leaves.others_out}
 
 -- The slot i of the block of the item n goes back vacant. The step's operation made cs of the blocks bs, and changed at most the state of this slot
-module _ {A : Type 0} (te he : Ptr) (g : OutChain A) (who : ℕ) (bs cs : List (Block A)) (m : Sitter A (CallState A)) (x : A) (n i name : ℕ) (holds : HoldsOnly g.chain who (Only (Read n))) (got : Got g.chain who n x name) (wrote : g.chain.writers n ≡ Wrote x)
-    (offset : i ≡ n % BLOCK_SLOTS) (ok : ChainOk g.chain) (codes : Codes te he g bs) (has : (m.hand ≡ Some (spot name, i, None)) × (m.spare ≡ None)) (turns : SlotTurns (n / BLOCK_SLOTS + 2) i bs cs) where
-  here_at : item_at (n / BLOCK_SLOTS) i ≡ n
-  here_at = ap (λ j. item_at (n / BLOCK_SLOTS) j) offset ∙ own_item n
-
-  low : i < BLOCK_SLOTS
-  low = omega (arith, offset)
-
-  mine : g.chain.readers (item_at (n / BLOCK_SLOTS) i) ≡ Reading who
-  mine = ap g.chain.readers here_at ∙ got.mine
-
+module _ {A : Type 0} (te he : Ptr) (g : OutChain A) (who : ℕ) (bs cs : List (Block A)) (m : Sitter A (CallState A)) (x : A) (n i name : ℕ) {ms : List (State A)} {k : Stand A} (here : At g.chain who ms k) (a : Answer ℕ)
+    (holds : HoldsOnly g.chain who (Only (Read n))) (mine : g.chain.readers n ≡ Reading who)
+    (wrote : g.chain.writers n ≡ Wrote x) (ok : ChainOk g.chain) (codes : Codes te he g bs) (is : SlotAt te he g bs n i name) (has : (m.hand ≡ Some (spot name, i, None)) × (m.spare ≡ None)) (turns : SlotTurns (n / BLOCK_SLOTS + 2) i bs cs)
+    (one : (w : Walk) → OneSlot g here a (record { chain = reads g.chain n w; out = put g.out n false }) (n / BLOCK_SLOTS) i) where
   wrote_here : g.chain.writers (item_at (n / BLOCK_SLOTS) i) ≡ Wrote x
-  wrote_here = ap g.chain.writers here_at ∙ wrote
-
-  unread : g.chain.readers (item_at (n / BLOCK_SLOTS) i) ≢ Done
-  unread e = let z : Reading who ≡ Done = sym mine ∙ e in cc
+  wrote_here = ap g.chain.writers is.at ∙ wrote
 
   read_now : put g.chain.readers n Done (item_at (n / BLOCK_SLOTS) i) ≡ Done
-  read_now = ap (put g.chain.readers n Done) here_at ∙ put_same g.chain.readers n Done
-
-  on : g.chain.walks (n / BLOCK_SLOTS) ≢ GivenUp
-  on = not_given g.chain (n / BLOCK_SLOTS) i ok low unread
-
-  there : Lives bs (n / BLOCK_SLOTS + 2) (spot (g.chain.names (n / BLOCK_SLOTS))) × BlockIs g (n / BLOCK_SLOTS) (block bs (n / BLOCK_SLOTS + 2))
-  there = alive_is te he g bs (n / BLOCK_SLOTS) codes got.named.0 on
-
-  state : IsState g.chain (n / BLOCK_SLOTS) i (word_of bs (n / BLOCK_SLOTS + 2) i)
-  state = state_is te he g bs (n / BLOCK_SLOTS) i codes got.named.0 on low (λ last. unread)
-
-  long : n / BLOCK_SLOTS + 2 < length cs
-  long = omega (arith, codes.size, got.named.0, turns.size)
+  read_now = ap (put g.chain.readers n Done) is.at ∙ put_same g.chain.readers n Done
 
   -- the chain then, with this walk over the block
   abbrev after : Walk → OutChain A
-  after w = turned g g.chain.writers (put g.chain.readers n Done) (put g.chain.walks (n / BLOCK_SLOTS) w) (put g.out n false)
-
-  but : (w : Walk) → AllBut g (after w) (n / BLOCK_SLOTS) i
-  but w = record {
-    writers = λ j ne. refl;
-    readers = λ j ne. put_other g.chain.readers n j Done (λ e. ne (e ∙ sym here_at));
-    out = λ j ne. put_other g.out n j false (λ e. ne (e ∙ sym here_at));
-    walks = λ j ne. put_other g.chain.walks (n / BLOCK_SLOTS) j w ne;
-  }
+  after w = record { chain = reads g.chain n w; out = put g.out n false }
 
   -- the slot as it was given back
   abbrev back : List (Block A)
   back = with_home cs (n / BLOCK_SLOTS + 2) i vacant
 
-  turns_back : SlotTurns (n / BLOCK_SLOTS + 2) i bs back
-  turns_back = turns_both (n / BLOCK_SLOTS + 2) i bs cs back turns (turns_home (n / BLOCK_SLOTS + 2) i vacant cs long)
+  gave : GaveBack bs cs m (n / BLOCK_SLOTS + 2) i None
+  gave = gave_back is turns has.0
 
-  is_back : get_elem? (block back (n / BLOCK_SLOTS + 2)).homes i ≡ some vacant
-  is_back = home_set cs (n / BLOCK_SLOTS + 2) i vacant long (omega (arith, turns.here.homes, there.1.homes, low))
-
-  gives_back : May cs m (gives (n / BLOCK_SLOTS + 2) i None)
-  gives_back = (
-    turns.here.alive ∙ there.0.0,
-    omega (arith, turns.here.homes, there.1.homes, low),
-    has.0 ∙ (λ j. Some (sym (turns.here.at ∙ there.0.1 ∙ ap spot (sym got.named.1)) j, i, None)),
-  )
+  -- the slot is read then
+  slot_then : (w : Walk) → (i ≢ LAST → IsState (after w).chain (n / BLOCK_SLOTS) i (word_of cs (n / BLOCK_SLOTS + 2) i)) → (w ≡ Before → word_of cs (n / BLOCK_SLOTS + 2) i ≡ WRITE + READ)
+      → SlotIs (after w) (n / BLOCK_SLOTS) i (word_of back (n / BLOCK_SLOTS + 2) i) (get_elem? (block back (n / BLOCK_SLOTS + 2)).homes i)
+  slot_then w state plain = record {
+    state = λ last. subst (λ z. IsState (after w).chain (n / BLOCK_SLOTS) i z) (sym gave.word) (state (λ e. last e read_now));
+    plain = λ e. gave.word ∙ plain (sym (put_same g.chain.walks (n / BLOCK_SLOTS) w) ∙ e) ∙ (λ j. plain_state (sym wrote_here j) (sym read_now j));
+    slot = gave.home ∙ (λ j. some (home_of (sym wrote_here j) (sym read_now j) (put g.out n false (item_at (n / BLOCK_SLOTS) i))));
+  }
 
   -- the blocks where the walk is this, which is not at the block's end
-  codes_read : (w : Walk) → w ≢ GivenUp → (w ≡ Before → g.chain.walks (n / BLOCK_SLOTS) ≡ Before) → ((j : ℕ) → j ≢ i → waits_at w j ≡ waits_at (g.chain.walks (n / BLOCK_SLOTS)) j)
-      → (i ≢ LAST → IsState (after w).chain (n / BLOCK_SLOTS) i (word_of cs (n / BLOCK_SLOTS + 2) i)) → (w ≡ Before → word_of cs (n / BLOCK_SLOTS + 2) i ≡ WRITE + READ) → Codes te he (after w) back
-  codes_read w stays begun waits is plain =
-      let b = n / BLOCK_SLOTS in
-      let walk : put g.chain.walks b w b ≡ w = put_same g.chain.walks b w in
-      let same : word_of back (b + 2) i ≡ word_of cs (b + 2) i = ap (λ ns. get_or ns i 0) (word_kept cs (b + 2) i vacant long) in
-      codes_turned te he g g.chain.writers (put g.chain.readers n Done) (put g.chain.walks b w) (put g.out n false) bs back b i low got.named.0 on (λ e. stays (sym walk ∙ e)) codes (but w)
-      (record { begun = λ e. begun (sym walk ∙ e); waits = λ j ne. ap (λ k. waits_at k j) walk ∙ waits j ne })
-      turns_back
-      (record {
-        state = λ last. subst (λ k. IsState (after w).chain b i k) (sym same) (is (λ e. last e read_now));
-        plain = λ e. same ∙ plain (sym walk ∙ e) ∙ (λ j. plain_state (sym wrote_here j) (sym read_now j));
-        slot = is_back ∙ ap (λ h. some h) (λ j. home_of (sym wrote_here j) (sym read_now j) (put g.out n false (item_at b i)));
-      })
+  codes_read : (w : Walk) → after_of here a ≡ reads g.chain n w → w ≢ GivenUp → (w ≡ Before → g.chain.walks (n / BLOCK_SLOTS) ≡ Before)
+      → SlotIs (after w) (n / BLOCK_SLOTS) i (word_of back (n / BLOCK_SLOTS + 2) i) (get_elem? (block back (n / BLOCK_SLOTS + 2)).homes i)
+      → Codes te he (after w) back
+  codes_read w leads stays begun slot =
+      let walk : put g.chain.walks (n / BLOCK_SLOTS) w (n / BLOCK_SLOTS) ≡ w = put_same g.chain.walks (n / BLOCK_SLOTS) w in
+      codes_turned te he g here a (after w).chain leads (put g.out n false) ok bs back (n / BLOCK_SLOTS) i is.low (one w) codes is.named.0 gave.turns is.on (λ e. stays (sym walk ∙ e)) (λ e. begun (sym walk ∙ e)) slot
 
   -- the last slot: the walk begins at it, or behind it
-  begins : i ≡ LAST → (slot : ℕ) (l : Local ℕ) (t : Touch) (o : Op ℕ) → spare_in l ≡ None → Leaves te he g who cs m (reads g.chain n (Walker who slot)) (Next.Step l t o)
-  begins last slot l t o spare =
-      let b = n / BLOCK_SLOTS in
-      let before : g.chain.walks b ≡ Before = unwalked g.chain b ok (subst (λ j. g.chain.readers (item_at b j) ≢ Done) last unread) in
+  begins : i ≡ LAST → (slot : ℕ) (l : Local ℕ) (t : Touch) (o : Op ℕ) → after_of here a ≡ reads g.chain n (Walker who slot) → spare_in l ≡ None → Leaves te he g who cs m (reads g.chain n (Walker who slot)) (Next.Step l t o)
+  begins last slot l t o leads spare =
       let none = after_read_on g.chain who n (Walker who slot) holds in
-      acts_first te he g who cs m (reads g.chain n (Walker who slot)) (Next.Step l t o) (gives (b + 2) i None) gives_back
-      (idles te he g who back (sitter_acted cs m (gives (b + 2) i None)) (reads g.chain n (Walker who slot)) (Next.Step l t o) (put g.out n false)
-      (codes_read (Walker who slot) (λ e. cc) (λ e. absurd (cc)) (λ j ne. sym (ap (λ w. waits_at w j) before)) (λ ne. absurd (ne last)) (λ e. absurd (cc)))
-      (others_out te he g who n false got.mine) (λ k e. absurd (let z : Read k ≡ Passed b = none (Read k) (ap reader_of e) in cc)) (walks_none te he (after (Walker who slot)) who b none)
+      acts_first (gives (n / BLOCK_SLOTS + 2) i None) gave.may
+      (idles (put g.out n false) (codes_read (Walker who slot) leads (λ e. cc) (λ e. absurd (cc)) (slot_then (Walker who slot) (λ ne. absurd (ne last)) (λ e. absurd (cc))))
+      (others_out g who n false mine) (λ j e. absurd (let z : Read j ≡ Passed (n / BLOCK_SLOTS) = none (Read j) (ap reader_of e) in cc)) (walks_none te he (after (Walker who slot)) who (n / BLOCK_SLOTS) none)
       (refl, has.1 ∙ ap carried_by (sym spare)))
 
   -- the call goes on by whether the walk waits for the slot, and by whether the state says that it does not
@@ -113,109 +70,79 @@ module _ {A : Type 0} (te he : Ptr) (g : OutChain A) (who : ℕ) (bs cs : List (
 
   -- any other slot
   read_left : i < LAST → word_of cs (n / BLOCK_SLOTS + 2) i ≡ bit_or (word_of bs (n / BLOCK_SLOTS + 2) i) READ
+      → after_of here a ≡ reads g.chain n (if waits_at (g.chain.walks (n / BLOCK_SLOTS)) i then walk_after who i else g.chain.walks (n / BLOCK_SLOTS))
       → goes (waits_at (g.chain.walks (n / BLOCK_SLOTS)) i) (bit_and (word_of bs (n / BLOCK_SLOTS + 2) i) DESTROY == 0)
-  read_left below made = go (waits_at (g.chain.walks (n / BLOCK_SLOTS)) i) refl
+  read_left below made leads = go (waits_at (g.chain.walks (n / BLOCK_SLOTS)) i) refl
     where
-      is : (w : Walk) → IsState (after w).chain (n / BLOCK_SLOTS) i (word_of cs (n / BLOCK_SLOTS + 2) i)
-      is w = subst (λ k. IsState (after w).chain (n / BLOCK_SLOTS) i k) (sym made) (state_read g.chain (after w).chain (n / BLOCK_SLOTS) i (word_of bs (n / BLOCK_SLOTS + 2) i) refl read_now state)
+      state : (w : Walk) → IsState (after w).chain (n / BLOCK_SLOTS) i (word_of cs (n / BLOCK_SLOTS + 2) i)
+      state w = subst (λ z. IsState (after w).chain (n / BLOCK_SLOTS) i z) (sym made) (state_read g.chain (after w).chain (n / BLOCK_SLOTS) i (word_of bs (n / BLOCK_SLOTS + 2) i) refl read_now is.state)
 
-      m_back : Sitter A (CallState A)
-      m_back = sitter_acted cs m (gives (n / BLOCK_SLOTS + 2) i None)
-
-      -- the walk is elsewhere, or not begun
-      rests : goes false true
-      rests =
-          let b = n / BLOCK_SLOTS in
-          let w = g.chain.walks b in
-          let none = after_read g.chain who n w (λ e. let z : Passed b ≡ Read n = holds (Passed b) e in cc) holds in
-          acts_first te he g who cs m (reads g.chain n w) (ends (Reply.Pop (Ok tt))) (gives (b + 2) i None) gives_back
-          (idles te he g who back m_back (reads g.chain n w) (ends (Reply.Pop (Ok tt))) (put g.out n false)
-          (codes_read w on (λ e. e) (λ j ne. refl) (λ ne. is w) (λ e. made ∙ ap (λ k. bit_or k READ) (there.1.plain e i low ∙ (λ j. plain_state (wrote_here j) (mine j)))))
-          (others_out te he g who n false got.mine) tt (none_out te he (after w) who Nothing none (λ k z. z) (λ k z. z)) (refl, has.1))
-
-      -- it waits for the slot
-      goes_on : g.chain.walks (n / BLOCK_SLOTS) ≡ Waits i → goes true false
-      goes_on waits =
-          let b = n / BLOCK_SLOTS in
-          let walked : WalkOk g.chain.readers b (Waits i) = subst (λ w. WalkOk g.chain.readers b w) waits (ok.walk b) in
-          let same : word_of back (b + 2) i ≡ word_of cs (b + 2) i = ap (λ ns. get_or ns i 0) (word_kept cs (b + 2) i vacant long) in
-          acts_first te he g who cs m (reads g.chain n (walk_after who i)) (walks_on name i) (gives (b + 2) i None) gives_back
-          (walk_goes te he g who bs back m_back b name i (put g.chain.readers n Done) (put g.out n false) ok codes got.named below walked.1
-          (on, λ j ne. ap (λ w. waits_at w j) waits ∙ elim (eqb_tells i j) [ inl t ↦ absurd (ne (sym t.1)) | inr t ↦ t.0 ]) (refl, has.1) (others_out te he g who n false got.mine) (λ w. after_read_on g.chain who n w holds) but turns_back
-          (λ w. subst (λ k. IsState (after w).chain b i k) (sym same) (is w)) read_now is_back (ap (λ k. home_of k Done (put g.out n false (item_at b i))) wrote_here))
+      leads_by : (t : Bool) → waits_at (g.chain.walks (n / BLOCK_SLOTS)) i ≡ t → after_of here a ≡ reads g.chain n (if t then walk_after who i else g.chain.walks (n / BLOCK_SLOTS))
+      leads_by t e = leads ∙ ap (λ u. reads g.chain n (if u then walk_after who i else g.chain.walks (n / BLOCK_SLOTS))) e
 
       go : (t : Bool) → waits_at (g.chain.walks (n / BLOCK_SLOTS)) i ≡ t → goes (waits_at (g.chain.walks (n / BLOCK_SLOTS)) i) (bit_and (word_of bs (n / BLOCK_SLOTS + 2) i) DESTROY == 0)
-      go false e = rw (e, state.destroyed unread ∙ ap not e) rests
-      go true e = rw (e, state.destroyed unread ∙ ap not e) (goes_on (waits_is (g.chain.walks (n / BLOCK_SLOTS)) i e))
+      -- the walk is elsewhere, or not begun
+      go false e =
+          let b = n / BLOCK_SLOTS in
+          let w = g.chain.walks b in
+          let none = after_read g.chain who n w (λ z. let y : Passed b ≡ Read n = holds (Passed b) z in cc) holds in
+          rw (e, is.state.destroyed is.unread ∙ ap not e) (acts_first (gives (b + 2) i None) gave.may
+          (idles (put g.out n false) (codes_read w (leads_by false e) is.on (λ z. z)
+          (slot_then w (λ ne. state w) (λ z. made ∙ ap (λ j. bit_or j READ) (is.block_is.plain z i is.low ∙ (λ j. plain_state (wrote_here j) ((ap g.chain.readers is.at ∙ mine) j))))))
+          (others_out g who n false mine) tt (nothing_out (after w) who none) (refl, has.1)))
+      -- it waits for the slot
+      go true e =
+          let b = n / BLOCK_SLOTS in
+          let walked : WalkOk g.chain.readers b (Waits i) = subst (λ w. WalkOk g.chain.readers b w) (waits_is (g.chain.walks b) i e) (ok.walk b) in
+          rw (e, is.state.destroyed is.unread ∙ ap not e) (acts_first (gives (b + 2) i None) gave.may
+          (walk_goes te he g who bs back (sitter_acted cs m (gives (b + 2) i None)) here a b name i (put g.chain.readers n Done) (put g.out n false) (leads_by true e) one ok codes is.named below walked.1 is.on (refl, has.1)
+          (others_out g who n false mine) (λ w. after_read_on g.chain who n w holds) gave.turns (λ w ne. slot_then w (λ last. state w) (λ z. absurd (ne z))) gave.home))
 
-module _ {A : Type 0} (te he : Ptr) where
-  module _ (g : OutChain A) (who : ℕ) (bs : List (Block A)) (m : Sitter A (CallState A)) (ms : List (State A)) where
-    pub step_reading : (x : A) (n name : ℕ) (more : Bool) (holds : HoldsOnly g.chain who (Only (Read n))) (got : Got g.chain who n x name) (wrote : g.chain.writers n ≡ Wrote x) (inner : IsLast n → ⊥)
-        → ChainOk g.chain → Codes te he g bs → (xs : List (ℕ × Option A))
-        → HoldsBy (Local.Chain (chain.Reading name (offset_of (head_of n more)))) (Op.Or (Word.State name (offset_of (head_of n more))) READ) (touched_list (Touch.Take (offset_of (head_of n more))) None xs) m
-        → BlockStep te he g who bs m {ms = ms} (reading x n name more holds got wrote inner)
-    step_reading x n name more holds got wrote inner ok codes xs has =
-        or_step te he g who bs m b name i READ {ms = ms} (reading x n name more holds got wrote inner) ok codes got.named (on te he g who bs bs m x n i name holds got wrote offset ok codes has none) here
-        (read_left te he g who bs cs m x n i name holds got wrote offset ok codes has turned_to (omega (arith, offset, inner)) set)
-      where
-        b : ℕ
-        b = n / BLOCK_SLOTS
+module _ {A : Type 0} (te he : Ptr) (g : OutChain A) (who : ℕ) (bs : List (Block A)) (m : Sitter A (CallState A)) (ms : List (State A)) where
+  pub step_reading : (x : A) (n name : ℕ) (more : Bool) (holds : HoldsOnly g.chain who (Only (Read n))) (got : Got g.chain who n x name) (wrote : g.chain.writers n ≡ Wrote x) (inner : IsLast n → ⊥)
+      → ChainOk g.chain → Codes te he g bs → (xs : List (ℕ × Option A))
+      → HoldsBy (Local.Chain (chain.Reading name (offset_of (head_of n more)))) (Op.Or (Word.State name (offset_of (head_of n more))) READ) (touched_list (Touch.Take (offset_of (head_of n more))) None xs) m
+      → BlockStep te he g who bs m {ms = ms} (reading x n name more holds got wrote inner)
+  step_reading x n name more holds got wrote inner ok codes xs has =
+      let b = n / BLOCK_SLOTS in
+      let i = offset_of (head_of n more) in
+      let here : At g.chain who ms (has_taken (chain.Reading name i) (Touch.Take i) (Op.Or (Word.State name i) READ) None x) = reading x n name more holds got wrote inner in
+      let offset = head_offset n more in
+      let is = slot_at te he ok codes got.named offset (λ e. let z : Reading who ≡ Done = sym got.mine ∙ e in cc) in
+      let made = bit_or (word_of bs (b + 2) i) READ in
+      or_step te he g who bs m b name i READ here ok codes got.named is.on is.state
+      (read_left te he g who bs (with_word bs (b + 2) i made) m x n i name here (Answer.Found (word_of bs (b + 2) i)) holds got.mine wrote ok codes is has (turns_word (b + 2) i made bs is.long)
+      (λ w. one_item is.at refl refl (refl, refl) (refl, refl, refl) (λ j ne. put_other g.out n j false ne)) (omega (arith, offset, inner)) (word_set bs (b + 2) i made is.long (omega (arith, is.block_is.words, is.low))) refl)
 
-        i : ℕ
-        i = offset_of (head_of n more)
+  pub step_beginning : (x : A) (n name : ℕ) (more : Bool) (holds : HoldsOnly g.chain who (Only (Read n))) (got : Got g.chain who n x name) (wrote : g.chain.writers n ≡ Wrote x) (last : IsLast n)
+      → ChainOk g.chain → Codes te he g bs → (xs : List (ℕ × Option A)) → HoldsBy (Local.Chain (chain.Walking name 0)) (Op.Load (Word.State name 0)) (touched_list (Touch.Take (offset_of (head_of n more))) None xs) m
+      → BlockStep te he g who bs m {ms = ms} (beginning x n name more holds got wrote last)
+  step_beginning x n name more holds got wrote last ok codes xs has =
+      load_step te he g who bs m b name 0 here ok codes got.named is.on state (left (is_done (g.chain.readers (item_at b 0))) refl)
+    where
+      b : ℕ
+      b = n / BLOCK_SLOTS
 
-        offset : offset_of (head_of n more) ≡ n % BLOCK_SLOTS
-        offset = head_offset n more
+      i : ℕ
+      i = offset_of (head_of n more)
 
-        none : SlotTurns (n / BLOCK_SLOTS + 2) (offset_of (head_of n more)) bs bs
-        none = turns_not (b + 2) i bs
+      here : At g.chain who ms (has_taken (chain.Walking name 0) (Touch.Take (offset_of (head_of n more))) (Op.Load (Word.State name 0)) None x)
+      here = beginning x n name more holds got wrote last
 
-        here : IsState g.chain (n / BLOCK_SLOTS) (offset_of (head_of n more)) (word_of bs (n / BLOCK_SLOTS + 2) (offset_of (head_of n more)))
-        here = state te he g who bs bs m x n i name holds got wrote offset ok codes has none
+      is : SlotAt te he g bs n i name
+      is = slot_at te he ok codes got.named (head_offset n more) (λ e. let z : Reading who ≡ Done = sym got.mine ∙ e in cc)
 
-        long : n / BLOCK_SLOTS + 2 < length bs
-        long = omega (arith, codes.size, got.named.0)
+      state : IsState g.chain b 0 (word_of bs (b + 2) 0)
+      state = is.block_is.state 0 (omega arith) (λ e. cc)
 
-        cs : List (Block A)
-        cs = with_word bs (n / BLOCK_SLOTS + 2) (offset_of (head_of n more)) (bit_or (word_of bs (n / BLOCK_SLOTS + 2) (offset_of (head_of n more))) READ)
+      starts : Bool → Bool → Type 0
+      starts t u = Leaves te he g who bs m (reads g.chain n (if t then walk_after who 0 else Walker who 0)) (if not u then walks_on name 0 else at (chain.Destroying name 0) Touch.Nothing (Op.Or (Word.State name 0) DESTROY))
 
-        turned_to : SlotTurns (n / BLOCK_SLOTS + 2) (offset_of (head_of n more)) bs cs
-        turned_to = turns_word (b + 2) i (bit_or (word_of bs (b + 2) i) READ) bs long
+      begins_at : (slot : ℕ) (l : Local ℕ) (t : Touch) (o : Op ℕ) → after_of here (Answer.Found (word_of bs (b + 2) 0)) ≡ reads g.chain n (Walker who slot) → spare_in l ≡ None
+          → Leaves te he g who bs m (reads g.chain n (Walker who slot)) (Next.Step l t o)
+      begins_at = begins te he g who bs bs m x n i name here (Answer.Found (word_of bs (b + 2) 0)) holds got.mine wrote ok codes is has (turns_not (b + 2) i bs)
+          (λ w. one_item is.at refl refl (refl, refl) (refl, refl, refl) (λ j ne. put_other g.out n j false ne)) (omega (arith, head_offset n more, last))
 
-        set : word_of cs (n / BLOCK_SLOTS + 2) (offset_of (head_of n more)) ≡ bit_or (word_of bs (n / BLOCK_SLOTS + 2) (offset_of (head_of n more))) READ
-        set = word_set bs (b + 2) i (bit_or (word_of bs (b + 2) i) READ) long (omega (arith, (there te he g who bs bs m x n i name holds got wrote offset ok codes has none).1.words, offset))
-
-    pub step_beginning : (x : A) (n name : ℕ) (more : Bool) (holds : HoldsOnly g.chain who (Only (Read n))) (got : Got g.chain who n x name) (wrote : g.chain.writers n ≡ Wrote x) (last : IsLast n)
-        → ChainOk g.chain → Codes te he g bs → (xs : List (ℕ × Option A)) → HoldsBy (Local.Chain (chain.Walking name 0)) (Op.Load (Word.State name 0)) (touched_list (Touch.Take (offset_of (head_of n more))) None xs) m
-        → BlockStep te he g who bs m {ms = ms} (beginning x n name more holds got wrote last)
-    step_beginning x n name more holds got wrote last ok codes xs has =
-        load_step te he g who bs m b name 0 {ms = ms} (beginning x n name more holds got wrote last) ok codes got.named begun state
-        (subst (λ u. starts (is_done (g.chain.readers (item_at (n / BLOCK_SLOTS) 0))) u) (sym state.read) (goes_from (is_done (g.chain.readers (item_at (n / BLOCK_SLOTS) 0)))))
-      where
-        b : ℕ
-        b = n / BLOCK_SLOTS
-
-        i : ℕ
-        i = offset_of (head_of n more)
-
-        offset : offset_of (head_of n more) ≡ n % BLOCK_SLOTS
-        offset = head_offset n more
-
-        none : SlotTurns (n / BLOCK_SLOTS + 2) (offset_of (head_of n more)) bs bs
-        none = turns_not (b + 2) i bs
-
-        begun : g.chain.walks (n / BLOCK_SLOTS) ≢ GivenUp
-        begun = on te he g who bs bs m x n i name holds got wrote offset ok codes has none
-
-        state : IsState g.chain (n / BLOCK_SLOTS) 0 (word_of bs (n / BLOCK_SLOTS + 2) 0)
-        state = state_is te he g bs b 0 codes got.named.0 begun (omega arith) (λ e. cc)
-
-        at_end : offset_of (head_of n more) ≡ LAST
-        at_end = omega (arith, offset, last)
-
-        starts : Bool → Bool → Type 0
-        starts t u = Leaves te he g who bs m (reads g.chain n (if t then walk_after who 0 else Walker who 0)) (if not u then walks_on name 0 else at (chain.Destroying name 0) Touch.Nothing (Op.Or (Word.State name 0) DESTROY))
-
-        goes_from : (t : Bool) → starts t (not t)
-        goes_from true = begins te he g who bs bs m x n i name holds got wrote offset ok codes has none at_end 1 (Local.Chain (chain.Walking name 1)) Touch.Nothing (Op.Load (Word.State name 1)) refl
-        goes_from false = begins te he g who bs bs m x n i name holds got wrote offset ok codes has none at_end 0 (Local.Chain (chain.Destroying name 0)) Touch.Nothing (Op.Or (Word.State name 0) DESTROY) refl
+      left : (t : Bool) → is_done (g.chain.readers (item_at b 0)) ≡ t → starts (is_done (g.chain.readers (item_at b 0))) (bit_and (word_of bs (b + 2) 0) READ == 0)
+      left true e = rw (e, state.read ∙ ap not e) (begins_at 1 (Local.Chain (chain.Walking name 1)) Touch.Nothing (Op.Load (Word.State name 1)) (ap (λ t. reads g.chain n (if t then walk_after who 0 else Walker who 0)) e) refl)
+      left false e = rw (e, state.read ∙ ap not e) (begins_at 0 (Local.Chain (chain.Destroying name 0)) Touch.Nothing (Op.Or (Word.State name 0) DESTROY) (ap (λ t. reads g.chain n (if t then walk_after who 0 else Walker who 0)) e) refl)
