@@ -1,6 +1,5 @@
 //! Which queue the argument asks for.
 ghost use Rattle.std.specs.Prelude.{◌≡◌};
-ghost use Rattle.app_text.specs.KindNames.{capacity_of};
 ghost use Rattle.app_text.specs.Reading.{IsReading};
 ghost use Rattle.app_check.specs.Asked.{asked_text, rules_of, IsAsked};
 
@@ -23,11 +22,11 @@ impl Asked {
     {
         match self {
             Asked::InSteps(kind) => Rules {
-                cap: capacity_of(kind),
+                cap: kind.capacity(),
                 at_once: false,
             },
             Asked::AtOnce(kind) => Rules {
-                cap: capacity_of(kind),
+                cap: kind.capacity(),
                 at_once: true,
             },
         }
@@ -41,16 +40,5 @@ pub fn parse_asked(text: &str) -> Option<Asked>
     match text.strip_prefix("atomic:") {
         Some(kind) => Some(Asked::AtOnce(parse_kind(kind)?)),
         None => Some(Asked::InSteps(parse_kind(text)?)),
-    }
-}
-
-// The capacity of a queue of this kind, if it has one.
-fn capacity_of(kind: KindName) -> Option<usize>
-    ensures { result ≡ capacity_of kind }
-{
-    match kind {
-        KindName::Single => Some(1),
-        KindName::Bounded(cap) => Some(cap),
-        KindName::Unbounded => None,
     }
 }

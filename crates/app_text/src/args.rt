@@ -1,5 +1,6 @@
 //! The arguments of the program.
-ghost use Rattle.std.specs.Prelude.{◌≡◌, [], ◌∷◌, map, string_bytes};
+ghost use Rattle.std.specs.Prelude.{◌≡◌, ◌<◌, [], ◌∷◌, map, string_bytes};
+ghost use Rattle.std.specs.Option.{IfSome};
 ghost use Rattle.std.specs.Fmt.{decimal};
 ghost use Rattle.app_text.specs.Reading.{IsReading};
 ghost use Rattle.machine_replay.specs.Conforms.{capacity_of as capacity_of_kind};
@@ -36,6 +37,18 @@ impl KindName {
             KindName::Single | KindName::Bounded(1) => Kind::Single,
             KindName::Bounded(cap) => Kind::Bounded(cap),
             KindName::Unbounded => Kind::Unbounded,
+        }
+    }
+
+    /// The capacity of a queue of this kind, if it has one.
+    pub fn capacity(self) -> Option<usize>
+        ensures capacity { result ≡ capacity_of self }
+        ensures some { IsKindName self → IfSome result (λ cap. 0 < cap) }
+    {
+        match self {
+            KindName::Single => Some(1),
+            KindName::Bounded(cap) => Some(cap),
+            KindName::Unbounded => None,
         }
     }
 }

@@ -1,10 +1,9 @@
 //! What the program is asked to time, and the words that ask for it.
 ghost use Rattle.std.specs.Prelude.{◌<◌};
 ghost use Rattle.std.specs.Option.{IfSome};
-ghost use Rattle.app_text.specs.KindNames.{IsKindName};
 
 use crate::crew::Crew;
-use app_text::args::{KindName, parse_kind};
+use app_text::args::parse_kind;
 
 /// Who has the queue, and whose it is.
 #[derive(Clone, Copy)]
@@ -77,7 +76,7 @@ pub fn parse_load(line: &str) -> Option<Load>
     ensures { IfSome result (λ load. IfSome load.capacity (λ cap. 0 < cap)) }
 {
     let words = words_in(line)?;
-    let capacity = capacity_of(parse_kind(words.kind)?);
+    let capacity = parse_kind(words.kind)?.capacity();
     let workload = parse_task(words, words.count.parse().ok()?)?;
     Some(Load { capacity, workload })
 }
@@ -110,18 +109,6 @@ fn parse_task(words: Words<'_>, count: u64) -> Option<Workload> {
             size: parse_size(second)?,
             count,
         })),
-    }
-}
-
-// The capacity of a queue of this kind, if it has one.
-fn capacity_of(kind: KindName) -> Option<usize>
-    requires { IsKindName kind }
-    ensures { IfSome result (λ cap. 0 < cap) }
-{
-    match kind {
-        KindName::Single => Some(1),
-        KindName::Bounded(cap) => Some(cap),
-        KindName::Unbounded => None,
     }
 }
 
