@@ -7,7 +7,7 @@ use Rattle.channel_futures.specs.declared.incoming.Incoming.{Incoming}
 module _ {T : Type 0} where
   -- the end that receives there
   abbrev pub end_of : Incoming T → End T
-  end_of i = i.owed.end
+  end_of i = i.owed.end.end
 
   -- the source that it waits for
   abbrev pub source_of : Incoming T → ℕ

@@ -1,5 +1,5 @@
 -- A channel over a shared queue: which calls of the queue its calls are.
-use Rattle.std.specs.Prelude.{◌≡◌, ℕ}
+use Rattle.std.specs.Prelude.{◌≡◌, ℕ, Option}
 use mathlib.Core.List.{IsPrefix}
 use Rattle.atomic_table.specs.Seated.{TableId}
 use Rattle.queue_steps.specs.{declared.model.Call.Call, declared.model.Reply.Reply, Effect.IsHistory, Shares.Share, Shares.SamePart, Shares.IsPart, Shares.entire, Shares.half, Shares.plus}
@@ -7,10 +7,12 @@ use Rattle.concurrent_queue.specs.Shared.{QueueId, PartyView, Calls, Parts, Join
 pub use Rattle.counted_channel.specs.QueueCalls.Calls.{Ends, sent, force_sent, received}
 use Rattle.counted_channel.specs.{declared.counting.SeatCounts.SeatCounts, Counting.stake_at}
 
--- which channel: its queue, and the table that counts its ends
+-- which channel: its queue, the table that counts its ends, and the sources of the lists of receivers and of senders that wait in futures, where these may
 pub record ChannelId : Type 0 where
   pub queue : QueueId
   pub counts : TableId
+  pub receivers : Option ℕ
+  pub senders : Option ℕ
 
 -- an end: its party of the queue, the table that counts it, and its part of all stakes in its side, which is no party's share
 pub record End (T : Type 0) : Type 0 where

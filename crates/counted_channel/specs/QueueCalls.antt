@@ -1,3 +1,4 @@
 pub mod Calls
 pub mod Looks
 pub mod Polled
+pub mod Waiting

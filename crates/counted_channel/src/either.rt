@@ -11,7 +11,6 @@ use crate::calls::WaitedQueue;
 use crate::counting::{leave, part, unite};
 use crate::ends::Channel;
 use crate::sides::{ChannelSide, SideEnd};
-use crate::waiting::Awaited;
 use crate::waking::close;
 use concurrent_queue::Party;
 use std::alloc::Allocator;
@@ -23,28 +22,28 @@ pub trait ChannelEnd<T>: Sized {
     ghost end: { Self → End T };
 
     /// Closes the queue, and returns whether it was open.
-    fn close_queue<A: Allocator>(&mut self, queue: &WaitedQueue<T, A>, awaited: &Awaited) -> bool
-        requires { IsPartyOf (end self.old).party queue.now }
+    fn close_queue<A: Allocator>(&mut self, queue: &WaitedQueue<T, A>) -> bool
+        requires { IsPartyOf (end self.old).party queue.now.queue }
         ensures { ChannelCall (end self.old) call.Close (reply.Close result) (end self.new) };
 
     /// Whether the queue is closed.
     fn sees_closed<A: Allocator>(&mut self, queue: &WaitedQueue<T, A>) -> bool
-        requires { IsPartyOf (end self.old).party queue.now }
+        requires { IsPartyOf (end self.old).party queue.now.queue }
         ensures { ChannelCall (end self.old) call.IsClosed (reply.IsClosed result) (end self.new) };
 
     /// How many items are in the queue.
     fn count_items<A: Allocator, R: Wait>(&mut self, queue: &WaitedQueue<T, A>, rt: &R) -> usize
-        requires { IsPartyOf (end self.old).party queue.now }
+        requires { IsPartyOf (end self.old).party queue.now.queue }
         ensures { ChannelCall (end self.old) call.Len (reply.Len result) (end self.new) };
 
     /// Whether the queue has no item.
     fn sees_empty<A: Allocator>(&mut self, queue: &WaitedQueue<T, A>) -> bool
-        requires { IsPartyOf (end self.old).party queue.now }
+        requires { IsPartyOf (end self.old).party queue.now.queue }
         ensures { ChannelCall (end self.old) call.IsEmpty (reply.IsEmpty result) (end self.new) };
 
     /// Whether the queue has as many items as its capacity.
     fn sees_full<A: Allocator>(&mut self, queue: &WaitedQueue<T, A>) -> bool
-        requires { IsPartyOf (end self.old).party queue.now }
+        requires { IsPartyOf (end self.old).party queue.now.queue }
         ensures { ChannelCall (end self.old) call.IsFull (reply.IsFull result) (end self.new) };
 
     /// Parts it in two, or gives it back where there may be no more ends of its side.
@@ -71,8 +70,8 @@ pub trait ChannelEnd<T>: Sized {
 impl<T, S: ChannelSide> ChannelEnd<T> for SideEnd<T, S> {
     ghost end = { λ e. e };
 
-    fn close_queue<A: Allocator>(&mut self, queue: &WaitedQueue<T, A>, awaited: &Awaited) -> bool {
-        close(queue, awaited, &mut self.party)
+    fn close_queue<A: Allocator>(&mut self, queue: &WaitedQueue<T, A>) -> bool {
+        close(queue, &mut self.party)
     }
 
     fn sees_closed<A: Allocator>(&mut self, queue: &WaitedQueue<T, A>) -> bool {
@@ -115,7 +114,7 @@ impl<T, S: ChannelSide> ChannelEnd<T> for SideEnd<T, S> {
         let mut party = self.party;
         let last = leave(&channel.counts.shared, self.place, S::WORD);
         if last {
-            close(&channel.queue, &channel.awaited, &mut party);
+            close(&channel.queue, &mut party);
         }
         (party, last)
     }

@@ -11,7 +11,6 @@ use crate::counting::Counts;
 use crate::either::ChannelEnd;
 use crate::sides::{Receiver, Sender};
 use crate::tries::{wait_to_recv, wait_to_send};
-use crate::waiting::Awaited;
 use crate::waking::{force_push, pop, push};
 use concurrent_queue::{Exclusive, NullTestable, Party, PopError, PushError};
 use event_count::Look;
@@ -19,14 +18,13 @@ use std::alloc::{Allocator, Global};
 use std::marker::Model;
 use std::sync::Wait;
 
-/// A queue, with the counts of its senders and its receivers, and what they wait for when they sleep.
+/// A queue at which ends wait, with the counts of its senders and its receivers.
 ///
-/// A contract sees which queue it is, and which table counts its ends.
+/// A contract sees which queue it is, which table counts its ends, and on which lists those in futures wait.
 #[derive(Drop)]
 pub struct Channel<T, A: Allocator = Global> {
     pub(crate) queue: WaitedQueue<T, A>,
     pub(crate) counts: Counts<A>,
-    pub(crate) awaited: Awaited,
 }
 
 impl<T, A: Allocator> Model for Channel<T, A> {
@@ -35,7 +33,7 @@ impl<T, A: Allocator> Model for Channel<T, A> {
 
     ghost Value = { ChannelId };
 
-    ghost view = { λ c. record { queue = c.queue; counts = c.counts.shared.table_id } };
+    ghost view = { λ c. record { queue = c.queue.queue; counts = c.counts.shared.table_id; receivers = c.queue.receivers; senders = c.queue.senders } };
 
     ghost invariant = { λ c. c.counts.shared.table_id.words ≡ 2 };
 }
@@ -105,17 +103,15 @@ impl<T, A: Allocator> Channel<T, A> {
             Pushed::Done(owed) => owed,
             Pushed::Full(back, vain) => {
                 vain.end();
-                return wait_to_send(&self.queue, &self.awaited, rt, party, back);
+                return wait_to_send(&self.queue, rt, party, back);
             }
             Pushed::Closed(back, owed) => {
-                self.awaited.notify_all(owed);
+                owed.notify();
                 return Err(SendError::Closed(back));
             }
             Pushed::NoMemory(back) => return Err(SendError::NoMemory(back)),
         };
-        if let Some(owed) = self.awaited.items.notify_thread(owed) {
-            owed.notify();
-        }
+        owed.notify();
         Ok(())
     }
 
@@ -123,7 +119,8 @@ impl<T, A: Allocator> Channel<T, A> {
     ///
     /// # Errors
     ///
-    /// Those of a push, each with the value: `Full`, `Closed`, and `NoMemory` where a block was asked for and refused. None changes anything.
+    /// Those of a push, each with the value: `Full`, `Closed`, and `NoMemory` where a block was asked for and refused. `Full` and `NoMemory` change nothing. One that is answered `Closed`
+    /// has found the queue closed, or has closed it, where it has taken 2^62 items.
     pub fn try_send<R: Wait>(
         &self,
         rt: &R,
@@ -135,7 +132,7 @@ impl<T, A: Allocator> Channel<T, A> {
         requires is_end { IsEndOf sender.old self.now }
         ensures { ChannelCall sender.old (call.Push value) (reply.Push result) sender.new }
     {
-        push(&self.queue, &self.awaited, rt, &mut sender.party, value)
+        push(&self.queue, rt, &mut sender.party, value)
     }
 
     /// Appends `value`, and takes the front off and hands it out where the queue was full.
@@ -154,7 +151,7 @@ impl<T, A: Allocator> Channel<T, A> {
         requires is_end { IsEndOf sender.old self.now }
         ensures { ChannelCall sender.old (call.ForcePush value) (force_sent result) sender.new }
     {
-        force_push(&self.queue, &self.awaited, rt, &mut sender.party, value)
+        force_push(&self.queue, rt, &mut sender.party, value)
     }
 
     /// Takes the front off. It waits while the queue is open and empty: it gives way a few times, and then sleeps.
@@ -171,13 +168,11 @@ impl<T, A: Allocator> Channel<T, A> {
             Popped::Item(item, owed) => (item, owed),
             Popped::Empty(vain) => {
                 vain.end();
-                return wait_to_recv(&self.queue, &self.awaited, rt, party);
+                return wait_to_recv(&self.queue, rt, party);
             }
             Popped::Closed => return Err(Disconnected),
         };
-        if let Some(owed) = self.awaited.room.notify_thread(owed) {
-            owed.notify();
-        }
+        owed.notify();
         Ok(item)
     }
 
@@ -190,7 +185,7 @@ impl<T, A: Allocator> Channel<T, A> {
         requires is_end { IsEndOf receiver.old self.now }
         ensures { ChannelCall receiver.old call.Pop (reply.Pop result) receiver.new }
     {
-        pop(&self.queue, &self.awaited, rt, &mut receiver.party)
+        pop(&self.queue, rt, &mut receiver.party)
     }
 
     /// Closes the channel, by an end of either side, and returns whether it was open. Nothing can be sent from then on; what was sent is received. Every end that
@@ -199,7 +194,7 @@ impl<T, A: Allocator> Channel<T, A> {
         requires is_end { IsEndOf (E.end end.old) self.now }
         ensures { ChannelCall (E.end end.old) call.Close (reply.Close result) (E.end end.new) }
     {
-        end.close_queue(&self.queue, &self.awaited)
+        end.close_queue(&self.queue)
     }
 
     /// Whether the queue is closed, so that nothing can be sent any more: an end has closed it, or the last one of either side has ended.
@@ -292,21 +287,10 @@ impl<T, A: Allocator> Channel<T, A> {
         requires is_party { IsPartyOf party self.queue }
         ensures { MatchResult result (λ e. Finishes party e) (λ r. (r.0 ≡ self) × (r.1 ≡ party) × ¬ (IsEntire party.view.share)) }
     {
-        let Channel {
-            queue,
-            counts,
-            awaited,
-        } = self;
+        let Channel { queue, counts } = self;
         match queue.finish(party) {
             Ok(left) => Ok(left),
-            Err((queue, party)) => Err((
-                Channel {
-                    queue,
-                    counts,
-                    awaited,
-                },
-                party,
-            )),
+            Err((queue, party)) => Err((Channel { queue, counts }, party)),
         }
     }
 }

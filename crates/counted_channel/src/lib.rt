@@ -11,7 +11,6 @@ mod polling;
 mod sides;
 mod timed;
 mod tries;
-mod waiting;
 mod waking;
 
 pub use crate::calls::{Disconnected, SendError};

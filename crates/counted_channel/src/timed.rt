@@ -17,7 +17,8 @@ impl<T, A: Allocator> Channel<T, A> {
     ///
     /// # Errors
     ///
-    /// Those of a push, each with the value: `Full` where there was no room in that time, `Closed`, and `NoMemory` where a block was asked for and refused. None changes anything.
+    /// Those of a push, each with the value: `Full` where there was no room in that time, `Closed`, and `NoMemory` where a block was asked for and refused. `Full` and
+    /// `NoMemory` change nothing. One that is answered `Closed` has found the queue closed, or has closed it, where it has taken 2^62 items.
     pub fn send_timeout<R: Wait + Clock>(
         &self,
         rt: &R,
@@ -32,7 +33,7 @@ impl<T, A: Allocator> Channel<T, A> {
     {
         let until = Until::after(rt, timeout);
         let party = &mut sender.party;
-        wait_to_push(&self.queue, &self.awaited, rt, party, value, &until)
+        wait_to_push(&self.queue, rt, party, value, &until)
     }
 
     /// Takes the front off. It waits while the queue is open and empty, but for so long at most, by the clock of `rt`. A clock that cannot be read ends the wait.
@@ -51,6 +52,6 @@ impl<T, A: Allocator> Channel<T, A> {
     {
         let until = Until::after(rt, timeout);
         let party = &mut receiver.party;
-        wait_to_pop(&self.queue, &self.awaited, rt, party, &until)
+        wait_to_pop(&self.queue, rt, party, &until)
     }
 }

@@ -8,7 +8,6 @@ ghost use Rattle.concurrent_queue.specs.Shared.{IsPartyOf, Calls};
 ghost use Rattle.counted_channel.specs.Channel.{sent, received};
 
 use crate::calls::{Disconnected, Popped, Pushed, SendError, WaitedQueue};
-use crate::waiting::Awaited;
 use concurrent_queue::{NullTestable, Party, PopError, PushError};
 use event_count::{Deadline, Never};
 use std::alloc::Allocator;
@@ -21,22 +20,21 @@ use std::sync::Wait;
 /// Those of a push, each with the value: `Full` only after the deadline.
 pub(crate) fn wait_to_push<T, A: NullTestable, R: Wait, D: Deadline>(
     queue: &WaitedQueue<T, A>,
-    awaited: &Awaited,
     rt: &R,
     party: &mut Party<T>,
     value: T,
     until: &D,
 ) -> Result<(), PushError<T>>
-    requires { IsPartyOf party.old queue.now }
+    requires { IsPartyOf party.old queue.now.queue }
     ensures called { Calls party.old (call.Push value) (reply.Push result) party.new }
     ensures late { (back : T) → result ≡ Err (push.Full back) → D.can_pass until.now }
 {
-    let mut patience = awaited.room.patience();
+    let mut patience = queue.patience_for_room();
     let mut value = value;
     for _ in rt.forever() {
         match queue.push(rt, party, value, patience.look()) {
             Pushed::Done(owed) => {
-                awaited.items.notify_one(owed);
+                owed.notify();
                 return Ok(());
             }
             Pushed::Full(back, vain) => {
@@ -46,7 +44,7 @@ pub(crate) fn wait_to_push<T, A: NullTestable, R: Wait, D: Deadline>(
                 value = back;
             }
             Pushed::Closed(back, owed) => {
-                awaited.notify_all(owed);
+                owed.notify();
                 return Err(PushError::Closed(back));
             }
             Pushed::NoMemory(back) => return Err(PushError::NoMemory(back)),
@@ -64,15 +62,14 @@ pub(crate) fn wait_to_push<T, A: NullTestable, R: Wait, D: Deadline>(
 #[inline(never)]
 pub(crate) fn wait_to_send<T, A: NullTestable, R: Wait>(
     queue: &WaitedQueue<T, A>,
-    awaited: &Awaited,
     rt: &R,
     party: &mut Party<T>,
     value: T,
 ) -> Result<(), SendError<T>>
-    requires { IsPartyOf party.old queue.now }
+    requires { IsPartyOf party.old queue.now.queue }
     ensures { Calls party.old (call.Push value) (sent result) party.new }
 {
-    match wait_to_push(queue, awaited, rt, party, value, &Never) {
+    match wait_to_push(queue, rt, party, value, &Never) {
         Ok(()) => Ok(()),
         Err(PushError::Closed(back)) => Err(SendError::Closed(back)),
         Err(PushError::NoMemory(back)) => Err(SendError::NoMemory(back)),
@@ -87,20 +84,19 @@ pub(crate) fn wait_to_send<T, A: NullTestable, R: Wait>(
 /// Those of a pop: `Empty` only after the deadline.
 pub(crate) fn wait_to_pop<T, A: Allocator, R: Wait, D: Deadline>(
     queue: &WaitedQueue<T, A>,
-    awaited: &Awaited,
     rt: &R,
     party: &mut Party<T>,
     until: &D,
 ) -> Result<T, PopError>
-    requires { IsPartyOf party.old queue.now }
+    requires { IsPartyOf party.old queue.now.queue }
     ensures called { Calls party.old call.Pop (reply.Pop result) party.new }
     ensures late { result ≡ Err pop.Empty → D.can_pass until.now }
 {
-    let mut patience = awaited.items.patience();
+    let mut patience = queue.patience_for_items();
     for _ in rt.forever() {
         match queue.pop(rt, party, patience.look()) {
             Popped::Item(item, owed) => {
-                awaited.room.notify_one(owed);
+                owed.notify();
                 return Ok(item);
             }
             Popped::Empty(vain) => {
@@ -123,14 +119,13 @@ pub(crate) fn wait_to_pop<T, A: Allocator, R: Wait, D: Deadline>(
 #[inline(never)]
 pub(crate) fn wait_to_recv<T, A: Allocator, R: Wait>(
     queue: &WaitedQueue<T, A>,
-    awaited: &Awaited,
     rt: &R,
     party: &mut Party<T>,
 ) -> Result<T, Disconnected>
-    requires { IsPartyOf party.old queue.now }
+    requires { IsPartyOf party.old queue.now.queue }
     ensures { Calls party.old call.Pop (received result) party.new }
 {
-    match wait_to_pop(queue, awaited, rt, party, &Never) {
+    match wait_to_pop(queue, rt, party, &Never) {
         Ok(item) => Ok(item),
         Err(PopError::Closed) => Err(Disconnected),
         Err(PopError::Empty) => unreachable!(),

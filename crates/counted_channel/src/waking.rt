@@ -5,7 +5,6 @@ ghost use Rattle.concurrent_queue.specs.Shared.{IsPartyOf, Calls};
 ghost use Rattle.counted_channel.specs.Channel.{force_sent};
 
 use crate::calls::{ForcePushed, Popped, Pushed, SendError, WaitedQueue};
-use crate::waiting::Awaited;
 use concurrent_queue::{NullTestable, Party, PopError, PushError};
 use event_count::Look;
 use std::alloc::Allocator;
@@ -14,17 +13,16 @@ use std::sync::Wait;
 /// Pushes. One that is answered `Closed` may have closed the queue.
 pub(crate) fn push<T, A: NullTestable, R: Wait>(
     queue: &WaitedQueue<T, A>,
-    awaited: &Awaited,
     rt: &R,
     party: &mut Party<T>,
     value: T,
 ) -> Result<(), PushError<T>>
-    requires { IsPartyOf party.old queue.now }
+    requires { IsPartyOf party.old queue.now.queue }
     ensures { Calls party.old (call.Push value) (reply.Push result) party.new }
 {
     match queue.push(rt, party, value, Look::Awake) {
         Pushed::Done(owed) => {
-            awaited.items.notify_one(owed);
+            owed.notify();
             Ok(())
         }
         Pushed::Full(back, vain) => {
@@ -32,7 +30,7 @@ pub(crate) fn push<T, A: NullTestable, R: Wait>(
             Err(PushError::Full(back))
         }
         Pushed::Closed(back, owed) => {
-            awaited.notify_all(owed);
+            owed.notify();
             Err(PushError::Closed(back))
         }
         Pushed::NoMemory(back) => Err(PushError::NoMemory(back)),
@@ -42,21 +40,20 @@ pub(crate) fn push<T, A: NullTestable, R: Wait>(
 /// Pushes by force. One that is answered `Closed` may have closed the queue.
 pub(crate) fn force_push<T, A: NullTestable, R: Wait>(
     queue: &WaitedQueue<T, A>,
-    awaited: &Awaited,
     rt: &R,
     party: &mut Party<T>,
     value: T,
 ) -> Result<Option<T>, SendError<T>>
-    requires { IsPartyOf party.old queue.now }
+    requires { IsPartyOf party.old queue.now.queue }
     ensures { Calls party.old (call.ForcePush value) (force_sent result) party.new }
 {
     match queue.force_push(rt, party, value) {
         ForcePushed::Done(displaced, owed) => {
-            awaited.items.notify_one(owed);
+            owed.notify();
             Ok(displaced)
         }
         ForcePushed::Closed(back, owed) => {
-            awaited.notify_all(owed);
+            owed.notify();
             Err(SendError::Closed(back))
         }
         ForcePushed::NoMemory(back) => Err(SendError::NoMemory(back)),
@@ -66,16 +63,15 @@ pub(crate) fn force_push<T, A: NullTestable, R: Wait>(
 /// Pops. Nobody waits for room where the queue has no limit.
 pub(crate) fn pop<T, A: Allocator, R: Wait>(
     queue: &WaitedQueue<T, A>,
-    awaited: &Awaited,
     rt: &R,
     party: &mut Party<T>,
 ) -> Result<T, PopError>
-    requires { IsPartyOf party.old queue.now }
+    requires { IsPartyOf party.old queue.now.queue }
     ensures { Calls party.old call.Pop (reply.Pop result) party.new }
 {
     match queue.pop(rt, party, Look::Awake) {
         Popped::Item(item, owed) => {
-            awaited.room.notify_one(owed);
+            owed.notify();
             Ok(item)
         }
         Popped::Empty(vain) => {
@@ -87,15 +83,11 @@ pub(crate) fn pop<T, A: Allocator, R: Wait>(
 }
 
 /// Closes the queue, and returns whether it was open.
-pub(crate) fn close<T, A: Allocator>(
-    queue: &WaitedQueue<T, A>,
-    awaited: &Awaited,
-    party: &mut Party<T>,
-) -> bool
-    requires { IsPartyOf party.old queue.now }
+pub(crate) fn close<T, A: Allocator>(queue: &WaitedQueue<T, A>, party: &mut Party<T>) -> bool
+    requires { IsPartyOf party.old queue.now.queue }
     ensures { Calls party.old call.Close (reply.Close result) party.new }
 {
     let (closed, owed) = queue.close(party);
-    awaited.notify_all(owed);
+    owed.notify();
     closed
 }

@@ -1,7 +1,7 @@
 //! An eventcount: who waits for a condition sleeps, and who makes it true wakes it. It knows nothing of the condition.
 //!
 //! The order of a wait, and of a notify, is in the types. Who waits takes a [`Ticket`], looks at the condition with it in hand, and is given a [`Missed`] if it looked in vain: nothing else
-//! is waited on. Who makes the condition true is given an [`OwesOne`] or an [`OwesAll`]: a notify takes it and nothing else does.
+//! is waited on. Who makes the condition true is given an [`OwesOne`] or an [`OwesAll`] of the eventcount: a notify that has begun. It cannot be dropped, and only its steps end it.
 //!
 //! `C` is the condition, a type of which only the code that looks at the condition, or makes it true, can make a value. That code hands one in for each ticket that it looked with in
 //! vain, and for each notify that it owes.
@@ -11,10 +11,11 @@
 
 ghost use Rattle.std.specs.Prelude.{◌≡◌, ℕ, IsTrue};
 ghost use Rattle.event_count.specs.Sleep.Steps.{step_of, after_of};
-ghost use Rattle.event_count.specs.Cursors.{IsTaking, IsOnWords, IsPark, is_prepared, is_missed};
+ghost use Rattle.event_count.specs.Cursors.{IsOnWords, IsPark, is_prepared, is_missed};
 
 mod cursor;
 mod deadline;
+mod owed;
 mod patience;
 pub mod wakes;
 mod words;
@@ -23,6 +24,7 @@ use crate::cursor::Cursor;
 use crate::wakes::{Phase, Step};
 use crate::words::Words;
 pub use deadline::{Deadline, Never, Until};
+pub use owed::{OwesAll, OwesOne};
 pub use patience::{Look, Patience, Vain};
 use std::marker::PhantomData;
 use std::sync::Wait;
@@ -50,16 +52,6 @@ pub struct Missed<'a, C> {
     ghost missed: { IsTrue (is_missed cursor.phase) },
 }
 
-/// The condition was made true for one that waits, and nobody was notified yet. Only [`EventCount::notify_one`] takes it.
-pub struct OwesOne<C> {
-    condition: PhantomData<C>,
-}
-
-/// The condition was made true for all that wait, and nobody was notified yet. Only [`EventCount::notify_all`] takes it.
-pub struct OwesAll<C> {
-    condition: PhantomData<C>,
-}
-
 /// Takes the next step of a call, which does not sleep.
 #[inline(always)]
 fn take_step(words: &Words, cursor: Cursor) -> Cursor
@@ -82,45 +74,6 @@ fn park<R: Wait, D: Deadline>(rt: &R, words: &Words, cursor: Cursor, until: &D) 
     cursor.after(done)
 }
 
-/// The steps of a notify of one that goes to wake.
-#[cold]
-#[inline(never)]
-fn wake_one(words: &Words, cursor: Cursor)
-    requires { IsTaking cursor.phase }
-{
-    let taken = take_step(words, cursor);
-    let moved = take_step(words, taken);
-    take_step(words, moved).end();
-}
-
-impl<C> OwesOne<C> {
-    /// The condition was made true for one, as its own code says.
-    #[inline(always)]
-    pub fn by(condition: C) -> OwesOne<C>
-    where
-        C: Drop,
-    {
-        let _ = condition;
-        OwesOne {
-            condition: PhantomData,
-        }
-    }
-}
-
-impl<C> OwesAll<C> {
-    /// The condition was made true for all, as its own code says.
-    #[inline(always)]
-    pub fn by(condition: C) -> OwesAll<C>
-    where
-        C: Drop,
-    {
-        let _ = condition;
-        OwesAll {
-            condition: PhantomData,
-        }
-    }
-}
-
 impl<C> EventCount<C> {
     pub fn new() -> EventCount<C> {
         EventCount {
@@ -141,25 +94,22 @@ impl<C> EventCount<C> {
         }
     }
 
-    /// Wakes one of those that wait, where there are some.
+    /// The condition was made true for one that waits, as its own code says.
     #[inline(always)]
-    pub fn notify_one(&self, owed: OwesOne<C>) {
-        let OwesOne { condition: _ } = owed;
-        let cursor = take_step(&self.words, Cursor::begin(Phase::Given));
-        if cursor.is_over() {
-            cursor.end();
-        } else {
-            wake_one(&self.words, cursor);
-        }
+    pub fn owe_one(&self, condition: C) -> OwesOne<'_, C>
+    where
+        C: Drop,
+    {
+        OwesOne::at(&self.words, condition)
     }
 
-    /// Wakes all that wait.
-    #[inline]
-    pub fn notify_all(&self, owed: OwesAll<C>) {
-        let OwesAll { condition: _ } = owed;
-        let cleared = take_step(&self.words, Cursor::begin(Phase::Clearing));
-        let moved = take_step(&self.words, cleared);
-        take_step(&self.words, moved).end();
+    /// The condition was made true for all that wait, as its own code says.
+    #[inline(always)]
+    pub fn owe_all(&self, condition: C) -> OwesAll<'_, C>
+    where
+        C: Drop,
+    {
+        OwesAll::at(&self.words, condition)
     }
 }
 

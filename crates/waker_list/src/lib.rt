@@ -1,8 +1,8 @@
 //! A list of wakers: futures that wait for a condition are pending, and who makes it true wakes them. It knows nothing of the condition.
 //!
 //! The order of a poll, and of a notify, is in the types. A poll begins a [`Look`], looks at the condition with it in hand, and says what it found. If it looked in vain it enters the list,
-//! which gives a second look: it looks once more, and is pending if it finds nothing. Who makes the condition true is given an [`OwesOne`] or an [`OwesAll`]: a notify takes it and
-//! nothing else does. A future that was taken off the list, and ends before it looks again, hands its wake on.
+//! which gives a second look: it looks once more, and is pending if it finds nothing. Who makes the condition true is given an [`OwesOne`] or an [`OwesAll`] of the list: a notify that has
+//! begun. It cannot be dropped, and only its steps end it. A future that was taken off the list, and ends before it looks again, hands its wake on.
 //!
 //! `C` is the condition, a type of which only the code that looks at the condition, or makes it true, can make a value. That code hands one in for each look, and for each notify that it
 //! owes.
@@ -17,6 +17,7 @@ ghost use Rattle.waker_list.specs.Listing.{IsTaking};
 ghost use Rattle.waker_list.specs.Places.{is_settled};
 
 mod listed;
+mod owed;
 mod place;
 mod sitting;
 mod state;
@@ -26,8 +27,8 @@ use crate::sitting::Sitting;
 use crate::state::State;
 use futures::spin::lock_or_give_up;
 use futures::task::Source;
+pub use owed::{OwesAll, OwesOne};
 pub use place::{Entry, Look, Missed, Place, Spot};
-pub use sitting::{OwesAll, OwesOne};
 use std::alloc::{AllocError, Global};
 use std::marker::PhantomData;
 use std::sync::Mutex;
@@ -58,16 +59,22 @@ impl<C> WakerList<C> {
         })
     }
 
-    /// Wakes the future that has waited longest, where there is one.
+    /// The condition was made true for one that waits, as its own code says.
     #[inline(always)]
-    pub fn notify_one(&self, owed: OwesOne<C>) {
-        self.notify(Sitting::owing_one(owed));
+    pub fn owe_one(&self, condition: C) -> OwesOne<'_, C>
+    where
+        C: Drop,
+    {
+        OwesOne::at(self, condition)
     }
 
-    /// Wakes all futures that wait.
-    #[inline]
-    pub fn notify_all(&self, owed: OwesAll<C>) {
-        self.notify(Sitting::owing_all(owed));
+    /// The condition was made true for all that wait, as its own code says.
+    #[inline(always)]
+    pub fn owe_all(&self, condition: C) -> OwesAll<'_, C>
+    where
+        C: Drop,
+    {
+        OwesAll::at(self, condition)
     }
 
     /// The steps of a notify.

@@ -12,44 +12,6 @@ use event_count::wakes::{ListStep, Seat};
 use futures::spin::GaveUp;
 use std::marker::PhantomData;
 
-/// The condition was made true for one that waits, and nobody was notified yet. Only [`WakerList::notify_one`](crate::WakerList::notify_one) takes it.
-pub struct OwesOne<C> {
-    condition: PhantomData<C>,
-}
-
-/// The condition was made true for all that wait, and nobody was notified yet. Only [`WakerList::notify_all`](crate::WakerList::notify_all) takes it.
-pub struct OwesAll<C> {
-    condition: PhantomData<C>,
-}
-
-impl<C> OwesOne<C> {
-    /// The condition was made true for one, as its own code says.
-    #[inline(always)]
-    pub fn by(condition: C) -> OwesOne<C>
-    where
-        C: Drop,
-    {
-        let _ = condition;
-        OwesOne {
-            condition: PhantomData,
-        }
-    }
-}
-
-impl<C> OwesAll<C> {
-    /// The condition was made true for all, as its own code says.
-    #[inline(always)]
-    pub fn by(condition: C) -> OwesAll<C>
-    where
-        C: Drop,
-    {
-        let _ = condition;
-        OwesAll {
-            condition: PhantomData,
-        }
-    }
-}
-
 /// The seat of a party. It is neither copied nor dropped, and only what is done moves it on. So whoever has one does what it owes, to the end.
 pub(crate) struct Sitting<C> {
     seat: Seat,
@@ -83,21 +45,25 @@ impl<C> Sitting<C> {
         Sitting::at(Seat::Away)
     }
 
-    /// A notify of one begins.
+    /// A notify of one begins. The condition was made true for one, as its own code says.
     #[inline(always)]
-    pub(crate) fn owing_one(owed: OwesOne<C>) -> Sitting<C>
+    pub(crate) fn owing_one(condition: C) -> Sitting<C>
+    where
+        C: Drop,
         ensures { result.seat ≡ Given }
     {
-        let OwesOne { condition: _ } = owed;
+        let _ = condition;
         Sitting::at(Seat::Given)
     }
 
-    /// A notify of all begins.
+    /// A notify of all begins. The condition was made true for all, as its own code says.
     #[inline(always)]
-    pub(crate) fn owing_all(owed: OwesAll<C>) -> Sitting<C>
+    pub(crate) fn owing_all(condition: C) -> Sitting<C>
+    where
+        C: Drop,
         ensures { result.seat ≡ Telling }
     {
-        let OwesAll { condition: _ } = owed;
+        let _ = condition;
         Sitting::at(Seat::Telling)
     }
 

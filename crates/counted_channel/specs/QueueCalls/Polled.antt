@@ -1,6 +1,6 @@
 -- What one call that a future makes comes to, and which list the future is at after it.
-use Rattle.std.specs.Prelude.{◌≡◌, false, Ok, Err}
-use Rattle.queue_steps.specs.declared.{model.Call.Call, model.Call.Call as call, model.Reply.Reply as reply, errors.PopError.PopError as pop, errors.PushError.PushError as push}
+use Rattle.std.specs.Prelude.{◌≡◌, ◌⊎◌, Bool, false, true, Result, Ok, Err}
+use Rattle.queue_steps.specs.declared.{model.Call.Call, model.Call.Call as call, model.Reply.Reply as reply, errors.PopError.PopError, errors.PopError.PopError as pop, errors.PushError.PushError as push}
 use Rattle.concurrent_queue.specs.{SawMore.SawMore, Shared.QueueId, Shared.PartyView, Shared.IsPartyOf, Shared.Calls}
 use Rattle.event_count.specs.Sleep.Seats.{looked_of}
 use Rattle.waker_list.specs.declared.place.{Place.Place, Look.Look, Missed.Missed}
@@ -18,6 +18,11 @@ module _ {T A : Type 0} where
   call_at (poll.Between p) = call.Pop
   call_at (poll.Popping p) = p.call
 
+  -- it is in a pop that has taken its item
+  abbrev pub is_in_pop : PollState T A → Bool
+  is_in_pop (poll.Between p) = false
+  is_in_pop (poll.Popping p) = true
+
   -- it is one of the queue's, and is in no call but a pop
   abbrev pub IsStateOf : PollState T A → QueueId → Type 0
   IsStateOf a q = IsPartyOf (party_at a) q × (call_at a ≡ call.Pop)
@@ -26,6 +31,11 @@ module _ {T A : Type 0} where
   abbrev pub IsPopping : PartyView T → PollState T A → Type 0
   IsPopping v (poll.Between p) = ⊥
   IsPopping v (poll.Popping p) = p.party ≡ v
+
+  -- the pop that the party v is in went on: it goes on still, or has its answer, or has done nothing
+  abbrev pub PopGoesOn : PartyView T → PollState T A → Type 0
+  PopGoesOn v (poll.Between p) = SawMore v p ⊎ ((r : Result T PopError) × Calls v call.Pop (reply.Pop r) p)
+  PopGoesOn v (poll.Popping p) = p.party ≡ v
 
   -- the party is between two calls, and this is true of it
   abbrev pub IsBetween : PollState T A → (PartyView T → Type 0) → Type 0

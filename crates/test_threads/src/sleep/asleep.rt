@@ -1,7 +1,7 @@
 //! Two threads that take turns, and sleep until the other gives an item: each that is seen asleep before, and as fast as they wake.
 use crate::asserts::is;
 use crate::host::Host;
-use event_count::{EventCount, OwesAll, OwesOne};
+use event_count::EventCount;
 use std::sync::Wait;
 use std::sync::atomic::AtomicU64;
 use std::sync::atomic::Ordering::SeqCst;
@@ -35,9 +35,9 @@ impl Post {
     fn give(&self, round: u64) {
         self.items.fetch_add(1, SeqCst);
         if round % 2 == 0 {
-            self.arrivals.notify_one(OwesOne::by(Item { made: () }));
+            self.arrivals.owe_one(Item { made: () }).notify();
         } else {
-            self.arrivals.notify_all(OwesAll::by(Item { made: () }));
+            self.arrivals.owe_all(Item { made: () }).notify();
         }
     }
 

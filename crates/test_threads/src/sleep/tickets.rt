@@ -1,7 +1,7 @@
 //! A notify ends each wait whose ticket is older, and of those that sleep it wakes as many as it is to.
 use crate::asserts::is;
 use crate::host::Host;
-use event_count::{EventCount, Look, OwesAll, OwesOne, Patience};
+use event_count::{EventCount, Look, Patience};
 use std::sync::Wait;
 use std::sync::atomic::AtomicU64;
 use std::sync::atomic::Ordering::SeqCst;
@@ -18,9 +18,9 @@ struct Sign {
 /// Notifies one, or all.
 fn notify(signs: &EventCount<Sign>, all: bool) {
     if all {
-        signs.notify_all(OwesAll::by(Sign { made: () }));
+        signs.owe_all(Sign { made: () }).notify();
     } else {
-        signs.notify_one(OwesOne::by(Sign { made: () }));
+        signs.owe_one(Sign { made: () }).notify();
     }
 }
 

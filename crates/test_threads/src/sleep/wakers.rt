@@ -11,7 +11,7 @@ use std::process::Abort;
 use std::random::RandomSource;
 use std::sync::atomic::AtomicU64;
 use std::sync::atomic::Ordering::SeqCst;
-use waker_list::{Entry, Look, OwesAll, OwesOne, Place, WakerList};
+use waker_list::{Entry, Look, Place, WakerList};
 
 /// What the futures wait for.
 #[derive(Drop)]
@@ -36,12 +36,12 @@ impl Post {
 
     fn give(&self) {
         self.items.fetch_add(1, SeqCst);
-        self.arrivals.notify_one(OwesOne::by(Item { made: () }));
+        self.arrivals.owe_one(Item { made: () }).notify();
     }
 
     fn give_two(&self) {
         self.items.fetch_add(2, SeqCst);
-        self.arrivals.notify_all(OwesAll::by(Item { made: () }));
+        self.arrivals.owe_all(Item { made: () }).notify();
     }
 
     /// Takes an item if there is one.

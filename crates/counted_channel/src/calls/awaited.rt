@@ -1,5 +1,9 @@
 //! What the ends of a channel wait for.
-use crate::calls::{Items, OwesEnd, Room, Waiters};
+ghost use Rattle.std.specs.Prelude.{◌≡◌, None, IfOk, IsSome};
+ghost use Rattle.counted_channel.specs.QueueCalls.Waiting.{list_of};
+
+use crate::calls::waited::{Items, Room};
+use crate::calls::waiters::Waiters;
 use std::alloc::{AllocError, Global};
 
 /// What the ends of a channel wait for: receivers for items, senders for room. No other crate can name it.
@@ -10,7 +14,10 @@ pub struct Awaited {
 }
 
 impl Awaited {
-    pub(crate) fn new() -> Awaited {
+    /// For ends in threads.
+    pub(crate) fn of_threads() -> Awaited
+        ensures { (list_of result.items ≡ None) × (list_of result.room ≡ None) }
+    {
         Awaited {
             items: Waiters::of_threads(),
             room: Waiters::of_threads(),
@@ -22,18 +29,12 @@ impl Awaited {
     /// # Errors
     ///
     /// There is no memory.
-    pub(crate) fn with_futures(alloc: Global) -> Result<Awaited, AllocError> {
+    pub(crate) fn with_futures(alloc: Global) -> Result<Awaited, AllocError>
+        ensures { IfOk result (λ a. IsSome (list_of a.items) × IsSome (list_of a.room)) }
+    {
         Ok(Awaited {
             items: Waiters::with_futures(alloc)?,
             room: Waiters::with_futures(alloc)?,
         })
-    }
-
-    /// Wakes every end that sleeps.
-    #[inline]
-    pub(crate) fn notify_all(&self, owed: OwesEnd) {
-        let (items, room) = owed.parts();
-        self.items.notify_all(items);
-        self.room.notify_all(room);
     }
 }
