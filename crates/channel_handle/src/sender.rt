@@ -43,7 +43,7 @@ impl<T: Drop, A: NullTestable> Sender<T, A> {
     ///
     /// # Errors
     ///
-    /// Those of a push, each with the value. None changes anything.
+    /// Those of a push, each with the value. None changes anything, but that a `Closed` at the limit of items closes the channel.
     pub fn try_send<R: Wait>(&mut self, rt: &R, value: T) -> Result<(), PushError<T>>
         ensures { ChannelCall self.old (call.Push value) (reply.Push result) self.new }
     {
