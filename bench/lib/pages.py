@@ -1,4 +1,4 @@
-"""What README has to be pasted: commands, a program, and what they print."""
+"""What README has to be pasted: commands, programs, and what they print."""
 import os
 import re
 
@@ -13,6 +13,7 @@ def read(path):
 
 
 def write(path, text):
+    os.makedirs(os.path.dirname(path), exist_ok=True)
     with open(path, "w", encoding="utf-8") as file:
         file.write(text)
 
@@ -36,8 +37,20 @@ def inline(text):
 
 
 def taken():
-    """Of "Take it": the commands, the program that is to be written, and what it prints."""
+    """Of "Take it": the commands, and the files that are to be written, each by the path that is named last before it."""
     text = section("Take it")
-    program = re.search(r"```rust\n(.*?)```", text, re.S)
-    printed = re.search(PRINTED, text[program.end():], re.S)
-    return next(blocks(text))[0], program[1], printed[1]
+    files = {}
+    for it in re.finditer(r"```\w*\n(.*?)```", text, re.S):
+        named = re.findall(r"`(crates/[^`]+)`", text[: it.start()])
+        if named and named[-1] not in files:
+            files[named[-1]] = it[1]
+    return "".join(commands for commands, _ in blocks(text)), files
+
+
+def programs():
+    """The programs of "Take it": of each crate its files, by their paths in it."""
+    found = {}
+    for path, text in taken()[1].items():
+        _, crate, inside = path.split("/", 2)
+        found.setdefault(crate, {})[inside] = text
+    return found

@@ -1,4 +1,4 @@
-//! Two threads push numbers, each as a party of its own. Then the queue has one owner again.
+//! Two threads push, each as a party. Then the queue has one owner again.
 #![tactic(auto)]
 
 ghost use Rattle.std.specs.Prelude.{◌≡◌};
@@ -9,17 +9,12 @@ use std::io;
 use std::sync::Wait;
 use std::thread::join;
 
-/// Pushes the numbers below `count`.
-fn send_all<R: Wait>(
-    rt: &R,
-    queue: &ConcurrentQueue<u64>,
-    mut party: Party<u64>,
-    count: u64,
-) -> Party<u64>
+/// Pushes a hundred numbers.
+fn send_all(rt: &impl Wait, queue: &ConcurrentQueue<u64>, mut party: Party<u64>) -> Party<u64>
     requires { IsPartyOf party queue.now }
     ensures { IsPartyOf result queue.now × (result.view.share ≡ party.view.share) }
 {
-    for next in 0..count {
+    for next in 0..100 {
         if queue.push(rt, &mut party, next).is_err() {
             break;
         }
@@ -34,8 +29,8 @@ fn main(rt: HostRuntime) -> io::Result<()> {
     };
     let (one, two) = join(
         &rt,
-        || send_all(&rt, &queue, one, 100),
-        || send_all(&rt, &queue, two, 100),
+        || send_all(&rt, &queue, one),
+        || send_all(&rt, &queue, two),
     );
     let party = queue.join(one, two);
     let Ok(owned) = queue.finish(party) else {
