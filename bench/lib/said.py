@@ -5,7 +5,7 @@ import subprocess
 from lib import pages
 from lib.retake import Compared, write
 
-# A program by names that crates had once: in a `use`, by a module's name, through a crate that gives them on, and in a clause.
+# A program by names that crates had once: in a `use`, by a module's name, through a crate that has them from another, and in a clause.
 OLD = """//! By old names.
 ghost use Rattle.queue_steps.specs.{State.fills, RingNext.{len_found}};
 
@@ -73,7 +73,7 @@ def says(top):
 
 
 def callers(seen, top):
-    """All that stands on our crates here, as its owner's own: each name in it is one of today."""
+    """All that is built on our crates here, as its owner's own: each name in it is one of today."""
     mine, _ = taken(top, "callers")
     take(mine, "channel_account", "channel_futures", "queue_crew", "queue_all", "queue_explore")
     had = set(os.listdir(f"{mine}/crates"))
@@ -81,7 +81,7 @@ def callers(seen, top):
         if name not in had:
             os.symlink(f"{pages.TOP}/crates/{name}", f"{mine}/crates/{name}")
     said = named(take(mine))
-    seen.is_so("of the crates that stand on ours it says nothing", said == {})
+    seen.is_so("of the crates here that are built on these it says nothing", said == {})
 
 
 def unread(seen, mine):
