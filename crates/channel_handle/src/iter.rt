@@ -1,6 +1,9 @@
 //! A receiver's items, one after another. Each iterator holds a `Forever`, whose count is the measure of a loop over it.
+ghost use Rattle.std.specs.Prelude.{◌≡◌};
 ghost use Rattle.std.specs.Iterator.{at_most};
-ghost use Rattle.channel_handle.specs.Iter.{iter_left, try_iter_left, into_iter_left};
+ghost use Rattle.channel_handle.specs.Iter.{iter_left, iter_lender, IterReceives};
+ghost use Rattle.channel_handle.specs.Iter.{try_iter_left, try_iter_lender, TryIterReceives};
+ghost use Rattle.channel_handle.specs.Iter.{into_iter_left, IntoIterReceives};
 
 use crate::handle::Receiver;
 use std::alloc::{Allocator, Global};
@@ -8,7 +11,10 @@ use std::sync::{Forever, Wait};
 
 impl<T: Drop, A: Allocator> Receiver<T, A> {
     /// Items as they come, until the channel is closed and empty. It waits for each.
-    pub fn iter<'a, R: Wait>(&'a mut self, rt: &'a R) -> Iter<'a, T, R, A> {
+    pub fn iter<'a, R: Wait>(&'a mut self, rt: &'a R) -> Iter<'a, T, R, A>
+        ensures of { result.receiver.now ≡ self.old }
+        ensures same_reference { iter_lender result ≡ self.entry.ghost_name }
+    {
         Iter {
             receiver: self,
             rt,
@@ -17,7 +23,10 @@ impl<T: Drop, A: Allocator> Receiver<T, A> {
     }
 
     /// Items that are there. It may give more later.
-    pub fn try_iter<'a, R: Wait>(&'a mut self, rt: &'a R) -> TryIter<'a, T, R, A> {
+    pub fn try_iter<'a, R: Wait>(&'a mut self, rt: &'a R) -> TryIter<'a, T, R, A>
+        ensures of { result.receiver.now ≡ self.old }
+        ensures same_reference { try_iter_lender result ≡ self.entry.ghost_name }
+    {
         TryIter {
             receiver: self,
             rt,
@@ -26,7 +35,9 @@ impl<T: Drop, A: Allocator> Receiver<T, A> {
     }
 
     /// As `iter`, of a receiver that is taken in. The receiver is ended with the iterator.
-    pub fn into_iter<'a, R: Wait>(self, rt: &'a R) -> IntoIter<'a, T, R, A> {
+    pub fn into_iter<'a, R: Wait>(self, rt: &'a R) -> IntoIter<'a, T, R, A>
+        ensures { result.receiver ≡ self }
+    {
         IntoIter {
             receiver: self,
             rt,
@@ -36,15 +47,29 @@ impl<T: Drop, A: Allocator> Receiver<T, A> {
 }
 
 /// Waits for each item, and ends where the channel is closed and empty.
-#[derive(Drop)]
 pub struct Iter<'a, T: Drop, R: Wait, A: Allocator = Global> {
     receiver: &'a mut Receiver<T, A>,
     rt: &'a R,
     turns: Forever<'a, R>,
 }
 
+impl<'a, T: Drop, R: Wait, A: Allocator> Drop for Iter<'a, T, R, A> {
+    /// The receiver keeps what it has done.
+    fn drop(self)
+        ensures { self.exit.0.now ≡ self.entry.receiver.now }
+    {
+        let Iter {
+            receiver: _,
+            rt: _,
+            turns: _,
+        } = self;
+    }
+}
+
 impl<'a, T: Drop, R: Wait, A: Allocator> Iterator for Iter<'a, T, R, A> {
     type Item = T;
+
+    ghost next_gives = { IterReceives };
 
     ghost remaining = { λ s. at_most (iter_left s) };
 
@@ -55,15 +80,29 @@ impl<'a, T: Drop, R: Wait, A: Allocator> Iterator for Iter<'a, T, R, A> {
 }
 
 /// Ends where there is no item.
-#[derive(Drop)]
 pub struct TryIter<'a, T: Drop, R: Wait, A: Allocator = Global> {
     receiver: &'a mut Receiver<T, A>,
     rt: &'a R,
     turns: Forever<'a, R>,
 }
 
+impl<'a, T: Drop, R: Wait, A: Allocator> Drop for TryIter<'a, T, R, A> {
+    /// The receiver keeps what it has done.
+    fn drop(self)
+        ensures { self.exit.0.now ≡ self.entry.receiver.now }
+    {
+        let TryIter {
+            receiver: _,
+            rt: _,
+            turns: _,
+        } = self;
+    }
+}
+
 impl<'a, T: Drop, R: Wait, A: Allocator> Iterator for TryIter<'a, T, R, A> {
     type Item = T;
+
+    ghost next_gives = { TryIterReceives };
 
     ghost remaining = { λ s. at_most (try_iter_left s) };
 
@@ -83,6 +122,8 @@ pub struct IntoIter<'a, T: Drop, R: Wait, A: Allocator = Global> {
 
 impl<'a, T: Drop, R: Wait, A: Allocator> Iterator for IntoIter<'a, T, R, A> {
     type Item = T;
+
+    ghost next_gives = { IntoIterReceives };
 
     ghost remaining = { λ s. at_most (into_iter_left s) };
 

@@ -1,4 +1,5 @@
 //! What a receiver does.
+ghost use Rattle.std.specs.Prelude.{Some, codes};
 ghost use Rattle.queue_steps.specs.declared.model.Call.TheVariants as call;
 ghost use Rattle.queue_steps.specs.declared.model.Reply.TheVariants as reply;
 ghost use Rattle.counted_channel.specs.Channel.{ChannelCall, received};
@@ -51,6 +52,8 @@ impl<T: Drop, A: Allocator> Receiver<T, A> {
 }
 
 impl<T, A: Allocator> fmt::Debug for Receiver<T, A> {
+    ghost debug_output = { λ _. Some (codes "Receiver { .. }") };
+
     fn fmt<W: fmt::Write>(&self, f: &mut fmt::Formatter<W>) -> fmt::Result {
         f.pad("Receiver { .. }")
     }

@@ -1,4 +1,5 @@
 //! What a sender does.
+ghost use Rattle.std.specs.Prelude.{Some, codes};
 ghost use Rattle.queue_steps.specs.declared.model.Call.TheVariants as call;
 ghost use Rattle.queue_steps.specs.declared.model.Reply.TheVariants as reply;
 ghost use Rattle.counted_channel.specs.Channel.{ChannelCall, sent, force_sent};
@@ -63,6 +64,8 @@ impl<T: Drop, A: NullTestable> Sender<T, A> {
 }
 
 impl<T, A: NullTestable> fmt::Debug for Sender<T, A> {
+    ghost debug_output = { λ _. Some (codes "Sender { .. }") };
+
     fn fmt<W: fmt::Write>(&self, f: &mut fmt::Formatter<W>) -> fmt::Result {
         f.pad("Sender { .. }")
     }

@@ -1,5 +1,7 @@
 //! What one thread is answered.
 use crate::asserts::is;
+use crate::deeds::said;
+use crate::opening::opened_surely;
 use crate::stories::{Told, tell_all};
 use channel_handle::{Disconnected, SendError};
 use std::alloc::Global;
@@ -108,6 +110,13 @@ fn errors_print_their_names(rt: HostRuntime) {
     is(&rt, printed, [true, true, true]);
     let equal = [closed == refused, closed == SendError::Closed(7)];
     is(&rt, (equal, refused.into_inner()), ([false, true], 8));
+}
+
+#[test]
+fn ends_print_their_names(rt: HostRuntime) {
+    let (sender, receiver) = opened_surely::<u64, _>(&rt, rt.alloc(), Some(1));
+    is(&rt, said(&rt, &sender).as_str(), "Sender { .. }");
+    is(&rt, said(&rt, &receiver).as_str(), "Receiver { .. }");
 }
 
 #[test]
