@@ -1,6 +1,7 @@
 //! What ends that have ended have sent and received.
-ghost use Rattle.std.specs.Prelude.{◌≡◌, [], ◌++◌, IfOk};
+ghost use Rattle.std.specs.Prelude.{◌≡◌, [], ◌++◌, IfOk, IfErr};
 ghost use Rattle.concurrent_queue.specs.Shared.{Finishes};
+ghost use Rattle.channel_handle.specs.Left.{IsLeft};
 ghost use Rattle.channel_account.specs.Told.{JoinsTold, SameItems, SawEnd};
 
 use channel_handle::{Ended, Exclusive, Unfinished};
@@ -36,16 +37,17 @@ impl<T: Drop, A: Allocator> Account<T, A> {
         }
     }
 
-    /// Ends the channel, and gives its queue with the values that were not received. It does so with the account of all its ends: each value that was sent has been received once, or is left. None is left where a receiver was answered `Disconnected`.
+    /// Ends the channel, and gives its queue with the values that were not received: each value that was sent has been received once, or is left. None is left where a receiver was answered `Disconnected`.
     ///
     /// # Errors
     ///
-    /// What there is, unchanged, where other ends are there, or one was dropped.
+    /// What there is, unchanged, where another end or account is there, or one was dropped. No clause promises that there is none: who else has a share in the channel is in no contract.
     #[tactic(auto, using(crate::proofs::Settled::none_left))]
     pub fn finish(self) -> Result<Exclusive<T, A>, Unfinished<T, A>>
         ensures finishes { IfOk result (λ left. Finishes self.party left) }
         ensures once { IfOk result (λ left. SameItems self.sent (self.came ++ left.queue.items)) }
         ensures none { IfOk result (λ left. SawEnd self → left.queue.items ≡ []) }
+        ensures left { IfErr result (IsLeft self.party) }
     {
         self.ended.show_view();
         let left = self.ended.finish()?;

@@ -65,7 +65,7 @@ impl<T: Drop, A: Allocator> Sender<T, A> {
     ///
     /// # Errors
     ///
-    /// Where there may be no more ends of this side, parties or shares in the channel: the sender is then as it was.
+    /// Where there may be no more ends of this side, parties or shares in the channel. The sender has then done what it had; it may have seen more.
     #[tactic(auto, using(crate::proofs::Own::stays))]
     pub fn split(&mut self) -> Result<Self, AllocError>
         ensures { MatchResult result (λ two. PartsTold self.old self.new two) (λ _. HasDone self.old self.new) }
@@ -106,7 +106,7 @@ impl<T: Drop, A: Allocator> Receiver<T, A> {
     ///
     /// # Errors
     ///
-    /// Where there may be no more ends of this side, parties or shares in the channel: the receiver is then as it was.
+    /// Where there may be no more ends of this side, parties or shares in the channel. The receiver has then done what it had; it may have seen more.
     #[tactic(auto, using(crate::proofs::Own::stays))]
     pub fn split(&mut self) -> Result<Self, AllocError>
         ensures { MatchResult result (λ two. PartsTold self.old self.new two) (λ _. HasDone self.old self.new) }

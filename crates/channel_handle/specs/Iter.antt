@@ -2,7 +2,7 @@
 use Rattle.std.specs.{Prelude.◌≡◌, Prelude.ℕ, Prelude.Option, Prelude.Result, Result.result_ok, Borrow.GName, Sync.Forever.forever_left}
 use Rattle.queue_steps.specs.declared.{model.Call.Call as call, model.Reply.Reply as reply, errors.PopError.PopError}
 use Rattle.counted_channel.specs.{Channel.End, Channel.ChannelCall, Receiving.Received}
-use Rattle.channel_handle.specs.declared.iter.{IntoIter.IntoIter, Iter.Iter, TryIter.TryIter}
+use Rattle.channel_handle.specs.declared.{into_iter.IntoIter.IntoIter, iter.Iter.Iter, iter.TryIter.TryIter}
 
 -- r is what a `try_recv` of the end gave, and took the end from d to e
 abbrev pub TriedToReceive : {T : Type 0} → End T → Option T → End T → Type 0

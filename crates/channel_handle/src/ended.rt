@@ -70,7 +70,7 @@ impl<T: Drop, A: Allocator> Ended<T, A> {
     ///
     /// # Errors
     ///
-    /// What there is, unchanged: the ended end, or channel and party where a party is missing.
+    /// What there is, unchanged: the ended end, or channel and party where a party is missing. No clause promises that there is no other end: who else has a share in the channel is in no contract.
     pub fn finish(self) -> Result<Exclusive<T, A>, Unfinished<T, A>>
         ensures { MatchResult result (λ queue. Finishes self queue) (λ left. IsLeft self left) }
     {

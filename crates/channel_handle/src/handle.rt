@@ -123,7 +123,7 @@ impl<E: ChannelEnd<T>, T: Drop, A: Allocator> Handle<E, T, A> {
     ///
     /// # Errors
     ///
-    /// Where there may be no more ends of this side, parties or shares in the channel: the end is then as it was.
+    /// Where there may be no more ends of this side, parties or shares in the channel. The end keeps its places, its share and its stake; it may have seen more.
     #[tactic(auto, using(crate::proofs::Kept::kept))]
     pub fn split(&mut self) -> Result<Self, AllocError>
         ensures { MatchResult result (λ two. EndParts self.old self.new two) (λ _. GivenBack self.old self.new) }

@@ -3,6 +3,7 @@
 
 mod ended;
 mod handle;
+mod into_iter;
 mod iter;
 mod opening;
 mod owed;
@@ -13,5 +14,6 @@ pub use concurrent_queue::{Exclusive, PopError, PushError};
 pub use counted_channel::{Disconnected, SendError};
 pub use ended::{Ended, Unfinished};
 pub use handle::{Handle, Receiver, Sender};
-pub use iter::{IntoIter, Iter, TryIter};
+pub use into_iter::IntoIter;
+pub use iter::{Iter, TryIter};
 pub use opening::{bounded, unbounded};

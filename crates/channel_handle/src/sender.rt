@@ -44,7 +44,7 @@ impl<T: Drop, A: NullTestable> Sender<T, A> {
     ///
     /// # Errors
     ///
-    /// Those of a push, each with the value. None changes anything, but that a `Closed` at the limit of items closes the channel.
+    /// Those of a push, each with the value. `Full` and `NoMemory` change nothing; a push that is answered `Closed` may have closed the channel, at its limit.
     pub fn try_send<R: Wait>(&mut self, rt: &R, value: T) -> Result<(), PushError<T>>
         ensures { ChannelCall self.old (call.Push value) (reply.Push result) self.new }
     {
