@@ -1,10 +1,10 @@
 -- A poll that came to nothing leaves its end having done nothing, and a call after it is a call from before it.
-use Rattle.std.proofs.Common.{◌≡◌, ◌⊎◌, inl, inr, ℕ, Bool, false, true, Option, Err, Result, List, [], ◌∷◌, refl, ap, sym, ◌∙◌, subst}
+use Rattle.std.proofs.Common.{◌≡◌, ℕ, false, true, Option, Err, Result, List, [], ◌∷◌, refl, ap, sym, ◌∙◌, subst}
 use Rattle.std.specs.Result.{result_ok}
 use Rattle.queue_steps.specs.{declared.model.Call.Call, declared.model.Call.Call as call, declared.model.Reply.Reply, declared.model.Reply.Reply as reply, declared.errors.PopError.PopError as pop, declared.errors.PushError.PushError as push, Shares.Share, Shares.IsEntire, Parties.View}
 use Rattle.concurrent_queue.specs.{SawMore.SawMore, Shared.PartyView, Shared.Calls}
-use Rattle.counted_channel.specs.declared.{calls.polled.PollState.PollState, calls.polled.PollState.PollState as poll, calls.polled.Attempt.Attempt, calls.polled.Attempt.Attempt as attempt, calls.errors.Disconnected.Disconnected, counting.SeatCounts.SeatCounts}
-use Rattle.counted_channel.specs.{Channel.End, Channel.ChannelCall, Channel.end_at, Channel.received, Polling.EndWaited, Polling.HasReceived, Polling.PollingEnd, Polling.PopEnds, QueueCalls.Polled.party_at, QueueCalls.Polled.is_in_pop, QueueCalls.Polled.Attempts, QueueCalls.Polled.PopGoesOn, QueueCalls.Polled.IsBetween, QueueCalls.Polled.IsPopping}
+use Rattle.counted_channel.specs.declared.{calls.polled.PollState.PollState, calls.polled.PollState.PollState as poll, calls.errors.Disconnected.Disconnected, counting.SeatCounts.SeatCounts}
+use Rattle.counted_channel.specs.{Channel.End, Channel.ChannelCall, Channel.end_at, Channel.received, Polling.EndWaited, Polling.HasReceived, QueueCalls.Polled.party_at, QueueCalls.Polled.is_in_pop, QueueCalls.Polled.IsBetween, QueueCalls.Polled.IsPopping}
 use Rattle.atomic_table.specs.Seated.{TableId}
 use Rattle.counted_channel.proofs.Trying.{Tried, untried, prefix_on, tried_more, conforms_then, empty_is_refused, full_is_refused}
 
@@ -79,22 +79,3 @@ module _ {T A : Type 0} (d : End T) (v : PartyView T) (t : TableId) (s : SeatCou
   pub recv_taken : (a : PollState T A) → IsPopping v a → EndWaited d (end_at 1 (party_at a) t s) × (is_in_pop a ≡ true)
   recv_taken (poll.Between p) h = absurd h
   recv_taken (poll.Popping p) h = (end_waits 1 d v p.party t s is (saw_none v p.party h), refl)
-
-  -- a pop that went on
-  pub pop_goes_on : (a : PollState T A) → PopGoesOn v a → PopEnds (record { end = d; in_pop = true }) (record { end = end_at 1 (party_at a) t s; in_pop = is_in_pop a })
-  pop_goes_on (poll.Between p) (inl more) = inr (refl, refl, inl (end_waits 1 d v p t s is more))
-  pop_goes_on (poll.Between p) (inr called) = inr (refl, refl, inr (called.0, end_calls 1 d v p t s call.Pop (reply.Pop called.0) is called.1))
-  pop_goes_on (poll.Popping p) same =
-      inl (ap (λ (e : End T). record { end = e; in_pop = true }) (ap (λ (w : PartyView T). end_at 1 w t s) same ∙ is))
-
-module _ {T A : Type 0} where
-  pub attempt_goes_on : (v : PartyView T) (r : Attempt T) (a : PollState T A) → Attempts v r a → PopGoesOn v a
-  attempt_goes_on v (attempt.Answered r) (poll.Between p) h = inr (r, h)
-  attempt_goes_on v (attempt.Answered r) (poll.Popping p) h = absurd h
-  attempt_goes_on v attempt.Busy (poll.Between p) h = inl h
-  attempt_goes_on v attempt.Busy (poll.Popping p) h = absurd h
-  attempt_goes_on v attempt.Taken (poll.Between p) h = absurd h
-  attempt_goes_on v attempt.Taken (poll.Popping p) h = h
-
-  pub stays_between : (v : PartyView T) → PopGoesOn {A = A} v (poll.Between v)
-  stays_between v = inl (saw_none v v refl)

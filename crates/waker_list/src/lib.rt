@@ -64,6 +64,7 @@ impl<C> WakerList<C> {
     pub fn owe_one(&self, condition: C) -> OwesOne<'_, C>
     where
         C: Drop,
+        ensures { result.list.now ≡ self.now }
     {
         OwesOne::at(self, condition)
     }
@@ -73,6 +74,7 @@ impl<C> WakerList<C> {
     pub fn owe_all(&self, condition: C) -> OwesAll<'_, C>
     where
         C: Drop,
+        ensures { result.list.now ≡ self.now }
     {
         OwesAll::at(self, condition)
     }

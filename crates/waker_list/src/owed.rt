@@ -25,6 +25,7 @@ impl<'a, C> OwesOne<'a, C> {
     pub(crate) fn at(list: &'a WakerList<C>, condition: C) -> OwesOne<'a, C>
     where
         C: Drop,
+        ensures { result.list.now ≡ list.now }
     {
         OwesOne {
             list,
@@ -46,6 +47,7 @@ impl<'a, C> OwesAll<'a, C> {
     pub(crate) fn at(list: &'a WakerList<C>, condition: C) -> OwesAll<'a, C>
     where
         C: Drop,
+        ensures { result.list.now ≡ list.now }
     {
         OwesAll {
             list,
