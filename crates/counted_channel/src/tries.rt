@@ -17,7 +17,7 @@ use std::sync::Wait;
 ///
 /// # Errors
 ///
-/// Those of a push, each with the value: `Full` only after the deadline.
+/// Those of a push, each with the value: `Full` only after the deadline, as its clock says. No clause knows a clock: `late` says that a wait which is never given up is not answered `Full`.
 pub(crate) fn wait_to_push<T, A: NullTestable, R: Wait, D: Deadline>(
     queue: &WaitedQueue<T, A>,
     rt: &R,
@@ -81,7 +81,7 @@ pub(crate) fn wait_to_send<T, A: NullTestable, R: Wait>(
 ///
 /// # Errors
 ///
-/// Those of a pop: `Empty` only after the deadline.
+/// Those of a pop: `Empty` only after the deadline, as its clock says. No clause knows a clock: `late` says that a wait which is never given up is not answered `Empty`.
 pub(crate) fn wait_to_pop<T, A: Allocator, R: Wait, D: Deadline>(
     queue: &WaitedQueue<T, A>,
     rt: &R,

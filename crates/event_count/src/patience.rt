@@ -92,7 +92,7 @@ impl<'a, C> Patience<'a, C> {
         self.wait_until(rt, vain, &Never);
     }
 
-    /// Waits so until the deadline at most. Returns whether the wait is over: then the deadline had passed at a look that was made without a ticket, after all sleeps.
+    /// Waits so until the deadline at most. Returns whether the wait is over: then the deadline has passed, as its clock says, and the look was made without a ticket, after all sleeps.
     pub fn wait_until<R: Wait, D: Deadline>(&mut self, rt: &R, vain: Vain<'a, C>, until: &D) -> bool
         ensures late { IsTrue result → D.can_pass until.now }
         ensures looked { IsTrue result → IsAwake vain.entry }
