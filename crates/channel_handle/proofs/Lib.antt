@@ -1,1 +1,2 @@
+mod Iterations
 mod Kept

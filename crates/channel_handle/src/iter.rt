@@ -1,8 +1,8 @@
 //! A receiver's items, one after another. Each iterator holds a `Forever`, whose count is the measure of a loop over it.
 ghost use Rattle.std.specs.Prelude.{◌≡◌};
 ghost use Rattle.std.specs.Iterator.{at_most};
-ghost use Rattle.channel_handle.specs.Iter.{iter_left, iter_lender, IterReceives};
-ghost use Rattle.channel_handle.specs.Iter.{try_iter_left, try_iter_lender, TryIterReceives};
+ghost use Rattle.channel_handle.specs.Iter.{iter_left, iter_lender, IterReceives, IterKeepsAlong};
+ghost use Rattle.channel_handle.specs.Iter.{try_iter_left, try_iter_lender, TryIterReceives, TryIterKeepsAlong};
 
 use crate::handle::Receiver;
 use std::alloc::{Allocator, Global};
@@ -13,6 +13,7 @@ impl<T: Drop, A: Allocator> Receiver<T, A> {
     pub fn iter<'a, R: Wait>(&'a mut self, rt: &'a R) -> Iter<'a, T, R, A>
         ensures of { result.receiver.now ≡ self.old }
         ensures same_reference { iter_lender result ≡ self.entry.ghost_name }
+        ensures stays { IterKeepsAlong result }
     {
         Iter {
             receiver: self,
@@ -25,6 +26,7 @@ impl<T: Drop, A: Allocator> Receiver<T, A> {
     pub fn try_iter<'a, R: Wait>(&'a mut self, rt: &'a R) -> TryIter<'a, T, R, A>
         ensures of { result.receiver.now ≡ self.old }
         ensures same_reference { try_iter_lender result ≡ self.entry.ghost_name }
+        ensures stays { TryIterKeepsAlong result }
     {
         TryIter {
             receiver: self,
