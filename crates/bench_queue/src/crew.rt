@@ -1,8 +1,11 @@
 //! Threads that push and pop on one queue. No value is counted: the numbers are added up.
+use crate::fault::Fault;
 use std::alloc::{AllocError, Global};
 use std::sync::Wait;
+use std::sync::atomic::Ordering::SeqCst;
+use std::sync::atomic::{AtomicBool, AtomicU64};
 use std::thread;
-use std::thread::{Threads, yield_now};
+use std::thread::{Scope, Threads, yield_now};
 
 /// How many threads push and how many pop, and how many numbers each pushes. The poppers share what is pushed evenly.
 #[derive(Clone, Copy)]
@@ -53,28 +56,63 @@ struct Member<S> {
     role: Role,
 }
 
+// What the threads of a crew share.
+#[derive(Drop)]
+struct Board {
+    // The sum of what was popped.
+    sum: AtomicU64,
+    // A thread could not be started, so those that were wait no longer.
+    is_given_up: AtomicBool,
+}
+
+impl Board {
+    fn new() -> Board {
+        Board {
+            sum: AtomicU64::new(0),
+            is_given_up: AtomicBool::new(false),
+        }
+    }
+
+    // Lets others go first, and gives whether to try again then.
+    fn wait(&self) -> bool {
+        yield_now();
+        !self.is_given_up.load(SeqCst)
+    }
+}
+
 /// Runs the threads of a crew. Gives the sum of what was popped.
 ///
 /// # Errors
 ///
-/// The allocator refused the list of threads, or there may be no more seats.
+/// There is no memory, or there may be no more seats, or a thread cannot be started. Those that were started have ended then.
 pub fn run_crew<R: Threads + Wait + Sync, S: Seat + Send + Drop>(
     rt: &R,
     alloc: Global,
     seat: S,
     crew: Crew,
-) -> Result<u64, AllocError> {
+) -> Result<u64, Fault> {
     let members = enlist_all(alloc, seat, crew)?;
-    let sums = thread::map_vec(rt, members, &|member: Member<S>| act(rt, member))?;
-    Ok(sum_of(sums.as_slice()))
+    let board = Board::new();
+    thread::scope(thread::scope_env(), rt, |scope| {
+        start_all(rt, scope, members, &board)
+    })?;
+    Ok(board.sum.load(SeqCst))
 }
 
-fn sum_of(numbers: &[u64]) -> u64 {
-    let mut sum = 0u64;
-    for number in numbers {
-        sum = sum.wrapping_add(*number);
+// Starts a thread for each member. Where one cannot be started, the others end.
+fn start_all<'s, E, R: Threads + Wait + Sync, S: Seat + Send + Drop + 's>(
+    rt: &'s R,
+    scope: &Scope<'s, E>,
+    members: Vec<Member<S>>,
+    board: &'s Board,
+) -> Result<(), Fault> {
+    for member in members {
+        if scope.spawn(move || act(rt, member, board)).is_err() {
+            board.is_given_up.store(true, SeqCst);
+            return Err(Fault::NoThread);
+        }
     }
-    sum
+    Ok(())
 }
 
 // The members of a crew.
@@ -106,20 +144,21 @@ fn enlist<S: Seat + Drop>(
     Ok(seat)
 }
 
-// Does what the member's role says. Gives the sum of what was popped.
-fn act<R: Wait, S: Seat + Drop>(rt: &R, member: Member<S>) -> u64 {
+// Does what the member's role says, and adds what was popped to the sum.
+fn act<R: Wait, S: Seat + Drop>(rt: &R, member: Member<S>, board: &Board) {
     let Member { mut seat, role } = member;
     match role {
-        Role::Pushes(count) => {
-            push_all(rt, &mut seat, count);
-            0
+        Role::Pushes(count) => push_all(rt, &mut seat, count, board),
+        Role::Pops(count) => {
+            board
+                .sum
+                .fetch_add(pop_all(rt, &mut seat, count, board), SeqCst);
         }
-        Role::Pops(count) => pop_all(rt, &mut seat, count),
     }
 }
 
 // Pushes the numbers from 0 up to the count, which is left out, each again for as long as the queue is full.
-fn push_all<R: Wait, S: Seat>(rt: &R, seat: &mut S, count: u64) {
+fn push_all<R: Wait, S: Seat>(rt: &R, seat: &mut S, count: u64, board: &Board) {
     let mut number = 0;
     for _ in rt.forever() {
         if number >= count {
@@ -127,14 +166,14 @@ fn push_all<R: Wait, S: Seat>(rt: &R, seat: &mut S, count: u64) {
         }
         match seat.put(rt, number) {
             Ok(()) => number += 1,
-            Err(Refusal::ForNow) => yield_now(),
-            Err(Refusal::ForGood) => break,
+            Err(Refusal::ForNow) if board.wait() => {}
+            Err(Refusal::ForNow | Refusal::ForGood) => break,
         }
     }
 }
 
 // Pops so many numbers, and waits where the queue is empty. Gives their sum.
-fn pop_all<R: Wait, S: Seat>(rt: &R, seat: &mut S, count: u64) -> u64 {
+fn pop_all<R: Wait, S: Seat>(rt: &R, seat: &mut S, count: u64, board: &Board) -> u64 {
     let mut sum = 0u64;
     let mut left = count;
     for _ in rt.forever() {
@@ -146,8 +185,8 @@ fn pop_all<R: Wait, S: Seat>(rt: &R, seat: &mut S, count: u64) -> u64 {
                 sum = sum.wrapping_add(number);
                 left -= 1;
             }
-            Err(Refusal::ForNow) => yield_now(),
-            Err(Refusal::ForGood) => break,
+            Err(Refusal::ForNow) if board.wait() => {}
+            Err(Refusal::ForNow | Refusal::ForGood) => break,
         }
     }
     sum

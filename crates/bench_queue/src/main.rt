@@ -2,20 +2,22 @@
 //!
 //! The arguments are `SETUP KIND PATTERN BYTES COUNT` or `threads KIND PUSHERS POPPERS COUNT`, for one run. `SETUP` is `owned`, `alone`, `ended`, or `kit-alone`; `KIND` is `single`, `bounded:CAP` or `unbounded`; `PATTERN` is `behind:ITEMS` or `batch:ITEMS`; `BYTES` is 8 or 64; `kit-threads` stands for `threads` where the queue is the kit's. Without arguments there is a short run of each.
 //!
-//! Standard output tells the sum of what was popped, which no time changes. Standard error tells how long it took, and the most memory that the process has had.
+//! Standard output tells the sum of what was popped, which no time changes. Standard error tells how long it took, and the most memory that the process has had. Where a thread cannot be started, it tells that, and the status is 3, as where there is no memory; where the arguments name no load it is 2.
 #![tactic(auto)]
 
 mod crew;
+mod fault;
 mod kit;
 mod load;
 mod ours;
 mod pairs;
 mod runs;
 
+use crate::fault::Fault;
 use crate::load::parse_load;
 use crate::runs::{Run, time};
 use app_text::words::words_of;
-use std::io::ErrorKind;
+use std::process::ExitCode;
 use std::sync::Wait;
 use std::thread::Threads;
 use std::{env, fs, io};
@@ -65,14 +67,23 @@ static SHORT: [&str; 41] = [
     "kit-threads unbounded 4 4 1000",
 ];
 
-fn main(rt: HostRuntime) -> io::Result<()> {
-    let words = words_of(rt.alloc(), env::args(&rt))?;
+fn main(rt: HostRuntime) -> ExitCode {
+    let Err(fault) = run_asked(&rt, &rt) else {
+        return ExitCode::SUCCESS;
+    };
+    let _ = eprintln!(&rt; "{fault}");
+    ExitCode::from(fault.status())
+}
+
+// Runs what the arguments ask for.
+fn run_asked<R: Threads + Wait + Sync>(rt: &HostRuntime, threads: &R) -> Result<(), Fault> {
+    let words = words_of(rt.alloc(), env::args(rt))?;
     let line = words.join(rt.alloc(), " ")?;
-    run(&rt, &rt, line.as_str())
+    run(rt, threads, line.as_str())
 }
 
 // Runs what this line names, or each of the short runs where it names none.
-fn run<R: Threads + Wait + Sync>(rt: &HostRuntime, threads: &R, line: &str) -> io::Result<()> {
+fn run<R: Threads + Wait + Sync>(rt: &HostRuntime, threads: &R, line: &str) -> Result<(), Fault> {
     if !line.is_empty() {
         return tell(rt, threads, line);
     }
@@ -83,13 +94,14 @@ fn run<R: Threads + Wait + Sync>(rt: &HostRuntime, threads: &R, line: &str) -> i
 }
 
 // Runs the load that this line names, and tells what came of it.
-fn tell<R: Threads + Wait + Sync>(rt: &HostRuntime, threads: &R, line: &str) -> io::Result<()> {
+fn tell<R: Threads + Wait + Sync>(rt: &HostRuntime, threads: &R, line: &str) -> Result<(), Fault> {
     let Some(load) = parse_load(line) else {
-        return Err(io::Error::from(ErrorKind::InvalidInput));
+        return Err(Fault::NoLoad);
     };
     let Run { sum, took } = time(rt, threads, load)?;
     tell_sum(rt, line, sum)?;
-    tell_time(rt, line, took.as_nanos())
+    tell_time(rt, line, took.as_nanos())?;
+    Ok(())
 }
 
 fn tell_sum<R: Print>(rt: &R, line: &str, sum: u64) -> io::Result<()> {

@@ -3,12 +3,12 @@ ghost use Rattle.std.specs.Prelude.{◌<◌};
 ghost use Rattle.std.specs.Option.{IfSome};
 
 use crate::crew::{Crew, Seat, run_crew};
+use crate::fault::Fault;
 use crate::kit::KitAlone;
 use crate::load::{Load, Pairs, Pattern, Setup, Size, Workload};
 use crate::ours::{Alone, OfParty, Owned, open_shared};
 use crate::pairs::{Batched, Lane, Runs};
 use crossbeam_queue::{ArrayQueue, SegQueue};
-use std::io;
 use std::sync::Wait;
 use std::thread::Threads;
 use std::time::{Duration, Instant};
@@ -21,7 +21,11 @@ pub struct Run {
 }
 
 /// Runs a load, and times it.
-pub fn time<R: Threads + Wait + Sync>(rt: &HostRuntime, threads: &R, load: Load) -> io::Result<Run>
+pub fn time<R: Threads + Wait + Sync>(
+    rt: &HostRuntime,
+    threads: &R,
+    load: Load,
+) -> Result<Run, Fault>
     requires { IfSome load.capacity (λ cap. 0 < cap) }
 {
     let Load { capacity, workload } = load;
@@ -38,7 +42,7 @@ fn time_threads<R: Threads + Wait + Sync>(
     threads: &R,
     capacity: Option<usize>,
     crew: Crew,
-) -> io::Result<Run>
+) -> Result<Run, Fault>
     requires { IfSome capacity (λ cap. 0 < cap) }
 {
     let (queue, party) = open_shared(rt.alloc(), capacity)?;
@@ -55,7 +59,7 @@ fn time_kit_threads<R: Threads + Wait + Sync>(
     threads: &R,
     capacity: Option<usize>,
     crew: Crew,
-) -> io::Result<Run>
+) -> Result<Run, Fault>
     requires { IfSome capacity (λ cap. 0 < cap) }
 {
     match capacity {
@@ -76,7 +80,7 @@ fn time_crew<R: Threads + Wait + Sync, S: Seat + Send + Drop>(
     threads: &R,
     seat: S,
     crew: Crew,
-) -> io::Result<Run> {
+) -> Result<Run, Fault> {
     let start = Instant::now(rt)?;
     let sum = run_crew(threads, rt.alloc(), seat, crew)?;
     let took = start.elapsed(rt)?;
@@ -89,7 +93,7 @@ fn time_sized<R: Wait>(
     waits: &R,
     capacity: Option<usize>,
     pairs: Pairs,
-) -> io::Result<Run>
+) -> Result<Run, Fault>
     requires { IfSome capacity (λ cap. 0 < cap) }
 {
     match (pairs.pattern, pairs.size) {
@@ -112,7 +116,7 @@ fn time_pairs<T: Runs, R: Wait>(
     waits: &R,
     capacity: Option<usize>,
     pairs: Pairs,
-) -> io::Result<Run>
+) -> Result<Run, Fault>
     requires { IfSome capacity (λ cap. 0 < cap) }
 {
     match pairs.setup {
@@ -138,7 +142,7 @@ fn time_kit_pairs<T: Runs, R: Wait>(
     waits: &R,
     capacity: Option<usize>,
     pairs: Pairs,
-) -> io::Result<Run>
+) -> Result<Run, Fault>
     requires { IfSome capacity (λ cap. 0 < cap) }
 {
     match capacity {
@@ -158,11 +162,15 @@ fn time_lane<T: Runs, L: Lane<T> + Drop>(
     rt: &HostRuntime,
     mut lane: L,
     pairs: Pairs,
-) -> io::Result<Run> {
+) -> Result<Run, Fault> {
     time_loop(rt, &mut lane, pairs)
 }
 
-fn time_loop<T: Runs, L: Lane<T>>(rt: &HostRuntime, lane: &mut L, pairs: Pairs) -> io::Result<Run> {
+fn time_loop<T: Runs, L: Lane<T>>(
+    rt: &HostRuntime,
+    lane: &mut L,
+    pairs: Pairs,
+) -> Result<Run, Fault> {
     let (Pattern::Behind(items) | Pattern::Batch(items)) = pairs.pattern;
     T::lay(lane, items);
     let start = Instant::now(rt)?;

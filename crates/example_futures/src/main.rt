@@ -12,12 +12,14 @@ use futures::future::{Either, select};
 use futures::task::{Context, Doorbell, Poll};
 use futures::{Future, FutureExt, StreamExt, stream};
 use std::alloc::{AllocError, AllocGlobal};
-use std::io;
+use std::io::ErrorKind;
+use std::process::ExitCode;
 use std::random::RandomSource;
 use std::sync::Wait;
 use std::sync::atomic::AtomicU64;
 use std::sync::atomic::Ordering::SeqCst;
-use std::thread::{Threads, join};
+use std::thread::Threads;
+use std::{io, thread};
 
 /// The two ends of a channel.
 type Ends = (Sender<u64>, Receiver<u64>);
@@ -58,13 +60,20 @@ fn collect_all<R: Wait + RandomSource + AllocGlobal>(
 }
 
 /// A thread forwards, and this one collects.
+///
+/// # Errors
+///
+/// There was no memory, or a thread cannot be started.
 fn forward_and_collect<R: Threads + Wait + RandomSource + AllocGlobal + Sync>(
     rt: &R,
     ends: Ends,
 ) -> io::Result<(bool, Vec<u64>)> {
     let (sender, receiver) = ends;
-    let (sent, came) = join(rt, || forward(rt, sender), || collect_all(rt, receiver));
-    Ok((sent?, came?))
+    thread::scope(thread::scope_env(), rt, |scope| {
+        let forwards = scope.spawn(move || forward(rt, sender))?;
+        let came = collect_all(rt, receiver)?;
+        Ok((forwards.join(rt)?, came))
+    })
 }
 
 /// Receives from the one of two that has an item first. The other's future is dropped, and has received nothing.
@@ -143,7 +152,7 @@ fn send_below<R: Wait>(rt: &R, mut sender: Sender<u64>, count: u64) -> io::Resul
 ///
 /// # Errors
 ///
-/// There was no memory.
+/// There was no memory, or a thread cannot be started.
 fn sum_in_tasks<R: Threads + Wait + RandomSource + AllocGlobal + Sync>(
     rt: &R,
     cap: usize,
@@ -168,22 +177,47 @@ fn sum_in_tasks<R: Threads + Wait + RandomSource + AllocGlobal + Sync>(
         }
     }
     drop(receiver);
-    let (sent, ()) = join(rt, || send_below(rt, sender, count), || set.work(rt, 0));
-    sent?;
+    thread::scope(thread::scope_env(), rt, |scope| {
+        let sends = scope.spawn(move || send_below(rt, sender, count))?;
+        set.work(rt, 0);
+        sends.join(rt)
+    })?;
     Ok(sum.load(SeqCst))
 }
 
-fn main(rt: HostRuntime) -> io::Result<()> {
+/// What is told where the program does not come to its end.
+fn fault_of(error: &io::Error) -> &'static str {
+    match error.kind() {
+        ErrorKind::WouldBlock => "a thread cannot be started",
+        ErrorKind::OutOfMemory => "no memory",
+        _ => "input or output failed",
+    }
+}
+
+/// Shows what comes, over each kind of channel.
+///
+/// # Errors
+///
+/// There was no memory, a thread cannot be started, or what comes cannot be written.
+fn show<R: Threads + Wait + RandomSource + AllocGlobal + Print + Sync>(rt: &R) -> io::Result<()> {
     let alloc = rt.alloc();
-    let slot = forward_and_collect(&rt, bounded(alloc, 1)?)?;
-    let ring = forward_and_collect(&rt, bounded(alloc, 2)?)?;
-    let chain = forward_and_collect(&rt, unbounded(alloc)?)?;
+    let slot = forward_and_collect(rt, bounded(alloc, 1)?)?;
+    let ring = forward_and_collect(rt, bounded(alloc, 2)?)?;
+    let chain = forward_and_collect(rt, unbounded(alloc)?)?;
     println!(rt; "{slot:?} {ring:?} {chain:?}")?;
-    let slots = receive_in_turn(&rt, bounded(alloc, 1)?, bounded(alloc, 1)?)?;
-    let rings = receive_in_turn(&rt, bounded(alloc, 2)?, bounded(alloc, 2)?)?;
-    let chains = receive_in_turn(&rt, unbounded(alloc)?, unbounded(alloc)?)?;
+    let slots = receive_in_turn(rt, bounded(alloc, 1)?, bounded(alloc, 1)?)?;
+    let rings = receive_in_turn(rt, bounded(alloc, 2)?, bounded(alloc, 2)?)?;
+    let chains = receive_in_turn(rt, unbounded(alloc)?, unbounded(alloc)?)?;
     println!(rt; "{slots:?} {rings:?} {chains:?}")?;
-    let slot = sum_in_tasks(&rt, 1, 4, 1000)?;
-    let ring = sum_in_tasks(&rt, 2, 4, 1000)?;
+    let slot = sum_in_tasks(rt, 1, 4, 1000)?;
+    let ring = sum_in_tasks(rt, 2, 4, 1000)?;
     println!(rt; "{slot} {ring}")
+}
+
+fn main(rt: HostRuntime) -> ExitCode {
+    let Err(error) = show(&rt) else {
+        return ExitCode::SUCCESS;
+    };
+    let _ = eprintln!(&rt; "{}", fault_of(&error));
+    ExitCode::from(3)
 }
