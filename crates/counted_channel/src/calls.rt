@@ -2,6 +2,7 @@
 
 mod awaited;
 mod errors;
+mod gated;
 mod polled;
 mod waited;
 mod waiters;

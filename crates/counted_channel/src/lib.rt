@@ -5,6 +5,7 @@ pub mod calls;
 mod counting;
 mod either;
 mod ends;
+mod gated;
 mod items;
 mod opening;
 mod polling;

@@ -1,4 +1,4 @@
-//! Tests of the ends of a channel: by hand, many of them, ends that become one, what is left, and memory that is refused.
+//! Tests of the ends of a channel: by hand, many of them, and much room, ends that become one, what is left, and memory that is refused.
 #![tactic(auto)]
 
 #[cfg(test)]
@@ -7,6 +7,8 @@ mod asserts;
 mod ended;
 #[cfg(test)]
 mod host;
+#[cfg(test)]
+mod limits;
 #[cfg(test)]
 mod many_ends;
 #[cfg(test)]

@@ -4,6 +4,12 @@
 #[cfg(test)]
 mod asserts;
 #[cfg(test)]
+mod beside;
+#[cfg(test)]
+mod held;
+#[cfg(test)]
+mod host;
+#[cfg(test)]
 mod kit;
 #[cfg(test)]
 mod opening;

@@ -1,5 +1,6 @@
 //! Tasks on one thread and on four, also beside threads: each number comes once, all ends, and who waits takes no processor time.
 use crate::asserts::is_in;
+use crate::host::Host;
 use crate::opening::{CAPACITIES, incoming, opened, outgoing};
 use crate::tasks::{Came, Sends, Task, Work};
 use channel_futures::{Incoming, Receiver, Sender};
@@ -12,7 +13,7 @@ use std::random::RandomSource;
 use std::sync::{Arc, Wait};
 use std::thread::{Threads, join, sleep};
 use std::time::{Clock, Duration};
-use test_support::watched::{System, time_of_all};
+use test_support::watched::time_of_all;
 
 /// How many threads work at the tasks.
 #[derive(Clone, Copy, Debug, Drop)]
@@ -87,11 +88,6 @@ const POOL: Plan = Plan {
 
 /// How many numbers each sender sends.
 const COUNT: u64 = 1000;
-
-/// What a run wants of a runtime.
-trait Host: Wait + Threads + Clock + RandomSource + AllocGlobal + Abort + System {}
-
-impl<R: Wait + Threads + Clock + RandomSource + AllocGlobal + Abort + System> Host for R {}
 
 /// Sends all numbers from a thread, if one is to send.
 fn send_all<R: Wait + Clock>(rt: &R, plan: Plan, sender: Option<Sender<u64>>) {

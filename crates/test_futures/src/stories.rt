@@ -1,9 +1,7 @@
 //! Futures that are polled by hand: what wakes them, and what becomes of one that is dropped.
-ghost use Rattle.std.specs.Prelude.{◌≡◌, None};
-
 use crate::asserts::is_in;
 use crate::opening::{CAPACITIES, incoming, opened, outgoing};
-use channel_futures::{Disconnected, Incoming, Outgoing, Receiver, SendError, Sender};
+use channel_futures::{Disconnected, Incoming, Receiver, SendError, Sender};
 use futures::Future;
 use futures::task::Poll;
 use futures::test::MockTask;
@@ -14,14 +12,17 @@ use std::sync::Wait;
 
 /// A receiver in a future, with the task that polls it.
 #[derive(Drop)]
-struct Waiter {
+pub(crate) struct Waiter {
     task: MockTask,
     stream: Incoming<u64>,
 }
 
 impl Waiter {
     /// One that was polled and is pending.
-    fn new<R: Abort + RandomSource + AllocGlobal>(rt: &R, receiver: Receiver<u64>) -> Waiter {
+    pub(crate) fn new<R: Abort + RandomSource + AllocGlobal>(
+        rt: &R,
+        receiver: Receiver<u64>,
+    ) -> Waiter {
         let mut waiter = Waiter {
             task: task(rt),
             stream: incoming(rt, receiver),
@@ -41,13 +42,13 @@ impl Waiter {
         given(task.enter(|cx| stream.poll_recv(cx)))
     }
 
-    fn is_woken(&self) -> bool {
+    pub(crate) fn is_woken(&self) -> bool {
         self.task.is_woken()
     }
 }
 
 /// A task of its own.
-fn task<R: Abort + RandomSource + AllocGlobal>(rt: &R) -> MockTask {
+pub(crate) fn task<R: Abort + RandomSource + AllocGlobal>(rt: &R) -> MockTask {
     MockTask::new(rt).expect(rt, "memory")
 }
 
@@ -80,14 +81,15 @@ fn two_wait<R: Abort + RandomSource + AllocGlobal>(
 }
 
 /// A new channel that is full of 0, 1, 2 and so on.
-fn full<R: AllocGlobal + Wait + Abort>(rt: &R, cap: usize) -> (Outgoing<u64>, Receiver<u64>)
-    ensures { result.0.held ≡ None }
-{
+pub(crate) fn full<R: AllocGlobal + Wait + Abort>(
+    rt: &R,
+    cap: usize,
+) -> (Sender<u64>, Receiver<u64>) {
     let (mut sender, receiver) = opened(rt, Some(cap));
     for item in 0..cap as u64 {
         is_in(rt, cap, sender.send(rt, item), Ok(()));
     }
-    (outgoing(rt, sender), receiver)
+    (sender, receiver)
 }
 
 #[test]
@@ -113,7 +115,8 @@ fn the_last_sender_wakes_a_receiver(rt: HostRuntime) {
 #[test]
 fn room_wakes_a_sender(rt: HostRuntime) {
     for cap in [1, 2] {
-        let (mut sink, mut receiver) = full(&rt, cap);
+        let (sender, mut receiver) = full(&rt, cap);
+        let mut sink = outgoing(&rt, sender);
         let waits = task(&rt);
         let mut send = sink.send_one(9);
         let Poll::Pending = waits.poll(&mut send) else {
@@ -127,9 +130,22 @@ fn room_wakes_a_sender(rt: HostRuntime) {
 }
 
 #[test]
+fn room_for_thousands(rt: HostRuntime) {
+    let (mut sender, mut receiver) = full(&rt, 5_000);
+    is_in(
+        &rt,
+        "full",
+        (sender.is_full(), sender.capacity()),
+        (true, Some(5_000)),
+    );
+    is_in(&rt, "the first", receiver.recv(&rt), Ok(0));
+}
+
+#[test]
 fn the_last_receiver_wakes_a_sender(rt: HostRuntime) {
     for cap in [1, 2] {
-        let (mut sink, receiver) = full(&rt, cap);
+        let (sender, receiver) = full(&rt, cap);
+        let mut sink = outgoing(&rt, sender);
         let waits = task(&rt);
         let mut send = sink.send_one(9);
         let Poll::Pending = waits.poll(&mut send) else {

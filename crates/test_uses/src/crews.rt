@@ -119,8 +119,8 @@ fn each_thread_works_once(rt: HostRuntime) {
 /// One piece of work more than threads were started: the calling thread does it, or finds the queue closed. What is pushed is what the posts say.
 #[test]
 fn the_work_of_a_thread_that_is_refused_is_done_here(rt: HostRuntime) {
-    for threads in [1, 3, 40] {
-        for started in 0..threads {
+    for threads in [1, 3, 40, 1_000_000] {
+        for started in 0..threads.min(40) {
             for on_refusal in [OnRefusal::GoOn, OnRefusal::CloseQueue] {
                 let closes = on_refusal == OnRefusal::CloseQueue;
                 let roster = Roster {

@@ -1,8 +1,10 @@
 //! Deadlines by clocks that cannot be read, or are too far.
-use crate::asserts::is;
+use crate::asserts::{is, is_in};
 use event_count::{Deadline, Never, Until};
 use std::io;
 use std::io::ErrorKind;
+use std::sync::atomic::AtomicU64;
+use std::sync::atomic::Ordering::SeqCst;
 use std::time::{Clock, Duration};
 
 /// A clock that cannot be read.
@@ -19,7 +21,7 @@ impl Clock for Broken {
 }
 
 /// A clock that stands still.
-struct Still;
+pub(crate) struct Still;
 
 impl Clock for Still {
     fn monotonic(&self) -> io::Result<Duration> {
@@ -63,4 +65,46 @@ fn no_deadline_and_one_after_all_times_have_no_end(rt: HostRuntime) {
         (shown(&Never), shown(&far)),
         ((false, None), (false, None)),
     );
+}
+
+/// A clock that is set by hand, in seconds.
+#[derive(Drop)]
+struct Set(AtomicU64);
+
+impl Set {
+    fn reading(&self) -> io::Result<Duration> {
+        Ok(Duration::from_secs(self.0.load(SeqCst)))
+    }
+}
+
+impl Clock for Set {
+    fn monotonic(&self) -> io::Result<Duration> {
+        self.reading()
+    }
+
+    fn since_1970(&self) -> io::Result<Duration> {
+        self.reading()
+    }
+}
+
+/// What is shown of a deadline that is so many seconds from now, after so many.
+fn shown_after(timeout: u64, seconds: u64) -> (bool, Option<Duration>) {
+    let clock = Set(AtomicU64::new(5));
+    let until = Until::after(&clock, Duration::from_secs(timeout));
+    clock.0.fetch_add(seconds, SeqCst);
+    shown(&until)
+}
+
+/// Timeouts in seconds: above a minute, an hour, a day and a century.
+static LONG: [u64; 4] = [61, 7_200, 100_000, 4_000_000_000];
+
+#[test]
+fn a_long_wait_has_left_what_has_not_passed(rt: HostRuntime) {
+    for timeout in LONG.iter() {
+        for left in [*timeout, 1, 0] {
+            let passed = timeout.saturating_sub(left);
+            let wanted = (left == 0, Some(Duration::from_secs(left)));
+            is_in(&rt, (*timeout, left), shown_after(*timeout, passed), wanted);
+        }
+    }
 }

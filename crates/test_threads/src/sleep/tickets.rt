@@ -1,7 +1,8 @@
 //! A notify ends each wait whose ticket is older, and of those that sleep it wakes as many as it is to.
 use crate::asserts::is;
 use crate::host::Host;
-use event_count::{EventCount, Look, Patience};
+use crate::sleep::deadlines::Still;
+use event_count::{EventCount, Look, Patience, Until};
 use std::sync::Wait;
 use std::sync::atomic::AtomicU64;
 use std::sync::atomic::Ordering::SeqCst;
@@ -59,6 +60,20 @@ fn a_patient_look_has_its_ticket_first(rt: HostRuntime) {
     notify(&signs, false);
     patience.wait(&rt, look.in_vain(Sign { made: () }));
     is(&rt, (before, yields(&rt, &mut patience)), (8, 8));
+}
+
+/// A notify may take a sleeper as its time passes: so a sleep is never the last thing of a wait, and the look after it may be.
+#[test]
+fn a_sleeper_looks_again_after_its_deadline(rt: HostRuntime) {
+    let signs = EventCount::new();
+    let past = Until::after(&Still, Duration::ZERO);
+    let mut patience = Patience::new(&signs);
+    let before = yields(&rt, &mut patience);
+    let slept = patience.look().in_vain(Sign { made: () });
+    let over_by_sleep = patience.wait_until(&rt, slept, &past);
+    let awake = patience.look().in_vain(Sign { made: () });
+    let over_by_look = patience.wait_until(&rt, awake, &past);
+    is(&rt, (before, over_by_sleep, over_by_look), (8, false, true));
 }
 
 /// Two threads that sleep.
