@@ -49,6 +49,16 @@ try_wrong() {
     fi
 }
 
+# FLAGS: our test from C, whose leaks these flags of cc find, over each library of keeps/. What it keeps is found.
+check_keeps() {
+    local shim name
+    for shim in "$here"/keeps/*.c; do
+        name=$(basename "$shim" .c)
+        check_refused "LeakSanitizer: detected memory leaks" make -s -C c test OUT="$work/keeps_$name" QUEUE_C="$(library_with "$shim")" CFLAGS="$1" ARGS=200
+        echo "keeps/$name.c: $(sed -n 's/^SUMMARY: //p' "$work/log")"
+    done
+}
+
 check_c() {
     local sanitize="-O1 -g -fsanitize=address,undefined -fno-sanitize-recover=all" version
     version=$(sed -n 's/^#define QUEUE_C_VERSION "\(.*\)"/\1/p' c/queue_c.h)
@@ -77,6 +87,7 @@ check_c() {
         if try "c/test.c with ASan and UBSan" make -s -C c test OUT="$work/sanitize" CFLAGS="$sanitize" ARGS=2000; then
             echo "c/test.c with ASan and UBSan: $(tail -n 1 "$work/log")"
         fi
+        check_keeps "$sanitize"
     else
         echo "c/test.c with ASan and UBSan: not tried, cc has neither"
     fi

@@ -217,3 +217,23 @@ fn no_queue_without_room(rt: HostRuntime) {
     assert_eq!(&rt; queue_c_bounded(rt.alloc(), &mut party, 0), 8);
     are_answered(&rt, rt.alloc(), &mut party, &NO_PARTY);
 }
+
+/// A queue with room for thousands takes them, and no more.
+#[test]
+fn room_for_thousands(rt: HostRuntime) {
+    let mut party = Handle::none(rt.alloc());
+    assert_eq!(&rt; open(rt.alloc(), &mut party, Some(5_000)), 0);
+    for item in 0..5_000 {
+        assert_eq!(&rt; queue_c_push(rt.alloc(), &mut party, item), 0, "{item}");
+    }
+    are_answered(
+        &rt,
+        rt.alloc(),
+        &mut party,
+        &[
+            (Export::Push(1), 2, UNWRITTEN),
+            (Export::Pop, 0, 0),
+            (Export::Drop, 0, UNWRITTEN),
+        ],
+    );
+}

@@ -32,26 +32,27 @@ impl<T, A: NullTestable> WaitedQueue<T, A> {
         ensures ticket { FullKeepsTicket look.entry result }
     {
         let call = Call::Push(value);
-        match self
+        let replied = match self
             .queue
             .answer::<Granting, R, G, AtGate>(rt, gate, party, call)
         {
-            Reply::Push(Ok(())) => {
+            Reply::Push(replied) => replied,
+            _ => unreachable!(),
+        };
+        match replied {
+            Ok(()) => {
                 look.found();
                 Pushed::Done(OwesOne::by(Items { made: () }, Items { made: () }))
             }
-            Reply::Push(Err(PushError::Full(back))) => {
-                Pushed::Full(back, look.in_vain(Room { made: () }))
-            }
-            Reply::Push(Err(PushError::Closed(back))) => {
+            Err(PushError::Full(back)) => Pushed::Full(back, look.in_vain(Room { made: () })),
+            Err(PushError::Closed(back)) => {
                 look.found();
                 Pushed::Closed(back, owes_end(party))
             }
-            Reply::Push(Err(PushError::NoMemory(back))) => {
+            Err(PushError::NoMemory(back)) => {
                 look.found();
                 Pushed::NoMemory(back)
             }
-            _ => unreachable!(),
         }
     }
 }
