@@ -15,7 +15,7 @@ use shared_chain::source::Granting;
 use std::sync::Wait;
 
 /// Tells the fast steps of these pushes from those of others.
-struct AtGate;
+pub struct AtGate;
 
 impl<T, A: NullTestable> WaitedQueue<T, A> {
     /// Pushes as [`WaitedQueue::push`] does. The gate is asked before each operation, and may hold the push there.
