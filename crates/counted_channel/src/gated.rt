@@ -1,12 +1,11 @@
 //! A send that asks a gate before each operation of its push, so that a test can hold it half done.
-ghost use Rattle.std.specs.Prelude.{◌≡◌};
 ghost use Rattle.queue_steps.specs.declared.model.Call.TheVariants as call;
 ghost use Rattle.queue_steps.specs.declared.model.Reply.TheVariants as reply;
 ghost use Rattle.counted_channel.specs.Channel.{IsEndOf, ChannelCall};
 
-use crate::calls::Pushed;
 use crate::ends::Channel;
 use crate::sides::Sender;
+use crate::waking::answer_of;
 use call_driver::gate::Gate;
 use concurrent_queue::{NullTestable, PushError};
 use event_count::Look;
@@ -29,20 +28,6 @@ impl<T, A: NullTestable> Channel<T, A> {
         ensures { ChannelCall sender.old (call.Push value) (reply.Push result) sender.new }
     {
         let party = &mut sender.party;
-        match self.queue.push_at(rt, gate, party, value, Look::Awake) {
-            Pushed::Done(owed) => {
-                self.awaited.items.notify_one(owed);
-                Ok(())
-            }
-            Pushed::Full(back, vain) => {
-                vain.end();
-                Err(PushError::Full(back))
-            }
-            Pushed::Closed(back, owed) => {
-                self.awaited.notify_all(owed);
-                Err(PushError::Closed(back))
-            }
-            Pushed::NoMemory(back) => Err(PushError::NoMemory(back)),
-        }
+        answer_of(self.queue.push_at(rt, gate, party, value, Look::Awake))
     }
 }

@@ -1,8 +1,12 @@
 //! Calls of the queue that do not wait for room or items. Each notifies who waits for what it did.
+ghost use Rattle.std.specs.Prelude.{◌≡◌};
+ghost use Rattle.event_count.specs.declared.patience.Look.TheVariants as look;
 ghost use Rattle.queue_steps.specs.declared.model.Call.TheVariants as call;
 ghost use Rattle.queue_steps.specs.declared.model.Reply.TheVariants as reply;
 ghost use Rattle.concurrent_queue.specs.Shared.{IsPartyOf, Calls};
 ghost use Rattle.counted_channel.specs.Channel.{force_sent};
+ghost use Rattle.counted_channel.specs.QueueCalls.Calls.{pushed};
+ghost use Rattle.counted_channel.specs.QueueCalls.Looks.{FullKeepsTicket};
 
 use crate::calls::{ForcePushed, Popped, Pushed, SendError, WaitedQueue};
 use concurrent_queue::{NullTestable, Party, PopError, PushError};
@@ -20,7 +24,16 @@ pub(crate) fn push<T, A: NullTestable, R: Wait>(
     requires { IsPartyOf party.old queue.now.queue }
     ensures { Calls party.old (call.Push value) (reply.Push result) party.new }
 {
-    match queue.push(rt, party, value, Look::Awake) {
+    answer_of(queue.push(rt, party, value, Look::Awake))
+}
+
+/// The answer of a push that was made awake. It notifies who waits for what the push did.
+#[inline(always)]
+pub(crate) fn answer_of<T>(done: Pushed<'_, T>) -> Result<(), PushError<T>>
+    requires awake { FullKeepsTicket look.Awake done }
+    ensures { reply.Push result ≡ pushed done.entry }
+{
+    match done {
         Pushed::Done(owed) => {
             owed.notify();
             Ok(())

@@ -5,11 +5,10 @@ ghost use Rattle.concurrent_queue.specs.Shared.{Calls, IsPartyOf};
 ghost use Rattle.counted_channel.specs.QueueCalls.Calls.{pushed};
 ghost use Rattle.counted_channel.specs.QueueCalls.Looks.{FullKeepsTicket};
 
-use crate::calls::waited::{Items, Pushed, Room, WaitedQueue, owes_end};
-use crate::calls::waiters::OwesOne;
+use crate::calls::waited::{Pushed, Room, WaitedQueue};
 use call_driver::gate::Gate;
 use concurrent_queue::model::{Call, Reply};
-use concurrent_queue::{NullTestable, Party, PushError};
+use concurrent_queue::{NullTestable, Party};
 use event_count::Look;
 use shared_chain::source::Granting;
 use std::sync::Wait;
@@ -20,39 +19,25 @@ pub struct AtGate;
 impl<T, A: NullTestable> WaitedQueue<T, A> {
     /// Pushes as [`WaitedQueue::push`] does. The gate is asked before each operation, and may hold the push there.
     pub fn push_at<'a, R: Wait, G: Gate>(
-        &self,
+        &'a self,
         rt: &R,
         gate: &G,
         party: &mut Party<T>,
         value: T,
         look: Look<'a, Room>,
     ) -> Pushed<'a, T>
-        requires { IsPartyOf party.old self.now }
+        requires { IsPartyOf party.old self.now.queue }
         ensures called { Calls party.old (call.Push value) (pushed result) party.new }
         ensures ticket { FullKeepsTicket look.entry result }
     {
         let call = Call::Push(value);
-        let replied = match self
+        let answer = match self
             .queue
             .answer::<Granting, R, G, AtGate>(rt, gate, party, call)
         {
-            Reply::Push(replied) => replied,
+            Reply::Push(answer) => answer,
             _ => unreachable!(),
         };
-        match replied {
-            Ok(()) => {
-                look.found();
-                Pushed::Done(OwesOne::by(Items { made: () }, Items { made: () }))
-            }
-            Err(PushError::Full(back)) => Pushed::Full(back, look.in_vain(Room { made: () })),
-            Err(PushError::Closed(back)) => {
-                look.found();
-                Pushed::Closed(back, owes_end(party))
-            }
-            Err(PushError::NoMemory(back)) => {
-                look.found();
-                Pushed::NoMemory(back)
-            }
-        }
+        self.after_push(party, answer, look)
     }
 }

@@ -2,7 +2,8 @@
 //!
 //! Nobody else makes an [`Items`] or a [`Room`]. So no end sleeps that did not look with a ticket in hand, nobody is notified before the call that wakes, and no such call forgets it. What is
 //! owed names the queue's own waiters, so no other is woken in their place.
-ghost use Rattle.std.specs.Prelude.{◌≡◌, Some, IfSome, MatchResult};
+ghost use Rattle.std.specs.Prelude.{◌≡◌, Some, Err, IfSome, MatchResult};
+ghost use Rattle.queue_steps.specs.declared.errors.PushError.TheVariants as push;
 ghost use Rattle.std.specs.Arc.{arc_value};
 ghost use Rattle.queue_steps.specs.declared.model.Call.TheVariants as call;
 ghost use Rattle.queue_steps.specs.declared.model.Reply.TheVariants as reply;
@@ -175,7 +176,23 @@ impl<T, A: Allocator> WaitedQueue<T, A> {
         ensures called { Calls party.old (call.Push value) (pushed result) party.new }
         ensures ticket { FullKeepsTicket look.entry result }
     {
-        match self.queue.push(rt, party, value) {
+        let answer = self.queue.push(rt, party, value);
+        self.after_push(party, answer, look)
+    }
+
+    /// What a push has come to that was answered so, with this look in hand.
+    #[inline(always)]
+    pub(crate) fn after_push<'a>(
+        &'a self,
+        party: &Party<T>,
+        answer: Result<(), PushError<T>>,
+        look: Look<'a, Room>,
+    ) -> Pushed<'a, T>
+        requires closed { (back : T) → answer ≡ Err (push.Closed back) → HasSeenClosed party.now }
+        ensures answer { pushed result ≡ reply.Push answer }
+        ensures ticket { FullKeepsTicket look.entry result }
+    {
+        match answer {
             Ok(()) => {
                 look.found();
                 Pushed::Done(self.owes_item())

@@ -1,5 +1,5 @@
 use Rattle.counted_channel.proofs.QueueCalls.Closing.{push_sees}
 use Rattle.counted_channel.proofs.calls.waited.WaitedQueue.push.Goals as goal
 
-pub owes_end-requires : goal.owes_end-requires
-owes_end-requires g c = record { seen = push_sees c.args.party.now c.push.new.party c.args.value c.in-Err-Closed.back (rw c.in-Err-Closed.field-0-is at c.in-Err-Closed.ensures) }
+pub after_push-requires : goal.after_push-requires
+after_push-requires g c = record { closed = λ back is. push_sees c.args.party.now c.push-answer.new.party c.args.value back (rw is at c.push-answer.ensures) }
