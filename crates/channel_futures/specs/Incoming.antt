@@ -1,8 +1,8 @@
 -- What a contract sees of a receiver in futures.
 use Rattle.std.specs.Prelude.{◌≡◌, ℕ}
-use Rattle.std.specs.Arc.{arc_value}
+use Rattle.std.specs.{Arc.arc_value, Borrow.GName}
 use Rattle.counted_channel.specs.Channel.{End}
-use Rattle.channel_futures.specs.declared.incoming.Incoming.{Incoming}
+use Rattle.channel_futures.specs.declared.incoming.{Incoming.Incoming, Recv.Recv}
 
 module _ {T : Type 0} where
   -- the end that receives there
@@ -16,3 +16,7 @@ module _ {T : Type 0} where
   -- it is an end of the same channel, and waits on the same list
   abbrev pub SameChannel : Incoming T → Incoming T → Type 0
   SameChannel i j = (j.channel ≡ i.channel) × (j.list ≡ i.list)
+
+  -- the ghost name of the future's reference to its stream
+  abbrev pub lender_of : Recv T → GName
+  lender_of f = f.incoming.ghost_name

@@ -6,6 +6,7 @@ ghost use Rattle.futures.specs.Task.{Covers, Keeps};
 ghost use Rattle.futures.specs.Poll.{IfReady, OnPending};
 ghost use Rattle.queue_steps.specs.declared.model.Call.TheVariants as call;
 ghost use Rattle.counted_channel.specs.Channel.{IsEndOf, ChannelCall, received};
+ghost use Rattle.counted_channel.specs.Receiving.{Received};
 ghost use Rattle.counted_channel.specs.Polling.{EndWaited, HasReceived};
 
 use crate::owed::Owed;
@@ -64,7 +65,7 @@ fn poll_at<'a, T: Drop>(
 }
 
 impl<T: Drop> Incoming<T> {
-    ghost use Rattle.channel_futures.specs.Incoming.{end_of, source_of, SameChannel};
+    ghost use Rattle.channel_futures.specs.Incoming.{end_of, source_of, lender_of, SameChannel};
 
     /// Lets a receiver receive in futures.
     ///
@@ -144,7 +145,8 @@ impl<T: Drop> Incoming<T> {
 
     /// Receives one item. A future that is dropped before it is ready has received nothing.
     pub fn recv(&mut self) -> Recv<'_, T>
-        ensures { result.incoming.now ≡ self.old }
+        ensures lender { lender_of result ≡ self.entry.ghost_name }
+        ensures same { result.incoming.now ≡ self.old }
     {
         Recv { incoming: self }
     }
@@ -166,7 +168,7 @@ impl<T: Drop> Drop for Incoming<T> {
 }
 
 impl<T: Drop> Stream for Incoming<T> {
-    ghost use Rattle.channel_futures.specs.Incoming.{end_of, source_of};
+    ghost use Rattle.channel_futures.specs.Incoming.{end_of, source_of, SameChannel};
 
     type Item = T;
 
@@ -174,7 +176,13 @@ impl<T: Drop> Stream for Incoming<T> {
 
     ghost yields = { λ i. HasReceived (end_of i) };
 
-    fn poll_next(&mut self, cx: &mut Context<'_>) -> Poll<Option<T>> {
+    fn poll_next(&mut self, cx: &mut Context<'_>) -> Poll<Option<T>>
+        ensures same { SameChannel self.old self.new }
+        ensures received { IfReady result (λ item. Received (end_of self.old) item (end_of self.new)) }
+        ensures waited { OnPending result (EndWaited (end_of self.old) (end_of self.new)) }
+        ensures registered { OnPending result (Covers cx.new (λ s. s ≡ source_of self.new)) }
+        ensures kept { Keeps cx.old cx.new }
+    {
         match self.poll_recv(cx) {
             Poll::Ready(answer) => Poll::Ready(answer.ok()),
             Poll::Pending => Poll::Pending,
@@ -182,21 +190,26 @@ impl<T: Drop> Stream for Incoming<T> {
     }
 }
 
-/// The future of [`Incoming::recv`].
+/// The future of [`Incoming::recv`]. Whoever polls it by hand knows what its end becomes; an executor knows what the future gives.
 pub struct Recv<'s, T: Drop> {
     incoming: &'s mut Incoming<T>,
 }
 
 impl<T: Drop> Drop for Recv<'_, T> {
-    /// It waits no more.
-    fn drop(self) {
+    ghost use Rattle.channel_futures.specs.Incoming.{end_of, SameChannel};
+
+    /// It waits no more. Its end stays as the polls have left it.
+    fn drop(self)
+        ensures end { end_of self.exit.0.now ≡ end_of self.entry.incoming.now }
+        ensures same { SameChannel self.entry.incoming.now self.exit.0.now }
+    {
         let Recv { incoming } = self;
         incoming.rest();
     }
 }
 
 impl<T: Drop> Future for Recv<'_, T> {
-    ghost use Rattle.channel_futures.specs.Incoming.{end_of, source_of};
+    ghost use Rattle.channel_futures.specs.Incoming.{end_of, source_of, lender_of, SameChannel};
 
     type Output = Result<T, Disconnected>;
 
@@ -204,7 +217,14 @@ impl<T: Drop> Future for Recv<'_, T> {
 
     ghost gives = { λ f answer. HasReceived (end_of f.incoming.now) [] (result_ok answer) };
 
-    fn poll(&mut self, cx: &mut Context<'_>) -> Poll<Result<T, Disconnected>> {
+    fn poll(&mut self, cx: &mut Context<'_>) -> Poll<Result<T, Disconnected>>
+        ensures lender { lender_of self.new ≡ lender_of self.old }
+        ensures same { SameChannel self.old.incoming.now self.new.incoming.now }
+        ensures received { IfReady result (λ answer. ChannelCall (end_of self.old.incoming.now) call.Pop (received answer) (end_of self.new.incoming.now)) }
+        ensures waited { OnPending result (EndWaited (end_of self.old.incoming.now) (end_of self.new.incoming.now)) }
+        ensures registered { OnPending result (Covers cx.new (λ s. s ≡ source_of self.new.incoming.now)) }
+        ensures kept { Keeps cx.old cx.new }
+    {
         self.incoming.poll_recv(cx)
     }
 }

@@ -1,8 +1,9 @@
 //! Senders in futures.
-ghost use Rattle.std.specs.Prelude.{◌≡◌, None, Some, IsSome, IsSomeAnd, MatchResult};
+ghost use Rattle.std.specs.Prelude.{◌≡◌, None, Some, Ok, IsSome, IsSomeAnd, MatchResult};
 ghost use Rattle.std.specs.Arc.{arc_value};
 ghost use Rattle.futures.specs.Task.{Covers, Keeps};
 ghost use Rattle.futures.specs.Poll.{IfReady, OnPending};
+ghost use Rattle.futures.specs.Sent.{UnlessFailed};
 ghost use Rattle.queue_steps.specs.declared.model.Call.TheVariants as call;
 ghost use Rattle.counted_channel.specs.Channel.{End, IsEndOf, ChannelCall, sent};
 ghost use Rattle.counted_channel.specs.Polling.{EndWaited};
@@ -10,7 +11,7 @@ ghost use Rattle.counted_channel.specs.Polling.{EndWaited};
 use crate::owed::Owed;
 use channel_handle::{Handle, SendError, Sender};
 use counted_channel::calls::Room;
-use counted_channel::{Channel, PolledSend};
+use counted_channel::{Channel, ChannelEnd, PolledSend};
 use futures::task::{Context, Poll};
 use futures::{Future, Sink};
 use std::mem;
@@ -76,7 +77,7 @@ fn poll_at<'a, T: Drop>(
 }
 
 impl<T: Drop> Outgoing<T> {
-    ghost use Rattle.channel_futures.specs.Outgoing.{end_of, source_of, SameChannel, HeldSent};
+    ghost use Rattle.channel_futures.specs.Outgoing.{end_of, source_of, lender_of, SameChannel, HeldSent, HasTaken};
 
     /// Lets a sender send in futures.
     ///
@@ -141,9 +142,11 @@ impl<T: Drop> Outgoing<T> {
         ensures same { SameChannel self.old self.new }
         ensures answered { IfReady result (λ answer. HeldSent (end_of self.old) self.old.held answer (end_of self.new) × (self.new.held ≡ None)) }
         ensures waited { OnPending result (EndWaited (end_of self.old) (end_of self.new) × (self.new.held ≡ self.old.held)) }
+        ensures taken { UnlessFailed result ((xs : _) → HasTaken self.old xs → HasTaken self.new xs) }
         ensures registered { OnPending result (Covers cx.new (λ s. s ≡ source_of self.new)) }
         ensures kept { Keeps cx.old cx.new }
     {
+        self.owed.end.shows_view();
         let Some(value) = self.held.take() else {
             return Poll::Ready(Ok(()));
         };
@@ -165,7 +168,8 @@ impl<T: Drop> Outgoing<T> {
     /// Sends one item. A future that is dropped before it is ready has sent nothing, and drops the item.
     pub fn send_one(&mut self, value: T) -> SendOne<'_, T>
         requires { self.old.held ≡ None }
-        ensures { (result.outgoing.now ≡ self.old) × (result.value ≡ Some value) }
+        ensures lender { lender_of result ≡ self.entry.ghost_name }
+        ensures same { (result.outgoing.now ≡ self.old) × (result.value ≡ Some value) }
     {
         SendOne {
             outgoing: self,
@@ -191,50 +195,85 @@ impl<T: Drop> Drop for Outgoing<T> {
 }
 
 impl<T: Drop> Sink<T> for Outgoing<T> {
-    ghost use Rattle.channel_futures.specs.Outgoing.{source_of};
+    ghost use Rattle.channel_futures.specs.Outgoing.{end_of, source_of, SameChannel, HeldSent, HasTaken};
 
     type Error = SendError<T>;
 
     ghost can_send = { λ o. o.held ≡ None };
 
+    ghost took = { HasTaken };
+
     ghost is_flushed = { λ o. o.held ≡ None };
+
+    ghost is_closed = { λ o. o.held ≡ None };
 
     ghost needs = { λ o s. s ≡ source_of o };
 
-    fn poll_ready(&mut self, cx: &mut Context<'_>) -> Poll<Result<(), SendError<T>>> {
+    fn poll_ready(&mut self, cx: &mut Context<'_>) -> Poll<Result<(), SendError<T>>>
+        ensures same { SameChannel self.old self.new }
+        ensures answered { IfReady result (λ answer. HeldSent (end_of self.old) self.old.held answer (end_of self.new) × (self.new.held ≡ None)) }
+        ensures waited { OnPending result (EndWaited (end_of self.old) (end_of self.new) × (self.new.held ≡ self.old.held)) }
+        ensures taken { UnlessFailed result ((xs : _) → HasTaken self.old xs → HasTaken self.new xs) }
+        ensures registered { OnPending result (Covers cx.new (λ s. s ≡ source_of self.new)) }
+        ensures kept { Keeps cx.old cx.new }
+    {
         self.poll_held(cx)
     }
 
-    fn start_send(&mut self, item: T) -> Result<(), SendError<T>> {
+    fn start_send(&mut self, item: T) -> Result<(), SendError<T>>
+        requires { self.old.held ≡ None }
+        ensures same { (end_of self.new ≡ end_of self.old) × SameChannel self.old self.new }
+        ensures held { (result ≡ Ok tt) × (self.new.held ≡ Some item) }
+    {
         self.held = Some(item);
         Ok(())
     }
 
-    fn poll_flush(&mut self, cx: &mut Context<'_>) -> Poll<Result<(), SendError<T>>> {
+    fn poll_flush(&mut self, cx: &mut Context<'_>) -> Poll<Result<(), SendError<T>>>
+        ensures same { SameChannel self.old self.new }
+        ensures answered { IfReady result (λ answer. HeldSent (end_of self.old) self.old.held answer (end_of self.new) × (self.new.held ≡ None)) }
+        ensures waited { OnPending result (EndWaited (end_of self.old) (end_of self.new) × (self.new.held ≡ self.old.held)) }
+        ensures taken { UnlessFailed result ((xs : _) → HasTaken self.old xs → HasTaken self.new xs) }
+        ensures registered { OnPending result (Covers cx.new (λ s. s ≡ source_of self.new)) }
+        ensures kept { Keeps cx.old cx.new }
+    {
         self.poll_held(cx)
     }
 
-    fn poll_close(&mut self, cx: &mut Context<'_>) -> Poll<Result<(), SendError<T>>> {
-        self.poll_held(cx)
+    /// Sends what it holds. The sender is ended where the sink is dropped.
+    fn poll_close(&mut self, cx: &mut Context<'_>) -> Poll<Result<(), SendError<T>>>
+        ensures same { SameChannel self.old self.new }
+        ensures answered { IfReady result (λ answer. HeldSent (end_of self.old) self.old.held answer (end_of self.new) × (self.new.held ≡ None)) }
+        ensures waited { OnPending result (EndWaited (end_of self.old) (end_of self.new) × (self.new.held ≡ self.old.held)) }
+        ensures taken { UnlessFailed result ((xs : _) → HasTaken self.old xs → HasTaken self.new xs) }
+        ensures registered { OnPending result (Covers cx.new (λ s. s ≡ source_of self.new)) }
+        ensures kept { Keeps cx.old cx.new }
+    {
+        self.poll_flush(cx)
     }
 }
 
-/// The future of [`Outgoing::send_one`].
+/// The future of [`Outgoing::send_one`]. Whoever polls it by hand knows what its end becomes; an executor knows what the future gives.
 pub struct SendOne<'s, T: Drop> {
     outgoing: &'s mut Outgoing<T>,
     value: Option<T>,
 }
 
 impl<T: Drop> Drop for SendOne<'_, T> {
-    /// It waits no more.
-    fn drop(self) {
+    ghost use Rattle.channel_futures.specs.Outgoing.{end_of, SameChannel};
+
+    /// It waits no more, and drops the item that it has not sent. Its end stays as the polls have left it.
+    fn drop(self)
+        ensures end { (end_of self.exit.0.now ≡ end_of self.entry.outgoing.now) × (self.exit.0.now.held ≡ self.entry.outgoing.now.held) }
+        ensures same { SameChannel self.entry.outgoing.now self.exit.0.now }
+    {
         let SendOne { outgoing, value: _ } = self;
         outgoing.rest();
     }
 }
 
 impl<T: Drop> Future for SendOne<'_, T> {
-    ghost use Rattle.channel_futures.specs.Outgoing.{end_of, source_of};
+    ghost use Rattle.channel_futures.specs.Outgoing.{end_of, source_of, lender_of, SameChannel};
 
     type Output = Result<(), SendError<T>>;
 
@@ -244,7 +283,15 @@ impl<T: Drop> Future for SendOne<'_, T> {
 
     ghost gives = { λ f answer. IsSomeAnd f.value (λ x. (e : End T) × ChannelCall (end_of f.outgoing.now) (call.Push x) (sent answer) e) };
 
-    fn poll(&mut self, cx: &mut Context<'_>) -> Poll<Result<(), SendError<T>>> {
+    fn poll(&mut self, cx: &mut Context<'_>) -> Poll<Result<(), SendError<T>>>
+        requires { IsSome self.old.value }
+        ensures lender { lender_of self.new ≡ lender_of self.old }
+        ensures same { SameChannel self.old.outgoing.now self.new.outgoing.now × (self.new.outgoing.now.held ≡ self.old.outgoing.now.held) }
+        ensures sent { IfReady result (λ answer. IsSomeAnd self.old.value (λ value. ChannelCall (end_of self.old.outgoing.now) (call.Push value) (sent answer) (end_of self.new.outgoing.now)) × (self.new.value ≡ None)) }
+        ensures waited { OnPending result (EndWaited (end_of self.old.outgoing.now) (end_of self.new.outgoing.now) × (self.new.value ≡ self.old.value)) }
+        ensures registered { OnPending result (Covers cx.new (λ s. s ≡ source_of self.new.outgoing.now)) }
+        ensures kept { Keeps cx.old cx.new }
+    {
         let Some(value) = self.value.take() else {
             unreachable!()
         };

@@ -2,7 +2,8 @@
 use crate::asserts::is_in;
 use crate::host::Host;
 use crate::opening::{CAPACITIES, opened, outgoing};
-use crate::stories::{Waiter, full, task};
+use crate::polling::task;
+use crate::stories::{Waiter, filled};
 use channel_futures::{Disconnected, Receiver, SendError, Sender};
 use futures::task::Poll;
 use std::thread::join;
@@ -106,7 +107,7 @@ fn what_receivers_wait_for_wakes_a_thread_and_a_future(rt: HostRuntime) {
 
 /// The same of a thread that sends to a full channel, where a receiver acts.
 fn sent<R: Host + Sync>(rt: &R, cap: usize, act: Act) -> (Result<(), SendError<u64>>, bool, bool) {
-    let (mut sender, receiver) = full(rt, cap);
+    let (mut sender, receiver) = filled(rt, cap);
     let mut sink = outgoing(rt, sender.split().expect(rt, "a second sender"));
     let waits = task(rt);
     let mut send_one = sink.send_one(9);

@@ -3,7 +3,7 @@ ghost use Rattle.counted_channel.specs.Channel.{IsEndOf};
 
 use crate::asserts::is_in;
 use crate::host::Host;
-use crate::stories::task;
+use crate::polling::task;
 use call_driver::gate::Gate;
 use channel_futures::{Incoming, unbounded};
 use channel_handle::{Handle, Receiver, Sender};

@@ -6,6 +6,8 @@ mod asserts;
 #[cfg(test)]
 mod beside;
 #[cfg(test)]
+mod gone;
+#[cfg(test)]
 mod held;
 #[cfg(test)]
 mod host;
@@ -14,7 +16,11 @@ mod kit;
 #[cfg(test)]
 mod opening;
 #[cfg(test)]
+mod polling;
+#[cfg(test)]
 mod pools;
+#[cfg(test)]
+mod sinks;
 #[cfg(test)]
 mod stories;
 #[cfg(test)]

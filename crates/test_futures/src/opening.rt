@@ -9,10 +9,10 @@ use std::process::Abort;
 pub(crate) static CAPACITIES: [Option<usize>; 3] = [Some(1), Some(2), None];
 
 /// The ends of a new channel of this capacity, or without one. Asserts that there is memory.
-pub(crate) fn opened<R: AllocGlobal + Abort>(
+pub(crate) fn opened<T: Drop, R: AllocGlobal + Abort>(
     rt: &R,
     cap: Option<usize>,
-) -> (Sender<u64>, Receiver<u64>) {
+) -> (Sender<T>, Receiver<T>) {
     let ends = match cap {
         Some(0) => panic!(rt; "a capacity of 0"),
         Some(slots) => bounded(rt.alloc(), slots),
@@ -22,7 +22,7 @@ pub(crate) fn opened<R: AllocGlobal + Abort>(
 }
 
 /// Asserts that the receiver may receive in futures.
-pub(crate) fn incoming(rt: &impl Abort, receiver: Receiver<u64>) -> Incoming<u64> {
+pub(crate) fn incoming<T: Drop>(rt: &impl Abort, receiver: Receiver<T>) -> Incoming<T> {
     match Incoming::of(receiver) {
         Ok(incoming) => incoming,
         Err(_) => panic!(rt; "no receiver in futures"),
@@ -30,7 +30,7 @@ pub(crate) fn incoming(rt: &impl Abort, receiver: Receiver<u64>) -> Incoming<u64
 }
 
 /// Asserts that the sender may send in futures.
-pub(crate) fn outgoing(rt: &impl Abort, sender: Sender<u64>) -> Outgoing<u64>
+pub(crate) fn outgoing<T: Drop>(rt: &impl Abort, sender: Sender<T>) -> Outgoing<T>
     ensures { result.held ≡ None }
 {
     match Outgoing::of(sender) {

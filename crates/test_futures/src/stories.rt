@@ -1,7 +1,10 @@
 //! Futures that are polled by hand: what wakes them, and what becomes of one that is dropped.
+ghost use Rattle.std.specs.Prelude.{◌≡◌, None};
+
 use crate::asserts::is_in;
 use crate::opening::{CAPACITIES, incoming, opened, outgoing};
-use channel_futures::{Disconnected, Incoming, Receiver, SendError, Sender};
+use crate::polling::{given, task};
+use channel_futures::{Disconnected, Incoming, Outgoing, Receiver, SendError, Sender};
 use futures::Future;
 use futures::task::Poll;
 use futures::test::MockTask;
@@ -47,19 +50,6 @@ impl Waiter {
     }
 }
 
-/// A task of its own.
-pub(crate) fn task<R: Abort + RandomSource + AllocGlobal>(rt: &R) -> MockTask {
-    MockTask::new(rt).expect(rt, "memory")
-}
-
-/// What a poll gave, if it gave anything.
-fn given<T>(polled: Poll<T>) -> Option<T> {
-    match polled {
-        Poll::Ready(value) => Some(value),
-        Poll::Pending => None,
-    }
-}
-
 /// A new channel whose one receiver waits.
 fn one_waits<R: Abort + RandomSource + AllocGlobal>(
     rt: &R,
@@ -81,7 +71,7 @@ fn two_wait<R: Abort + RandomSource + AllocGlobal>(
 }
 
 /// A new channel that is full of 0, 1, 2 and so on.
-pub(crate) fn full<R: AllocGlobal + Wait + Abort>(
+pub(crate) fn filled<R: AllocGlobal + Wait + Abort>(
     rt: &R,
     cap: usize,
 ) -> (Sender<u64>, Receiver<u64>) {
@@ -90,6 +80,26 @@ pub(crate) fn full<R: AllocGlobal + Wait + Abort>(
         is_in(rt, cap, sender.send(rt, item), Ok(()));
     }
     (sender, receiver)
+}
+
+/// One whose sender sends in futures.
+fn full<R: AllocGlobal + Wait + Abort>(rt: &R, cap: usize) -> (Outgoing<u64>, Receiver<u64>)
+    ensures { result.0.held ≡ None }
+{
+    let (sender, receiver) = filled(rt, cap);
+    (outgoing(rt, sender), receiver)
+}
+
+/// One with two such senders.
+fn full_of_two<R: AllocGlobal + Wait + Abort>(
+    rt: &R,
+    cap: usize,
+) -> (Outgoing<u64>, Outgoing<u64>, Receiver<u64>)
+    ensures { (result.0.held ≡ None) × (result.1.held ≡ None) }
+{
+    let (mut sender, receiver) = filled(rt, cap);
+    let other = sender.split().expect(rt, "a second sender");
+    (outgoing(rt, sender), outgoing(rt, other), receiver)
 }
 
 #[test]
@@ -115,8 +125,7 @@ fn the_last_sender_wakes_a_receiver(rt: HostRuntime) {
 #[test]
 fn room_wakes_a_sender(rt: HostRuntime) {
     for cap in [1, 2] {
-        let (sender, mut receiver) = full(&rt, cap);
-        let mut sink = outgoing(&rt, sender);
+        let (mut sink, mut receiver) = full(&rt, cap);
         let waits = task(&rt);
         let mut send = sink.send_one(9);
         let Poll::Pending = waits.poll(&mut send) else {
@@ -131,7 +140,7 @@ fn room_wakes_a_sender(rt: HostRuntime) {
 
 #[test]
 fn room_for_thousands(rt: HostRuntime) {
-    let (mut sender, mut receiver) = full(&rt, 5_000);
+    let (mut sender, mut receiver) = filled(&rt, 5_000);
     is_in(
         &rt,
         "full",
@@ -144,8 +153,7 @@ fn room_for_thousands(rt: HostRuntime) {
 #[test]
 fn the_last_receiver_wakes_a_sender(rt: HostRuntime) {
     for cap in [1, 2] {
-        let (sender, receiver) = full(&rt, cap);
-        let mut sink = outgoing(&rt, sender);
+        let (mut sink, receiver) = full(&rt, cap);
         let waits = task(&rt);
         let mut send = sink.send_one(9);
         let Poll::Pending = waits.poll(&mut send) else {
@@ -185,6 +193,42 @@ fn a_future_that_is_dropped_on_the_list_wakes_nobody(rt: HostRuntime) {
         is_in(&rt, cap, sender.send(&rt, 6), Ok(()));
         is_in(&rt, cap, second.is_woken(), true);
         is_in(&rt, cap, second.poll(), Some(Ok(6)));
+    }
+}
+
+/// Its item is not sent.
+#[test]
+fn a_woken_send_that_is_dropped_wakes_the_next(rt: HostRuntime) {
+    for cap in [1, 2] {
+        let (mut first, mut second, mut receiver) = full_of_two(&rt, cap);
+        let (one, two) = (task(&rt), task(&rt));
+        let mut send = first.send_one(8);
+        let mut next = second.send_one(9);
+        is_in(&rt, cap, given(one.poll(&mut send)), None);
+        let Poll::Pending = two.poll(&mut next) else {
+            panic!(&rt; "no room, and sent")
+        };
+        is_in(&rt, cap, receiver.recv(&rt), Ok(0));
+        is_in(&rt, cap, (one.is_woken(), two.is_woken()), (true, false));
+        drop(send);
+        is_in(&rt, cap, two.is_woken(), true);
+        is_in(&rt, cap, given(two.poll(&mut next)), Some(Ok(())));
+    }
+}
+
+#[test]
+fn a_send_that_is_dropped_on_the_list_leaves_it(rt: HostRuntime) {
+    for cap in [1, 2] {
+        let (mut first, mut second, mut receiver) = full_of_two(&rt, cap);
+        let (one, two) = (task(&rt), task(&rt));
+        let mut send = first.send_one(8);
+        let mut next = second.send_one(9);
+        is_in(&rt, cap, given(one.poll(&mut send)), None);
+        is_in(&rt, cap, given(two.poll(&mut next)), None);
+        drop(send);
+        is_in(&rt, cap, two.is_woken(), false);
+        is_in(&rt, cap, receiver.recv(&rt), Ok(0));
+        is_in(&rt, cap, two.is_woken(), true);
     }
 }
 
