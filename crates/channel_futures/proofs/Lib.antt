@@ -1,1 +1,2 @@
 mod Polled
+mod Sent

@@ -143,7 +143,7 @@ impl<T: Drop> Incoming<T> {
         Place::at(list, spot).leave();
     }
 
-    /// Receives one item. A future that is dropped before it is ready has received nothing.
+    /// Receives one item. An item that a dropped future's pop has taken, which is not written yet, stays here, and is received next.
     pub fn recv(&mut self) -> Recv<'_, T>
         ensures lender { lender_of result ≡ self.entry.ghost_name }
         ensures same { result.incoming.now ≡ self.old }

@@ -89,10 +89,7 @@ fn lists_of<T: Drop>(rt: &impl Abort, receiver: Receiver<T>) -> (Receiver<T>, Li
     let (channel, end) = receiver.into_parts();
     let items = channel.list_of_receivers().expect(rt, "a list");
     let room = channel.list_of_senders().expect(rt, "a list");
-    (
-        Receiver::from_parts(channel, end),
-        Lists { items, room },
-    )
+    (Receiver::from_parts(channel, end), Lists { items, room })
 }
 
 /// A sink that was polled with an item in hand.
@@ -213,7 +210,13 @@ fn nothing_is_left_where_all_ends_are_gone(rt: HostRuntime) {
             for sender in FORMS {
                 for receiver in FORMS {
                     for order in 0..ORDERS {
-                        let case = Case { cap, filling, sender, receiver, order };
+                        let case = Case {
+                            cap,
+                            filling,
+                            sender,
+                            receiver,
+                            order,
+                        };
                         run(&rt, case, &task);
                     }
                 }
@@ -230,7 +233,12 @@ fn ends_that_were_in_futures_finish_the_channel(rt: HostRuntime) {
         let (sender, receiver) = opened(&rt, cap);
         let (receiver, lists) = lists_of(&rt, receiver);
         let (mut sender, _) = outgoing(&rt, sender).into_sender();
-        is_in(&rt, cap, sender.send(&rt, Counted::of(&items)).is_ok(), true);
+        is_in(
+            &rt,
+            cap,
+            sender.send(&rt, Counted::of(&items)).is_ok(),
+            true,
+        );
         let Ok(receiver) = incoming(&rt, receiver).into_receiver() else {
             panic!(&rt; "no receiver")
         };
