@@ -1,4 +1,6 @@
 //! Nothing is kept of a channel all of whose ends are gone: neither its items nor its lists.
+ghost use Rattle.std.specs.Prelude.{◌≡◌};
+
 use crate::asserts::is_in;
 use crate::opening::{CAPACITIES, incoming, opened, outgoing};
 use crate::polling::task;
@@ -85,7 +87,9 @@ impl Lists {
 }
 
 /// The lists of a receiver's channel. Asserts that it has some.
-fn lists_of<T: Drop>(rt: &impl Abort, receiver: Receiver<T>) -> (Receiver<T>, Lists) {
+fn lists_of<T: Drop>(rt: &impl Abort, receiver: Receiver<T>) -> (Receiver<T>, Lists)
+    ensures { result.0 ≡ receiver }
+{
     let (channel, end) = receiver.into_parts();
     let items = channel.list_of_receivers().expect(rt, "a list");
     let room = channel.list_of_senders().expect(rt, "a list");
@@ -225,28 +229,31 @@ fn nothing_is_left_where_all_ends_are_gone(rt: HostRuntime) {
     }
 }
 
-/// The queue of a channel is had of ends that were in futures, and its lists are gone.
+/// Finishes a channel whose ends are turned into futures and back. Gives how many items are left.
+fn finished<T: Drop>(rt: &impl Abort, sender: Sender<T>, receiver: Receiver<T>) -> usize
+    requires { receiver.party.queue ≡ sender.party.queue }
+{
+    let (sender, _) = outgoing(rt, sender).into_sender();
+    let Ok(receiver) = incoming(rt, receiver).into_receiver() else {
+        panic!(rt; "no receiver")
+    };
+    let (sent, _) = sender.end();
+    let (came, _) = receiver.end();
+    match sent.join(came).finish() {
+        Ok(queue) => queue.len(),
+        Err(_) => panic!(rt; "no queue"),
+    }
+}
+
 #[test]
 fn ends_that_were_in_futures_finish_the_channel(rt: HostRuntime) {
     for cap in CAPACITIES {
         let items = Items::none();
-        let (sender, receiver) = opened(&rt, cap);
+        let (mut sender, receiver) = opened(&rt, cap);
         let (receiver, lists) = lists_of(&rt, receiver);
-        let (mut sender, _) = outgoing(&rt, sender).into_sender();
-        is_in(
-            &rt,
-            cap,
-            sender.send(&rt, Counted::of(&items)).is_ok(),
-            true,
-        );
-        let Ok(receiver) = incoming(&rt, receiver).into_receiver() else {
-            panic!(&rt; "no receiver")
-        };
-        let ended = sender.end().0.join(receiver.end().0);
-        match ended.finish() {
-            Ok(queue) => is_in(&rt, cap, queue.len(), 1),
-            Err(_) => panic!(&rt; "no queue"),
-        }
+        let sent = sender.send(&rt, Counted::of(&items));
+        is_in(&rt, cap, sent.is_ok(), true);
+        is_in(&rt, cap, finished(&rt, sender, receiver), 1);
         is_in(&rt, cap, items.dropped(), items.made());
         is_in(&rt, cap, lists.are_alone(), true);
     }

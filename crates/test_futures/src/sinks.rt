@@ -61,8 +61,8 @@ fn a_closed_sink_leaves_the_channel_open(rt: HostRuntime) {
         drop(send);
         is_in(&rt, cap, receiver.recv(&rt), Ok(7));
         drop(sink);
-        let mut send = other.send_one(8);
-        is_in(&rt, cap, given(task(&rt).poll(&mut send)), Some(Ok(())));
+        let (mut sender, _) = other.into_sender();
+        is_in(&rt, cap, sender.send(&rt, 8), Ok(()));
         is_in(&rt, cap, receiver.recv(&rt), Ok(8));
     }
 }
