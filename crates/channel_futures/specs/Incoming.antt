@@ -1,5 +1,5 @@
 -- What a contract sees of a receiver in futures.
-use Rattle.std.specs.Prelude.{◌≡◌, ℕ}
+use Rattle.std.specs.Prelude.{◌≡◌, ℕ, Bool}
 use Rattle.std.specs.{Arc.arc_value, Borrow.GName}
 use Rattle.counted_channel.specs.Channel.{End}
 use Rattle.channel_futures.specs.declared.incoming.{Incoming.Incoming, Recv.Recv}
@@ -8,6 +8,10 @@ module _ {T : Type 0} where
   -- the end that receives there
   abbrev pub end_of : Incoming T → End T
   end_of i = i.owed.end.end
+
+  -- it is in a pop that has taken an item which is not written yet
+  abbrev pub in_pop_of : Incoming T → Bool
+  in_pop_of i = i.owed.end.in_pop
 
   -- the source that it waits for
   abbrev pub source_of : Incoming T → ℕ

@@ -1,5 +1,5 @@
 //! Receivers in futures.
-ghost use Rattle.std.specs.Prelude.{◌≡◌, [], MatchResult};
+ghost use Rattle.std.specs.Prelude.{◌≡◌, [], Some, true, false, MatchResult};
 ghost use Rattle.std.specs.Arc.{arc_value};
 ghost use Rattle.std.specs.Result.{result_ok};
 ghost use Rattle.futures.specs.Task.{Covers, Keeps};
@@ -27,7 +27,8 @@ pub struct Incoming<T: Drop> {
     list: Arc<WakerList<Items>>,
     owed: Owed<PollingReceiver<T>>,
     spot: Spot<Items>,
-    ghost of: { IsEndOf owed.end (arc_value channel) },
+    ghost of: { IsEndOf owed.end.end (arc_value channel) },
+    ghost listed: { (arc_value channel).receivers ≡ Some (arc_value list).source.id },
     ghost at: { spot.source.value.id ≡ (arc_value list).source.id },
 }
 
@@ -38,11 +39,12 @@ fn poll_at<'a, T: Drop>(
     place: Place<'a, Items>,
     cx: &mut Context<'_>,
 ) -> (Place<'a, Items>, Poll<Result<T, Disconnected>>)
-    requires { IsEndOf receiver.old channel.now }
+    requires { IsEndOf receiver.old.end channel.now }
     ensures list { result.0.list.now ≡ place.entry.list.now }
-    ensures of { IsEndOf receiver.new channel.now }
-    ensures received { IfReady result.1 (λ answer. ChannelCall receiver.old call.Pop (received answer) receiver.new) }
-    ensures waited { OnPending result.1 (EndWaited receiver.old receiver.new) }
+    ensures of { IsEndOf receiver.new.end channel.now }
+    ensures received { IfReady result.1 (λ answer. ChannelCall receiver.old.end call.Pop (received answer) receiver.new.end) }
+    ensures at_rest { IfReady result.1 (λ _. receiver.new.in_pop ≡ false) }
+    ensures waited { OnPending result.1 (EndWaited receiver.old.end receiver.new.end) }
     ensures registered { OnPending result.1 (Covers cx.new (λ s. s ≡ place.entry.list.now.source.id)) }
     ensures kept { Keeps cx.old cx.new }
 {
@@ -65,7 +67,7 @@ fn poll_at<'a, T: Drop>(
 }
 
 impl<T: Drop> Incoming<T> {
-    ghost use Rattle.channel_futures.specs.Incoming.{end_of, source_of, lender_of, SameChannel};
+    ghost use Rattle.channel_futures.specs.Incoming.{end_of, in_pop_of, source_of, lender_of, SameChannel};
 
     /// Lets a receiver receive in futures.
     ///
@@ -73,7 +75,7 @@ impl<T: Drop> Incoming<T> {
     ///
     /// The receiver, where its channel was not opened for ends in futures.
     pub fn of(receiver: Receiver<T>) -> Result<Incoming<T>, Receiver<T>>
-        ensures { MatchResult result (λ i. end_of i ≡ receiver) (λ r. r ≡ receiver) }
+        ensures { MatchResult result (λ i. (end_of i ≡ receiver) × (in_pop_of i ≡ false)) (λ r. r ≡ receiver) }
     {
         let (channel, end) = receiver.into_parts();
         match channel.list_of_receivers() {
@@ -89,13 +91,13 @@ impl<T: Drop> Incoming<T> {
         }
     }
 
-    /// The receiver. On a channel with a capacity, and after an answer, there is always one.
+    /// The receiver. After an answer there is always one; on a channel with a capacity too, which is tested.
     ///
     /// # Errors
     ///
-    /// The stream, whose pop has taken an item that is not written yet.
+    /// The stream, where its pop has taken an item that is not written yet.
     pub fn into_receiver(self) -> Result<Receiver<T>, Incoming<T>>
-        ensures { MatchResult result (λ r. r ≡ end_of self) (λ i. i ≡ self) }
+        ensures { MatchResult result (λ r. (r ≡ end_of self) × (in_pop_of self ≡ false)) (λ i. (i ≡ self) × (in_pop_of self ≡ true)) }
     {
         let Incoming {
             channel,
@@ -122,6 +124,7 @@ impl<T: Drop> Incoming<T> {
     pub fn poll_recv(&mut self, cx: &mut Context<'_>) -> Poll<Result<T, Disconnected>>
         ensures same { SameChannel self.old self.new }
         ensures received { IfReady result (λ answer. ChannelCall (end_of self.old) call.Pop (received answer) (end_of self.new)) }
+        ensures at_rest { IfReady result (λ _. in_pop_of self.new ≡ false) }
         ensures waited { OnPending result (EndWaited (end_of self.old) (end_of self.new)) }
         ensures registered { OnPending result (Covers cx.new (λ s. s ≡ source_of self.new)) }
         ensures kept { Keeps cx.old cx.new }
@@ -136,7 +139,7 @@ impl<T: Drop> Incoming<T> {
 
     /// Waits no more. A wake that has come goes on to the next.
     pub fn rest(&mut self)
-        ensures { (end_of self.new ≡ end_of self.old) × SameChannel self.old self.new }
+        ensures { (end_of self.new ≡ end_of self.old) × (in_pop_of self.new ≡ in_pop_of self.old) × SameChannel self.old self.new }
     {
         let list = &*self.list;
         let spot = mem::replace(&mut self.spot, Spot::new(list));
@@ -163,12 +166,12 @@ impl<T: Drop> Drop for Incoming<T> {
         } = self;
         Place::at(&list, spot).leave();
         let Owed { end } = owed;
-        channel.end_polling(end);
+        let _ = channel.end_polling(end);
     }
 }
 
 impl<T: Drop> Stream for Incoming<T> {
-    ghost use Rattle.channel_futures.specs.Incoming.{end_of, source_of, SameChannel};
+    ghost use Rattle.channel_futures.specs.Incoming.{end_of, in_pop_of, source_of, SameChannel};
 
     type Item = T;
 
@@ -179,6 +182,7 @@ impl<T: Drop> Stream for Incoming<T> {
     fn poll_next(&mut self, cx: &mut Context<'_>) -> Poll<Option<T>>
         ensures same { SameChannel self.old self.new }
         ensures received { IfReady result (λ item. Received (end_of self.old) item (end_of self.new)) }
+        ensures at_rest { IfReady result (λ _. in_pop_of self.new ≡ false) }
         ensures waited { OnPending result (EndWaited (end_of self.old) (end_of self.new)) }
         ensures registered { OnPending result (Covers cx.new (λ s. s ≡ source_of self.new)) }
         ensures kept { Keeps cx.old cx.new }
@@ -196,11 +200,11 @@ pub struct Recv<'s, T: Drop> {
 }
 
 impl<T: Drop> Drop for Recv<'_, T> {
-    ghost use Rattle.channel_futures.specs.Incoming.{end_of, SameChannel};
+    ghost use Rattle.channel_futures.specs.Incoming.{end_of, in_pop_of, SameChannel};
 
     /// It waits no more. Its end stays as the polls have left it.
     fn drop(self)
-        ensures end { end_of self.exit.0.now ≡ end_of self.entry.incoming.now }
+        ensures end { (end_of self.exit.0.now ≡ end_of self.entry.incoming.now) × (in_pop_of self.exit.0.now ≡ in_pop_of self.entry.incoming.now) }
         ensures same { SameChannel self.entry.incoming.now self.exit.0.now }
     {
         let Recv { incoming } = self;
@@ -209,7 +213,7 @@ impl<T: Drop> Drop for Recv<'_, T> {
 }
 
 impl<T: Drop> Future for Recv<'_, T> {
-    ghost use Rattle.channel_futures.specs.Incoming.{end_of, source_of, lender_of, SameChannel};
+    ghost use Rattle.channel_futures.specs.Incoming.{end_of, in_pop_of, source_of, lender_of, SameChannel};
 
     type Output = Result<T, Disconnected>;
 
@@ -221,6 +225,7 @@ impl<T: Drop> Future for Recv<'_, T> {
         ensures lender { lender_of self.new ≡ lender_of self.old }
         ensures same { SameChannel self.old.incoming.now self.new.incoming.now }
         ensures received { IfReady result (λ answer. ChannelCall (end_of self.old.incoming.now) call.Pop (received answer) (end_of self.new.incoming.now)) }
+        ensures at_rest { IfReady result (λ _. in_pop_of self.new.incoming.now ≡ false) }
         ensures waited { OnPending result (EndWaited (end_of self.old.incoming.now) (end_of self.new.incoming.now)) }
         ensures registered { OnPending result (Covers cx.new (λ s. s ≡ source_of self.new.incoming.now)) }
         ensures kept { Keeps cx.old cx.new }

@@ -28,6 +28,7 @@ pub struct Outgoing<T: Drop> {
     held: Option<T>,
     spot: Spot<Room>,
     ghost of: { IsEndOf owed.end (arc_value channel) },
+    ghost listed: { (arc_value channel).senders ≡ Some (arc_value list).source.id },
     ghost at: { spot.source.value.id ≡ (arc_value list).source.id },
 }
 
