@@ -1,5 +1,5 @@
 use Rattle.channel_handle.proofs.Iterations.{iter_keeps_along}
-use Rattle.channel_handle.proofs.iter.Receiver.iter.Goals as goal
+use Rattle.channel_handle.proofs.iter.Receiver+T+A.iter.Goals as goal
 
 pub returns-clause-stays : goal.returns-clause-stays
 returns-clause-stays g c = iter_keeps_along _
