@@ -50,8 +50,12 @@ impl<T: Drop, A: Allocator> Account<T, A> {
         ensures left { IfErr result (IsLeft self.party) }
     {
         self.ended.show_view();
-        let left = self.ended.finish()?;
-        left.show_sound();
-        Ok(left)
+        match self.ended.finish() {
+            Ok(left) => {
+                left.show_sound();
+                Ok(left)
+            }
+            Err(left) => Err(left),
+        }
     }
 }
