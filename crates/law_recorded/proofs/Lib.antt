@@ -5,3 +5,6 @@ pub mod Effects
 pub mod Events
 pub mod Runs
 pub mod Replayed
+pub mod OneStep
+pub mod Ahead
+pub mod Settled

@@ -1,8 +1,9 @@
 -- The history of calls that is recorded of a run of the machine, or of a replay, and that it is legal.
-use Rattle.std.specs.Prelude.{ℕ, ◌+◌, ◌==◌, Bool, false, if◌then◌else◌, Option, Some, None, List, [], ◌∷◌, ◌++◌}
-use Rattle.machine_replay.specs.Vocabulary.{Reply, Event, Told, Replay, Begin, Step, Skipped, Ran}
+use Rattle.std.specs.Prelude.{◌≡◌, ℕ, ◌+◌, ◌==◌, Bool, false, if◌then◌else◌, Option, Some, None, List, [], ◌∷◌, ◌++◌}
+use Rattle.machine_replay.specs.Vocabulary.{Kind, Reply, Event, Told, Replay, Begin, Step, Skipped, Ran}
 use Rattle.machine_replay.specs.Book.{Book, Run, opening}
-use Rattle.machine_replay.specs.Conforms.{Conforms}
+use Rattle.machine_replay.specs.Conforms.{Conforms, capacity_of}
+use Rattle.machine_replay.specs.Played.{IsPlayed}
 use Rattle.history_check.specs.declared.recorded.Event.{Event as Recorded}
 use Rattle.history_check.specs.declared.recorded.Event.TheVariants as call
 use Rattle.history_check.specs.Legal.{in_steps, IsLegal}
@@ -52,6 +53,13 @@ history_from n (e ∷ es) replies skipped = entry e (told_at n replies skipped) 
 -- what is recorded of a replay of these events
 abbrev pub history_of : {A : Type 0} → List (Event ℕ) → Replay ℕ A → List Recorded
 history_of events r = history_from 0 events r.replies.items r.skipped.items
+
+-- the history is what is recorded of a replay of these events on a queue of this kind: of one that is what the machine makes of them
+pub record IsRecordOf (A : Type 0) (kind : Kind) (parties : ℕ) (events : List (Event ℕ)) (history : List Recorded) : Type 0 where
+  pub replay : Replay ℕ A
+  pub played : IsPlayed kind parties events replay
+  pub conforms : Conforms (capacity_of kind) parties events replay
+  pub is_record : history ≡ history_of events replay
 
 -- the calls of each replay that conforms are a legal history
 abbrev pub ReplaysAreLegal : Type 0 → Type 0

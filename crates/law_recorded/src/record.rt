@@ -4,7 +4,7 @@ ghost use Rattle.machine_replay.specs.Conforms.{Conforms, capacity_of};
 ghost use Rattle.machine_replay.specs.Replays.{CanReplay};
 ghost use Rattle.machine_memory.specs.declared.types.Told.TheVariants.{Skipped, Ran};
 ghost use Rattle.history_check.specs.Legal.{in_steps, IsLegal};
-ghost use Rattle.law_recorded.specs.Recorded.{entry, first_reply, later_replies, is_skipped, later_skipped, history_of};
+ghost use Rattle.law_recorded.specs.Recorded.{entry, IsRecordOf, first_reply, later_replies, is_skipped, later_skipped, history_of};
 
 use history_check::recorded::Event as Recorded;
 use machine_replay::replay;
@@ -95,7 +95,7 @@ pub fn record<A: Allocator + Copy>(
     Ok(history)
 }
 
-/// Runs the events, from the empty open queue on, and records their calls: a legal history.
+/// Runs the events, from the empty open queue on, and records the calls of this replay: they are a legal history.
 ///
 /// # Errors
 ///
@@ -107,7 +107,8 @@ pub fn replay_recorded<A: Allocator + Copy>(
     events: &[Event<u64>],
 ) -> Result<Vec<Recorded, A>, AllocError>
     requires { CanReplay kind }
-    ensures { IfOk result (λ h. IsLegal (in_steps (capacity_of kind)) parties h.items) }
+    ensures exact { IfOk result (λ h. IsRecordOf A kind parties events.now h.items) }
+    ensures legal { IfOk result (λ h. IsLegal (in_steps (capacity_of kind)) parties h.items) }
 {
     let replayed = replay(alloc, kind, parties, Vec::from_slice(alloc, events)?)?;
     record(alloc, events, &replayed)
