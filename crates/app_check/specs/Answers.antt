@@ -3,7 +3,7 @@ use Rattle.std.specs.Prelude.{◌≡◌, ℕ, List, [], ◌∷◌, ◌++◌, cod
 use Rattle.std.specs.Fmt.{decimal}
 use Rattle.app_text.specs.{Faults.fault_text, Faults.fault_status, declared.faults.Fault.Fault as fault}
 use Rattle.history_check.specs.{Legal.IsOrder, Legal.IsShortest, declared.recorded.Event.Event, declared.recorded.Move.Move, declared.recorded.Rules.Rules}
-use Rattle.app_check.specs.{Orders.order_text, declared.answers.Answer.Answer, declared.answers.Answer.Answer as answer, declared.faults.Stop.Stop, declared.faults.Stop.Stop as stop}
+use Rattle.app_check.specs.{LineFaults.line_fault_text, Orders.order_text, declared.answers.Answer.Answer, declared.answers.Answer.Answer as answer, declared.faults.Stop.Stop, declared.faults.Stop.Stop as stop}
 
 -- of a history of which n events are the shortest beginning that is not legal; the line of an event has its number
 abbrev pub not_legal_text : ℕ → List ℕ
@@ -19,14 +19,18 @@ answer_status answer.Legal = 0
 answer_status (answer.NotLegal n) = 1
 
 abbrev pub stop_text : Stop → List ℕ
-stop_text stop.Usage = codes "usage: queue_check [atomic:]KIND" ++ 10 ∷ codes "reads: PARTY CALL where a call begins, PARTY = REPLY where it ends, a line each, in the order of time"
+stop_text stop.Usage = codes "usage: queue_check [atomic:]KIND" ++ 10 ∷
+    codes "KIND is single, bounded:CAP or unbounded; CAP is 1 to 18446744073709551615; on atomic:KIND a forced push displaces in one step" ++ 10 ∷
+    codes "reads: PARTY CALL where a call begins, PARTY = REPLY where it ends, a line each, in the order of time; PARTY is 0 to 4095; CALL is push N, force N, pop, close, is_closed, is_empty, is_full, len or capacity"
 stop_text (stop.Fault f) = fault_text f
+stop_text (stop.Line n why) = fault_text (fault.Unreadable n) ++ 10 ∷ line_fault_text why
 stop_text stop.TooManyLines = codes "too many lines"
 stop_text stop.TooManyStages = codes "too many stages"
 
 abbrev pub stop_status : Stop → ℕ
 stop_status stop.Usage = 2
 stop_status (stop.Fault f) = fault_status f
+stop_status (stop.Line n why) = 2
 stop_status stop.TooManyLines = 3
 stop_status stop.TooManyStages = 3
 

@@ -1,9 +1,9 @@
 -- The text of a recorded history: a line an event.
-use Rattle.std.specs.Prelude.{◌≡◌, ◌≢◌, ℕ, ◌+◌, ◌<◌, List, [], ◌∷◌, ◌++◌, codes, length, map, Option, Some, None, slice_get, slice_set, replicate}
+use Rattle.std.specs.Prelude.{◌≡◌, ◌≢◌, ℕ, ◌+◌, ◌<◌, List, [], ◌∷◌, ◌++◌, codes, length, map, Option, Some, None, Result, MatchResult, slice_get, slice_set, replicate}
 use Rattle.std.specs.{Fmt.decimal, List.AllByRecursion}
-use Rattle.app_text.specs.{Calls.call_text, Calls.IsCallOfWord, Replies.reply_text, Lines.lines_of, declared.faults.Fault.Fault as fault}
+use Rattle.app_text.specs.{Reading.IsWord, Calls.call_text, Calls.IsCallOfWord, Replies.reply_text, Lines.lines_of, declared.faults.Fault.Fault as fault}
 use Rattle.{queue_steps.specs.declared.model.Call.Call, history_check.specs.declared.recorded.Event.Event, history_check.specs.declared.recorded.Event.Event as event}
-use Rattle.app_check.specs.{Replies.IsReplyOf, declared.faults.Stop.Stop, declared.faults.Stop.Stop as stop, declared.reading.TheConstants.MOST_LINES, declared.reading.TheConstants.MOST_PARTIES}
+use Rattle.app_check.specs.{LineFaults.IsLineFault, LineFaults.IsNextFault, Replies.IsReplyOf, declared.line_faults.LineFault.LineFault, declared.faults.Stop.Stop, declared.faults.Stop.Stop as stop, declared.reading.TheConstants.MOST_LINES, declared.reading.TheConstants.MOST_PARTIES}
 
 -- the party whose event it is
 abbrev pub party_of : Event → ℕ
@@ -54,8 +54,8 @@ pub record IsRecording (text : List ℕ) (parties : ℕ) (events : List Event) :
   pub leads : Lead idle events after
   pub enough : AllByRecursion (λ e. party_of e < parties) events
 
--- line n of the text, counted from 1, is the first that is no event which may come there
-pub record IsFirstWrong (text : List ℕ) (n : ℕ) : Type 0 where
+-- line n of the text, counted from 1, is the first that is no event which may come there, and this is why
+pub record IsFirstWrong (text : List ℕ) (n : ℕ) (why : LineFault) : Type 0 where
   pub before : List Event
   pub after : List (Option (Call ℕ))
   pub line : List ℕ
@@ -64,10 +64,24 @@ pub record IsFirstWrong (text : List ℕ) (n : ℕ) : Type 0 where
   pub number : n ≡ length before + 1
   pub leads : Lead idle before after
   pub wrong : (e : Event) → MayCome after e → event_text e ≢ line
+  pub reason : IsLineFault after line why
+
+-- no number and a space are at the beginning of the line
+abbrev pub HasNoNumber : List ℕ → Type 0
+HasNoNumber line = (p : ℕ) (text : List ℕ) → IsWord p → line ≢ decimal p ++ 32 ∷ text
+
+-- what reading a line found: the event whose line it is, or that it is none which may come, and why
+abbrev pub IsEventRead : List (Option (Call ℕ)) → List ℕ → Result Event LineFault → Type 0
+IsEventRead calls line found = MatchResult found (λ e. MayCome calls e × (event_text e ≡ line)) (λ why. ((e : Event) → MayCome calls e → event_text e ≢ line) × IsLineFault calls line why)
+
+-- the same of what comes behind a party that is in this call, or in none
+abbrev pub IsNextRead : ℕ → Option (Call ℕ) → List ℕ → Result Event LineFault → Type 0
+IsNextRead p now text found =
+    MatchResult found (λ e. ((party_of e ≡ p) × IsNext now e) × (said e ≡ text)) (λ why. ((e : Event) → (party_of e ≡ p) × IsNext now e → said e ≢ text) × IsNextFault now text why)
 
 -- why the text was not read
 abbrev pub IsUnread : List ℕ → Stop → Type 0
-IsUnread text (stop.Fault (fault.Unreadable n)) = IsFirstWrong text n
+IsUnread text (stop.Line n why) = IsFirstWrong text n why
 IsUnread text (stop.Fault fault.NoMemory) = Unit {0}
 IsUnread text stop.TooManyLines = MOST_LINES < length (lines_of text)
 IsUnread text _ = ⊥

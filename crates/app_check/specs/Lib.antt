@@ -1,4 +1,5 @@
 pub mod Replies
+pub mod LineFaults
 pub mod Histories
 pub mod Orders
 pub mod Answers

@@ -4,6 +4,7 @@ ghost use Rattle.app_text.specs.declared.faults.Fault.TheVariants as fault;
 ghost use Rattle.app_check.specs.declared.faults.Stop.TheVariants as stop;
 ghost use Rattle.app_check.specs.Answers.{stop_text, stop_status};
 
+use crate::line_faults::LineFault;
 use app_text::faults::Fault;
 use std::alloc::{AllocError, AllocFailed};
 use std::fmt;
@@ -15,6 +16,8 @@ pub enum Stop {
     Usage,
     /// As any program of queues may end.
     Fault(Fault),
+    /// The line of this number, counted from 1, is the first that cannot be read, and why it cannot.
+    Line(usize, LineFault),
     /// More lines than a history may have.
     TooManyLines,
     /// More stages beside each other than are looked at.
@@ -27,7 +30,7 @@ impl Stop {
         ensures { result ≡ stop_status self }
     {
         match self {
-            Stop::Usage => 2,
+            Stop::Usage | Stop::Line(_, _) => 2,
             Stop::Fault(fault) => fault.status(),
             Stop::TooManyLines | Stop::TooManyStages => 3,
         }
@@ -64,9 +67,10 @@ impl fmt::Display for Stop {
     fn fmt<W: fmt::Write>(&self, f: &mut fmt::Formatter<W>) -> fmt::Result {
         match self {
             Stop::Usage => f.write_str(
-                "usage: queue_check [atomic:]KIND\nreads: PARTY CALL where a call begins, PARTY = REPLY where it ends, a line each, in the order of time",
+                "usage: queue_check [atomic:]KIND\nKIND is single, bounded:CAP or unbounded; CAP is 1 to 18446744073709551615; on atomic:KIND a forced push displaces in one step\nreads: PARTY CALL where a call begins, PARTY = REPLY where it ends, a line each, in the order of time; PARTY is 0 to 4095; CALL is push N, force N, pop, close, is_closed, is_empty, is_full, len or capacity",
             ),
             Stop::Fault(fault) => write!(f, "{fault}"),
+            Stop::Line(number, why) => write!(f, "{}\n{why}", Fault::Unreadable(*number)),
             Stop::TooManyLines => f.write_str("too many lines"),
             Stop::TooManyStages => f.write_str("too many stages"),
         }

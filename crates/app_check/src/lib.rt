@@ -5,6 +5,7 @@ pub mod answers;
 pub mod asked;
 pub mod command;
 pub mod faults;
+pub mod line_faults;
 pub mod program;
 pub mod reading;
 pub mod replies;

@@ -1,13 +1,15 @@
 //! Recorded histories as they are read.
-ghost use Rattle.std.specs.Prelude.{◌≡◌, ◌<◌, ◌≤◌, None, IfOk, MatchResult, length, replicate, slice_get};
-ghost use Rattle.app_text.specs.Reading.{IsReading};
+ghost use Rattle.std.specs.Prelude.{◌≡◌, ◌<◌, ◌≤◌, ◌++◌, ◌∷◌, None, Some, IfOk, MatchOption, MatchResult, length, replicate, slice_get};
+ghost use Rattle.std.specs.Fmt.{decimal};
+ghost use Rattle.app_text.specs.Reading.{IsWord};
 ghost use Rattle.app_check.specs.declared.reading.TheConstants.{MOST_PARTIES};
-ghost use Rattle.app_check.specs.Histories.{calls_behind, event_text, party_of, said, IsNext, IsRecording, IsUnread, MayCome};
+ghost use Rattle.app_check.specs.Histories.{calls_behind, party_of, HasNoNumber, IsEventRead, IsNextRead, IsRecording, IsUnread, MayCome};
+ghost use Rattle.app_check.specs.LineFaults.{IsLineFault};
 
 use crate::faults::Stop;
+use crate::line_faults::LineFault;
 use crate::replies::read_reply;
 use app_text::actions::part_at_space;
-use app_text::faults::Fault;
 use app_text::lines::{Line, next_line};
 use app_text::numbers::parse_number;
 use history_check::recorded::Event;
@@ -37,7 +39,7 @@ pub struct History<A: Allocator> {
 ///
 /// # Errors
 ///
-/// `Unreadable` with the number of the first line that is no event which may come there, `TooManyLines`, and `NoMemory`.
+/// `Line` with the number of the first line that is no event which may come there, and why; `TooManyLines`, and `NoMemory`.
 pub fn read_history<A: Allocator + Copy>(alloc: A, text: &[u8]) -> Result<History<A>, Stop>
     ensures { MatchResult result (λ history. IsRecording text.now history.parties history.events.items) (IsUnread text.now) }
 {
@@ -50,8 +52,9 @@ pub fn read_history<A: Allocator + Copy>(alloc: A, text: &[u8]) -> Result<Histor
         if events.len() >= MOST_LINES {
             return Err(Stop::TooManyLines);
         }
-        let Some(event) = read_event(line, calls) else {
-            return Err(Stop::Fault(Fault::Unreadable(events.len() + 1)));
+        let event = match read_event(line, calls) {
+            Ok(event) => event,
+            Err(why) => return Err(Stop::Line(events.len() + 1, reason(calls, line, why))),
         };
         parties = with_party(parties, party(event));
         note(calls, event);
@@ -80,15 +83,38 @@ fn with_party(parties: usize, party: usize) -> usize
     if party < parties { parties } else { party + 1 }
 }
 
-// The event of this line that may come where the parties are in these calls.
-fn read_event(line: &[u8], calls: &[Option<Call<u64>>]) -> Option<Event>
+// The event of this line that may come where the parties are in these calls, or why there is none.
+fn read_event(line: &[u8], calls: &[Option<Call<u64>>]) -> Result<Event, LineFault>
     requires table { length calls.now ≡ MOST_PARTIES }
-    ensures { IsReading (MayCome calls.now) event_text line.now result }
+    ensures { IsEventRead calls.now line.now result }
+{
+    let Some((party, rest)) = read_party(line) else {
+        return Err(LineFault::Party);
+    };
+    match call_of(calls, party) {
+        Some(now) => read_next(party, now, rest),
+        None => Err(LineFault::Party),
+    }
+}
+
+// The number that the line begins with, and what is behind the space after it.
+fn read_party(line: &[u8]) -> Option<(usize, &[u8])>
+    ensures { MatchOption result (HasNoNumber line.now) (λ p. IsWord p.0 × (line.now ≡ decimal p.0 ++ 32 ∷ p.1.now)) }
 {
     let (digits, rest) = part_at_space(line)?;
     let party = parse_number(digits)?;
-    let now = call_of(calls, party as usize)?;
-    read_next(party as usize, now, rest)
+    Some((party as usize, rest))
+}
+
+// Why the line cannot be read, where this is a reason: that it ends with a blank is a plainer one.
+fn reason(calls: &[Option<Call<u64>>], line: &[u8], why: LineFault) -> LineFault
+    requires { IsLineFault calls.now line.now why }
+    ensures { IsLineFault calls.now line.now result }
+{
+    match line.split_last() {
+        Some((b' ' | b'\t' | b'\r', _)) => LineFault::Blank,
+        _ => why,
+    }
 }
 
 // The call that the party is in, or none; nothing where there is no such party.
@@ -98,16 +124,37 @@ fn call_of(calls: &[Option<Call<u64>>], party: usize) -> Option<Option<Call<u64>
     calls.get(party).copied()
 }
 
-// What this says that comes next for a party which is in this call, or in none.
-fn read_next(party: usize, now: Option<Call<u64>>, text: &[u8]) -> Option<Event>
-    ensures { IsReading (λ event. (party_of event ≡ party) × IsNext now event) said text.now result }
+// What this says that comes next for a party which is in this call, or in none, or why it says nothing that does.
+fn read_next(party: usize, now: Option<Call<u64>>, text: &[u8]) -> Result<Event, LineFault>
+    ensures { IsNextRead party now text.now result }
 {
     match now {
-        None => Some(Event::Begin(party, Call::parse(text)?)),
-        Some(call) => {
-            let told = text.strip_prefix(b"= ".as_slice())?;
-            Some(Event::End(party, read_reply(call, told)?))
-        }
+        None => read_call(party, text),
+        Some(call) => read_end(party, call, text),
+    }
+}
+
+// The beginning of a call that this says.
+fn read_call(party: usize, text: &[u8]) -> Result<Event, LineFault>
+    ensures { IsNextRead party None text.now result }
+{
+    match Call::<u64>::parse(text) {
+        Some(call) => Ok(Event::Begin(party, call)),
+        None if text.starts_with(b"= ") => Err(LineFault::NoCall),
+        None => Err(LineFault::Call),
+    }
+}
+
+// The end of this call that this says.
+fn read_end(party: usize, call: Call<u64>, text: &[u8]) -> Result<Event, LineFault>
+    ensures { IsNextRead party (Some call) text.now result }
+{
+    let Some(told) = text.strip_prefix(b"= ".as_slice()) else {
+        return Err(LineFault::InCall);
+    };
+    match read_reply(call, told) {
+        Some(reply) => Ok(Event::End(party, reply)),
+        None => Err(LineFault::Reply(call)),
     }
 }
 

@@ -20,22 +20,22 @@ read_event-requires g c = record { table = is_table c.loop-line.calls c.loop-lin
 
 pub with_party-parties-requires : goal.with_party-parties-requires
 with_party-parties-requires g c =
-    let may = c.in-Some-read_event.ensures.0 in
-    let within = slice_get_within c.loop-line.calls (party_of c.in-Some-read_event.event) may.0 may.1 in
+    let may = c.in-Ok.ensures.0 in
+    let within = slice_get_within c.loop-line.calls (party_of c.in-Ok.event) may.0 may.1 in
     let table = is_table c.loop-line.calls c.loop-line.events.items c.loop-line.invariant.leads in
     record { few = omega (arith, within, table, c.party.ensures) }
 
 pub loop-line-preserved : goal.loop-line-preserved
 loop-line-preserved g c =
     let es = c.loop-line.events.items in
-    let e = c.in-Some-read_event.event in
+    let e = c.in-Ok.event in
     let so_far = c.loop-line.invariant in
     let items = c.in_ok-push.ensures.items in
     let its : party_of e < c.with_party-parties.result = omega (arith, c.with_party-parties.ensures.its, c.party.ensures) in
-    let line = line_on es e c.in-Some.line.now (lines_of c.in-Some.after.now) c.in-Some-read_event.ensures.1 in
+    let line = line_on es e c.in-Some.line.now (lines_of c.in-Some.after.now) c.in-Ok.ensures.1 in
     record {
       lines = rw items (so_far.lines ∙ ap (λ (l : List (List ℕ)). map event_text es ++ l) c.in-Some.ensures.0 ∙ line);
       few = omega (arith, c.in_ok-push.ensures.len, c.in-Some.ensures.1, so_far.few);
-      leads = rw (items, c.note.ensures) (lead_on idle c.loop-line.calls es e so_far.leads c.in-Some-read_event.ensures.0);
+      leads = rw (items, c.note.ensures) (lead_on idle c.loop-line.calls es e so_far.leads c.in-Ok.ensures.0);
       enough = rw items (enough_on c.loop-line.parties c.with_party-parties.result es e c.with_party-parties.ensures.more its so_far.enough);
     }
