@@ -3,8 +3,8 @@ use Rattle.std.proofs.Common.{◌≡◌, ◌≢◌, ◌∙◌, ℕ, ◌<◌, ◌
 use Rattle.std.specs.{Fmt.decimal, List.AllByRecursion}
 use Rattle.std.proofs.lemmas.{Fmt.decimal_injective, Fmt.digits_decimal, List.length-replicate, List.length-set, Option.same_Some, Option.slice_get_cases, Option.slice_get_within}
 use Rattle.{queue_steps.specs.declared.model.Call.Call, history_check.specs.declared.recorded.Event.Event}
-use Rattle.app_text.{specs.Reading.IsReading, specs.Reading.IsWord, specs.Spaces.parted, proofs.Parting.digits_parted, proofs.Parting.parts_joined, proofs.ReadNumber.model}
-use Rattle.app_check.specs.Histories.{party_of, said, event_text, IsNext, MayCome, HasNoNumber, IsEventRead, IsNextRead, call_behind, calls_behind, idle, Lead}
+use Rattle.app_text.{specs.Reading.IsWord, specs.Spaces.parted, proofs.Parting.digits_parted, proofs.Parting.parts_joined, proofs.ReadNumber.model}
+use Rattle.app_check.specs.Histories.{party_of, said, event_text, MayCome, HasNoNumber, IsEventRead, IsNextRead, call_behind, calls_behind, idle, Lead}
 use Rattle.app_check.specs.LineFaults.{IsLineFault, IsNextFault}
 use Rattle.app_check.specs.declared.line_faults.LineFault.{LineFault, LineFault as wrong}
 use Rattle.app_check.specs.declared.reading.TheConstants.{MOST_PARTIES}

@@ -1,5 +1,5 @@
 -- Displacements of a closed queue, each in one step, go ahead of what was done since the close, and of the close.
-use Rattle.std.proofs.Common.{◌≡◌, ◌≢◌, ◌∙◌, ◌⊎◌, inl, inr, ℕ, ◌+◌, ◌<◌, ◌≤◌, Bool, true, false, not, Option, Some, None, List, [], ◌∷◌, length, refl, ap, sym, subst, arith}
+use Rattle.std.proofs.Common.{◌≡◌, ◌≢◌, ◌∙◌, ◌⊎◌, inl, inr, ℕ, ◌+◌, ◌<◌, Bool, true, false, not, Option, Some, None, List, [], ◌∷◌, length, refl, ap, sym, subst, arith}
 use Rattle.std.specs.Prelude.{slice_get, slice_set}
 use Rattle.std.proofs.lemmas.List.{set_comm}
 use Rattle.queue_steps.specs.{State.State, State.fills, State.is_slot_cap, Effect.Fits, Effect.made, Effect.rest, Replies.Allows, Replies.Tells}

@@ -1,8 +1,8 @@
 -- What is legal where a displacement is one step is legal where it takes two.
-use Rattle.std.proofs.Common.{◌≡◌, ◌≢◌, ◌∙◌, ◌⊎◌, inl, inr, ℕ, suc, zero, Bool, true, false, not, Option, Some, None, List, [], ◌∷◌, refl, ap, sym, subst}
+use Rattle.std.proofs.Common.{◌≡◌, ◌≢◌, ◌∙◌, inl, inr, ℕ, suc, zero, Bool, true, false, not, Option, Some, None, List, [], ◌∷◌, refl, ap, sym, subst}
 use Rattle.std.proofs.lemmas.Bool.{cases_eq}
 use Rattle.std.specs.Prelude.{slice_get, slice_set, replicate}
-use Rattle.queue_steps.specs.{State.State, Effect.made, declared.model.Call.Call, declared.model.Reply.Reply, declared.model.Effect.Effect as effect}
+use Rattle.queue_steps.specs.{State.State, Effect.made, declared.model.Reply.Reply, declared.model.Effect.Effect as effect}
 use Rattle.queue_steps.proofs.Keeping.{stays_closed}
 use Rattle.history_check.specs.declared.recorded.{Event.Event, Event.TheVariants.Begin, Event.TheVariants.End, Move.Move, Way.Way, Way.TheVariants.Waiting, Way.TheVariants.Halfway, Way.TheVariants.Answered}
 use Rattle.history_check.specs.Legal.{Stage, IsAt, moved, opening, MayRecord, recorded, Makes, Goes}

@@ -1,5 +1,5 @@
 -- Without calls that look at the list alone, what is legal where a displacement takes two steps is legal where it is one: the arrival goes to its front, and what is displaced behind a close goes ahead of it.
-use Rattle.std.proofs.Common.{◌≡◌, ◌≢◌, ◌∙◌, ◌⊎◌, inl, inr, ℕ, Bool, true, false, not, Option, Some, None, List, [], ◌∷◌, refl, ap, sym, subst}
+use Rattle.std.proofs.Common.{◌≡◌, ◌≢◌, ◌∙◌, ℕ, Bool, true, false, not, Option, Some, None, List, [], ◌∷◌, refl, ap, sym, subst}
 use Rattle.std.specs.Prelude.{slice_get, slice_set}
 use Rattle.std.specs.List.{AllByRecursion}
 use Rattle.queue_steps.specs.{State.State, State.is_slot_cap, Effect.Fits, Effect.made, Effect.with_coming, Replies.Allows, Replies.Tells, Looks.IsGlance}
@@ -8,9 +8,9 @@ use Rattle.queue_laws.specs.Moment.Moments.{arrived}
 use Rattle.queue_laws.proofs.Common.TellsAs.{TellsAs, nothing, append, take, replace, displace, close, self_close, tells_as}
 use Rattle.queue_laws.proofs.Moment.{Closed.agrees_arrived, Closed.arrived_arrive, Closed.arrived_take, Closed.take_first, Settling.Sound, Settling.sound_on, Settling.sound_start, Answering.allowed_there}
 use Rattle.history_check.specs.declared.recorded.{Event.Event, Event.TheVariants.Begin, Event.TheVariants.End, Move.Move, Way.Way, Way.TheVariants.Waiting, Way.TheVariants.Halfway, Way.TheVariants.Answered}
-use Rattle.history_check.specs.Legal.{in_steps, Stage, IsAt, moved, opening, MayRecord, recorded, Makes, Goes}
+use Rattle.history_check.specs.Legal.{in_steps, Stage, IsAt, moved, opening, MayRecord, recorded, Makes}
 use Rattle.history_check.proofs.{Moves.set_here, Moves.set_other, Orders.along}
-use Rattle.law_recorded.specs.OneStep.{in_one_step, BeginsNoGlance, TwoStepsAreOne}
+use Rattle.law_recorded.specs.OneStep.{BeginsNoGlance, TwoStepsAreOne}
 use Rattle.law_recorded.proofs.{Places.set_twice, OneStep.AllOnWay, OneStep.on_way, OneStep.none_on_way}
 use Rattle.law_recorded.proofs.Ahead.{displaced, GoesAhead, Calm, all_in_order, goes_before, swapped}
 
