@@ -77,10 +77,6 @@ module _ (line : List ℕ) (calls : List (Option (Call ℕ))) (table : length ca
         line_fault (Some c) (wrong.Reply d) at why = (p, rest, Some c, is, at, why)
         line_fault x y at why = absurd why
 
-  -- a line that begins with no number is no event
-  pub no_event_numbered : HasNoNumber line → IsEventRead calls line (Err wrong.Party)
-  no_event_numbered none = (λ e may same. none (party_of e) (said e) (event_parted e may same).0 (sym same), λ p text few. none p text (omega (arith, few)))
-
 -- no party is in a call at first
 pub idle_is : idle ≡ replicate MOST_PARTIES None
 unfolding idle
