@@ -18,7 +18,7 @@ module _ {C : Type 0} where
 
   -- the source of the list on which one future is to be woken
   abbrev pub list_for_one : OwesOne C → Option ℕ
-  list_for_one o = option_map (λ (l : ListOwesOne C). l.list.now.source.id) o.futures
+  list_for_one o = option_map (λ (l : ListOwesOne C). l.list.now.source.id) o.future
 
   -- the source of the list on which all futures are to be woken
   abbrev pub list_for_all : OwesAll C → Option ℕ

@@ -17,8 +17,8 @@ pub struct Waiters<C: Drop> {
 
 /// The condition was made true for one that waits, and nobody was notified yet. It cannot be dropped, and names whom it notifies.
 pub struct OwesOne<'a, C: Drop> {
-    threads: event_count::OwesOne<'a, C>,
-    futures: Option<waker_list::OwesOne<'a, C>>,
+    thread: event_count::OwesOne<'a, C>,
+    future: Option<waker_list::OwesOne<'a, C>>,
 }
 
 /// The condition was made true for all that wait, and nobody was notified yet. It cannot be dropped, and names whom it notifies.
@@ -38,9 +38,9 @@ impl<C: Drop> OwesOne<'_, C> {
     /// Wakes one thread and one future of those that wait.
     #[inline(always)]
     pub fn notify(self) {
-        let OwesOne { threads, futures } = self;
-        threads.notify();
-        if let Some(owed) = futures {
+        let OwesOne { thread, future } = self;
+        thread.notify();
+        if let Some(owed) = future {
             notify_future(owed);
         }
     }
@@ -103,8 +103,8 @@ impl<C: Drop> Waiters<C> {
         ensures { list_for_one result ≡ list_of self.now }
     {
         OwesOne {
-            threads: self.threads.owe_one(threads),
-            futures: match &self.futures {
+            thread: self.threads.owe_one(threads),
+            future: match &self.futures {
                 Some(list) => Some(list.owe_one(futures)),
                 None => None,
             },
