@@ -9,9 +9,9 @@ module _ {T : Type 0} where
   abbrev pub end_of : Incoming T → End T
   end_of i = i.owed.end.end
 
-  -- it is in a pop that has taken an item which is not written yet
-  abbrev pub in_pop_of : Incoming T → Bool
-  in_pop_of i = i.owed.end.in_pop
+  -- its pop has taken an item that is not written yet
+  abbrev pub is_in_pop : Incoming T → Bool
+  is_in_pop i = i.owed.end.in_pop
 
   -- the source that it waits for
   abbrev pub source_of : Incoming T → ℕ

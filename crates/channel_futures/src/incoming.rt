@@ -1,5 +1,5 @@
 //! Receivers in futures.
-ghost use Rattle.std.specs.Prelude.{◌≡◌, [], Some, true, false, MatchResult};
+ghost use Rattle.std.specs.Prelude.{◌≡◌, [], true, false, Some, MatchResult};
 ghost use Rattle.std.specs.Arc.{arc_value};
 ghost use Rattle.std.specs.Result.{result_ok};
 ghost use Rattle.futures.specs.Task.{Covers, Keeps};
@@ -42,8 +42,7 @@ fn poll_at<'a, T: Drop>(
     requires { IsEndOf receiver.old.end channel.now }
     ensures list { result.0.list.now ≡ place.entry.list.now }
     ensures of { IsEndOf receiver.new.end channel.now }
-    ensures received { IfReady result.1 (λ answer. ChannelCall receiver.old.end call.Pop (received answer) receiver.new.end) }
-    ensures at_rest { IfReady result.1 (λ _. receiver.new.in_pop ≡ false) }
+    ensures received { IfReady result.1 (λ answer. ChannelCall receiver.old.end call.Pop (received answer) receiver.new.end × (receiver.new.in_pop ≡ false)) }
     ensures waited { OnPending result.1 (EndWaited receiver.old.end receiver.new.end) }
     ensures registered { OnPending result.1 (Covers cx.new (λ s. s ≡ place.entry.list.now.source.id)) }
     ensures kept { Keeps cx.old cx.new }
@@ -67,7 +66,7 @@ fn poll_at<'a, T: Drop>(
 }
 
 impl<T: Drop> Incoming<T> {
-    ghost use Rattle.channel_futures.specs.Incoming.{end_of, in_pop_of, source_of, lender_of, SameChannel};
+    ghost use Rattle.channel_futures.specs.Incoming.{end_of, is_in_pop, source_of, lender_of, SameChannel};
 
     /// Lets a receiver receive in futures.
     ///
@@ -75,7 +74,7 @@ impl<T: Drop> Incoming<T> {
     ///
     /// The receiver, where its channel was not opened for ends in futures.
     pub fn of(receiver: Receiver<T>) -> Result<Incoming<T>, Receiver<T>>
-        ensures { MatchResult result (λ i. (end_of i ≡ receiver) × (in_pop_of i ≡ false)) (λ r. r ≡ receiver) }
+        ensures { MatchResult result (λ i. (end_of i ≡ receiver) × (is_in_pop i ≡ false)) (λ r. r ≡ receiver) }
     {
         let (channel, end) = receiver.into_parts();
         match channel.list_of_receivers() {
@@ -91,13 +90,13 @@ impl<T: Drop> Incoming<T> {
         }
     }
 
-    /// The receiver. After an answer there is always one; on a channel with a capacity too, which is tested.
+    /// The receiver. There is always one before the first poll, and after an answer.
     ///
     /// # Errors
     ///
-    /// The stream, where its pop has taken an item that is not written yet.
+    /// The stream, whose pop has taken an item that is not written yet.
     pub fn into_receiver(self) -> Result<Receiver<T>, Incoming<T>>
-        ensures { MatchResult result (λ r. (r ≡ end_of self) × (in_pop_of self ≡ false)) (λ i. (i ≡ self) × (in_pop_of self ≡ true)) }
+        ensures { MatchResult result (λ r. (r ≡ end_of self) × (is_in_pop self ≡ false)) (λ i. (i ≡ self) × (is_in_pop self ≡ true)) }
     {
         let Incoming {
             channel,
@@ -123,8 +122,7 @@ impl<T: Drop> Incoming<T> {
     /// Receives the next item, or is pending.
     pub fn poll_recv(&mut self, cx: &mut Context<'_>) -> Poll<Result<T, Disconnected>>
         ensures same { SameChannel self.old self.new }
-        ensures received { IfReady result (λ answer. ChannelCall (end_of self.old) call.Pop (received answer) (end_of self.new)) }
-        ensures at_rest { IfReady result (λ _. in_pop_of self.new ≡ false) }
+        ensures received { IfReady result (λ answer. ChannelCall (end_of self.old) call.Pop (received answer) (end_of self.new) × (is_in_pop self.new ≡ false)) }
         ensures waited { OnPending result (EndWaited (end_of self.old) (end_of self.new)) }
         ensures registered { OnPending result (Covers cx.new (λ s. s ≡ source_of self.new)) }
         ensures kept { Keeps cx.old cx.new }
@@ -139,7 +137,7 @@ impl<T: Drop> Incoming<T> {
 
     /// Waits no more. A wake that has come goes on to the next.
     pub fn rest(&mut self)
-        ensures { (end_of self.new ≡ end_of self.old) × (in_pop_of self.new ≡ in_pop_of self.old) × SameChannel self.old self.new }
+        ensures { (end_of self.new ≡ end_of self.old) × (is_in_pop self.new ≡ is_in_pop self.old) × SameChannel self.old self.new }
     {
         let list = &*self.list;
         let spot = mem::replace(&mut self.spot, Spot::new(list));
@@ -171,7 +169,7 @@ impl<T: Drop> Drop for Incoming<T> {
 }
 
 impl<T: Drop> Stream for Incoming<T> {
-    ghost use Rattle.channel_futures.specs.Incoming.{end_of, in_pop_of, source_of, SameChannel};
+    ghost use Rattle.channel_futures.specs.Incoming.{end_of, is_in_pop, source_of, SameChannel};
 
     type Item = T;
 
@@ -181,8 +179,7 @@ impl<T: Drop> Stream for Incoming<T> {
 
     fn poll_next(&mut self, cx: &mut Context<'_>) -> Poll<Option<T>>
         ensures same { SameChannel self.old self.new }
-        ensures received { IfReady result (λ item. Received (end_of self.old) item (end_of self.new)) }
-        ensures at_rest { IfReady result (λ _. in_pop_of self.new ≡ false) }
+        ensures received { IfReady result (λ item. Received (end_of self.old) item (end_of self.new) × (is_in_pop self.new ≡ false)) }
         ensures waited { OnPending result (EndWaited (end_of self.old) (end_of self.new)) }
         ensures registered { OnPending result (Covers cx.new (λ s. s ≡ source_of self.new)) }
         ensures kept { Keeps cx.old cx.new }
@@ -200,11 +197,11 @@ pub struct Recv<'s, T: Drop> {
 }
 
 impl<T: Drop> Drop for Recv<'_, T> {
-    ghost use Rattle.channel_futures.specs.Incoming.{end_of, in_pop_of, SameChannel};
+    ghost use Rattle.channel_futures.specs.Incoming.{end_of, is_in_pop, SameChannel};
 
     /// It waits no more. Its end stays as the polls have left it.
     fn drop(self)
-        ensures end { (end_of self.exit.0.now ≡ end_of self.entry.incoming.now) × (in_pop_of self.exit.0.now ≡ in_pop_of self.entry.incoming.now) }
+        ensures end { (end_of self.exit.0.now ≡ end_of self.entry.incoming.now) × (is_in_pop self.exit.0.now ≡ is_in_pop self.entry.incoming.now) }
         ensures same { SameChannel self.entry.incoming.now self.exit.0.now }
     {
         let Recv { incoming } = self;
@@ -213,7 +210,7 @@ impl<T: Drop> Drop for Recv<'_, T> {
 }
 
 impl<T: Drop> Future for Recv<'_, T> {
-    ghost use Rattle.channel_futures.specs.Incoming.{end_of, in_pop_of, source_of, lender_of, SameChannel};
+    ghost use Rattle.channel_futures.specs.Incoming.{end_of, is_in_pop, source_of, lender_of, SameChannel};
 
     type Output = Result<T, Disconnected>;
 
@@ -224,8 +221,7 @@ impl<T: Drop> Future for Recv<'_, T> {
     fn poll(&mut self, cx: &mut Context<'_>) -> Poll<Result<T, Disconnected>>
         ensures lender { lender_of self.new ≡ lender_of self.old }
         ensures same { SameChannel self.old.incoming.now self.new.incoming.now }
-        ensures received { IfReady result (λ answer. ChannelCall (end_of self.old.incoming.now) call.Pop (received answer) (end_of self.new.incoming.now)) }
-        ensures at_rest { IfReady result (λ _. in_pop_of self.new.incoming.now ≡ false) }
+        ensures received { IfReady result (λ answer. ChannelCall (end_of self.old.incoming.now) call.Pop (received answer) (end_of self.new.incoming.now) × (is_in_pop self.new.incoming.now ≡ false)) }
         ensures waited { OnPending result (EndWaited (end_of self.old.incoming.now) (end_of self.new.incoming.now)) }
         ensures registered { OnPending result (Covers cx.new (λ s. s ≡ source_of self.new.incoming.now)) }
         ensures kept { Keeps cx.old cx.new }
