@@ -1,9 +1,9 @@
 //! What each step finds and what it leaves in the words, and what notifies take off `SLEEPERS`.
 ghost use Rattle.event_count.specs.Cursors.{IsOnWords};
 
+use crate::EventCount;
 use crate::wakes::{Step, Whom, Word};
 use crate::words::Words;
-use crate::{EventCount, OwesAll, OwesOne};
 use crossbeam_utils::CachePadded;
 use std::process::Abort;
 use std::sync::atomic::AtomicU64;
@@ -81,7 +81,7 @@ fn notify_each(rt: &impl Abort, waits: u64) {
     for notifies in 0..=waits {
         let left = (notifies, waits.saturating_sub(notifies));
         assert_eq!(rt; signs.words.both(), left, "of {waits}");
-        signs.notify_one(OwesOne::by(Sign));
+        signs.owe_one(Sign).notify();
     }
     assert_eq!(rt; signs.words.both(), (waits, 0), "of {waits}");
 }
@@ -96,9 +96,9 @@ fn each_notify_of_one_takes_one_off(rt: HostRuntime) {
 /// Asserts that a notify of all takes all off, and that a notify of one does nothing then.
 fn notify_together(rt: &impl Abort, waits: u64) {
     let signs = after_waits(waits);
-    signs.notify_all(OwesAll::by(Sign));
+    signs.owe_all(Sign).notify();
     assert_eq!(rt; signs.words.both(), (1, 0), "of {waits}");
-    signs.notify_one(OwesOne::by(Sign));
+    signs.owe_one(Sign).notify();
     assert_eq!(rt; signs.words.both(), (1, 0), "of {waits}");
 }
 
