@@ -6,7 +6,7 @@ use Rattle.callers.proofs.channel.gather.Goals as goal
 -- the three parties are together all of the share
 pub unreachable-requires : goal.unreachable-requires
 unreachable-requires g c =
-    let sides = c.in-Ok.ensures.1.2.share in let senders = c.in-Ok-split_sender.ensures.0.2.share in
+    let sides = c.in-Ok.ensures.opens.1.2.share in let senders = c.in-Ok-split_sender.ensures.0.2.share in
     let sent = c.join-first.ensures.first in let ended = c.join-first.result in
     c.in-Err.ensures.2
     (gathered_again c.in_ok-queue.party.view.share c.in-Ok.sender.party.view.share c.in-Ok.receiver.party.view.share c.in-Ok-split_sender.one.party.view.share c.in-Ok-split_sender.two.party.view.share
