@@ -37,6 +37,11 @@ fn room_for_thousands(rt: HostRuntime) {
     for item in 0..MANY as u64 {
         is_in(&rt, item, sender.try_send(&rt, item), Ok(()));
     }
-    is_in(&rt, "full", sender.try_send(&rt, 1), Err(PushError::Full(1)));
+    is_in(
+        &rt,
+        "full",
+        sender.try_send(&rt, 1),
+        Err(PushError::Full(1)),
+    );
     is_in(&rt, "the first", receiver.try_recv(&rt), Ok(0));
 }
