@@ -11,11 +11,12 @@
  *   - a handle may go to another thread, where a lock, a thread's start or join, or a SeqCst atomic orders that;
  *   - each pointer that a call gets is valid, not NULL, and is no other argument of that call;
  *   - no call is made in a signal handler, or in the forked child of a process with threads;
- *   - malloc, realloc and free are one allocator's, and align a block to each power of two up to 16 that divides its size.
+ *   - malloc, realloc, posix_memalign and free are one allocator's, and malloc aligns to 8 at least.
  * Checked, each by an answer of its own: a handle without a party, so also one that was dropped twice; one that has a party where none may be; a capacity
  * of 0; a queue that other parties share; a party that was dropped before the end; a call while another one is pending.
  *
- * It needs a processor of x86-64-v2 or later, and nothing of the system but malloc, realloc, free, memcpy and memset.
+ * It runs on each x86-64, or on each aarch64, as it was built. It asks nothing of the system but malloc, realloc, posix_memalign, free, memcpy and memset; in
+ * heap.c they are called, whose three functions a program may define itself.
  *
  * No call waits. One that meets another thread's call half done, or that others overtake again and again, answers QUEUE_C_PENDING: its handle keeps it, and
  * queue_c_resume takes it up again. Until it has its reply, each other call of that handle but queue_c_capacity and queue_c_drop answers QUEUE_C_BUSY.
@@ -27,12 +28,22 @@
 #include <stddef.h>
 #include <stdint.h>
 
-/* The version of the repository that these declarations are from. */
+/* The version of the repository that these declarations are from. An object that has this header links with the library of that version alone: another one
+ * lacks the name. */
 #define QUEUE_C_VERSION "2.0.0"
+#define QUEUE_C_VERSION_NAME queue_c_version_2_0_0
 
 #ifdef __cplusplus
 extern "C" {
 #endif
+
+extern const char QUEUE_C_VERSION_NAME;
+#if defined(__has_attribute)
+#if __has_attribute(retain)
+__attribute__((retain))
+#endif
+#endif
+__attribute__((used)) static const char *const queue_c_version_wanted = &QUEUE_C_VERSION_NAME;
 
 typedef struct queue_c_party {
     void *at;
@@ -60,11 +71,12 @@ enum {
     QUEUE_C_IDLE = 14      /* no call of this handle is pending */
 };
 
-/* A new queue and its first party, in `out`, which has none: DONE, TAKEN, NO_MEMORY; a capacity of 0 is NO_ROOM. */
+/* A new queue and its first party, in `out`, which has none: DONE, TAKEN, NO_MEMORY; a capacity of 0 is NO_ROOM, also where `out` has a party. */
 uint32_t queue_c_bounded(queue_c_party *out, size_t cap);
 uint32_t queue_c_unbounded(queue_c_party *out);
 
-/* Another party of the same queue, in `out`, which has none: DONE, TAKEN, BUSY, TOO_MANY, NO_MEMORY. But for DONE nothing is changed. */
+/* Another party of the same queue, in `out`, which has none: DONE, TAKEN, BUSY, TOO_MANY, NO_MEMORY. But for DONE nothing is changed. Where `out` has a party it
+ * is TAKEN, also if `party` has none or a call is pending. */
 uint32_t queue_c_split(queue_c_party *party, queue_c_party *out);
 
 /* Drops the party, and its pending call: DONE. The handle then has none. The queue and its items go with the last party. A pending call that is dropped has

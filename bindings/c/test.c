@@ -91,10 +91,10 @@ static void wrong_use_that_is_checked(void) {
     CHECK(queue_c_bounded(&a, 0) == QUEUE_C_NO_ROOM);
     CHECK(queue_c_bounded(&a, SIZE_MAX) == QUEUE_C_NO_MEMORY);
     CHECK(queue_c_bounded(&a, 2) == QUEUE_C_DONE);
-    CHECK(queue_c_bounded(&a, 2) == QUEUE_C_TAKEN && queue_c_unbounded(&a) == QUEUE_C_TAKEN);
+    CHECK(queue_c_bounded(&a, 2) == QUEUE_C_TAKEN && queue_c_unbounded(&a) == QUEUE_C_TAKEN && queue_c_bounded(&a, 0) == QUEUE_C_NO_ROOM);
     CHECK(queue_c_resume(&a, &n) == QUEUE_C_IDLE && n == 9);
     CHECK(queue_c_split(&a, &b) == QUEUE_C_DONE);
-    CHECK(queue_c_split(&a, &b) == QUEUE_C_TAKEN);
+    CHECK(queue_c_split(&a, &b) == QUEUE_C_TAKEN && queue_c_split(&c, &b) == QUEUE_C_TAKEN);
     CHECK(queue_c_finish(&a, &n) == QUEUE_C_SHARED && n == 9);
     CHECK(queue_c_push(&a, 1) == QUEUE_C_DONE);
     CHECK(queue_c_drop(&b) == QUEUE_C_DONE && queue_c_drop(&b) == QUEUE_C_NO_PARTY);

@@ -1,34 +1,36 @@
-//! Links the static library. `QUEUE_C` is the folder with libqueue_c.a, and `RATTLE_C` that with liblibc_c.a, through which it asks for memory.
+//! Links the static library: libqueue_c.a of `lib/ARCH` beside this file, or of the folder that `QUEUE_C` names.
 use std::env;
-use std::path::Path;
+use std::path::PathBuf;
 use std::process::exit;
 
-/// Has the linker look for the library in the folder that the variable names. Otherwise says what is wrong.
-fn link(variable: &str, library: &str) -> Result<(), String> {
-    println!("cargo:rerun-if-env-changed={variable}");
-    let folder = env::var(variable).map_err(|_| format!("{variable} is not set: it has to name the folder with lib{library}.a"))?;
-    let file = Path::new(&folder).join(format!("lib{library}.a"));
-    println!("cargo:rerun-if-changed={}", file.display());
-    if !file.is_file() {
-        return Err(format!("{variable} names the folder {folder}, which has no lib{library}.a"));
+fn variable(name: &str) -> String {
+    env::var(name).unwrap_or_default()
+}
+
+/// The folder with the library for the processors that the crate is built for.
+fn folder() -> Result<PathBuf, String> {
+    let (system, arch) = (variable("CARGO_CFG_TARGET_OS"), variable("CARGO_CFG_TARGET_ARCH"));
+    if system != "linux" || !["x86_64", "aarch64"].contains(&arch.as_str()) {
+        return Err(format!("the library is for Linux on x86-64 and aarch64, not for {system} on {arch}"));
     }
-    println!("cargo:rustc-link-search=native={folder}");
-    println!("cargo:rustc-link-lib=static={library}");
-    Ok(())
+    let named = env::var_os("QUEUE_C").map(PathBuf::from);
+    let folder = named.unwrap_or_else(|| PathBuf::from(variable("CARGO_MANIFEST_DIR")).join("lib").join(arch));
+    let file = folder.join("libqueue_c.a");
+    println!("cargo:rerun-if-changed={}", file.display());
+    if file.is_file() { Ok(folder) } else { Err(format!("{} is not there: bindings/dist makes a folder that has it, and QUEUE_C may name another", file.display())) }
 }
 
 fn main() {
-    let mut wrong = Vec::new();
-    if env::var("CARGO_CFG_TARGET_ARCH").as_deref() != Ok("x86_64") {
-        wrong.push("the library is for x86-64 alone, from x86-64-v2 on".to_string());
-    }
-    for (variable, library) in [("QUEUE_C", "queue_c"), ("RATTLE_C", "libc_c")] {
-        wrong.extend(link(variable, library).err());
-    }
-    if !wrong.is_empty() {
-        for line in wrong {
-            eprintln!("concurrent-queue over queue_c: {line}");
+    println!("cargo:rerun-if-env-changed=QUEUE_C");
+    println!("cargo:rerun-if-changed=build.rs");
+    match folder() {
+        Ok(folder) => {
+            println!("cargo:rustc-link-search=native={}", folder.display());
+            println!("cargo:rustc-link-lib=static=queue_c");
         }
-        exit(1);
+        Err(why) => {
+            eprintln!("concurrent-queue over queue_c: {why}");
+            exit(1);
+        }
     }
 }

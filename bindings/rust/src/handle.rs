@@ -32,7 +32,7 @@ impl<T> Handle<T> {
     ///
     /// # Panics
     ///
-    /// Where the capacity is 0, or so large that no memory has room for it.
+    /// As [`ConcurrentQueue::bounded`](crate::ConcurrentQueue::bounded).
     pub fn bounded(cap: usize) -> Self {
         assert!(cap > 0, "capacity must be positive");
         Self::new(Some(cap))

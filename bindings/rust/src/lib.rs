@@ -5,7 +5,8 @@
 //!
 //! An item that fits a word is a word of the queue. A larger one is boxed.
 //!
-//! It needs the standard library, and a processor of x86-64-v2 or later, whichever features are asked for.
+//! It needs the standard library, and Linux on x86-64 or aarch64, whichever features are asked for. No call is made in a signal handler, or in the forked child of
+//! a process with threads.
 #![deny(unsafe_code, missing_docs)]
 
 #[cfg(feature = "loom")]
@@ -44,7 +45,8 @@ impl<T> ConcurrentQueue<T> {
     ///
     /// # Panics
     ///
-    /// Where the capacity is 0, or so large that no memory has room for it.
+    /// Where the capacity is 0, or its slots, of an item and a word each, have more than `isize::MAX` bytes. Where they have not and there is no memory for them, the
+    /// process ends, as with a `Vec`.
     pub fn bounded(cap: usize) -> Self {
         ConcurrentQueue { pool: Pool::bounded(NonZeroUsize::new(cap).expect("capacity must be positive")) }
     }

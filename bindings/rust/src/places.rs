@@ -7,6 +7,9 @@ use std::ops::{Deref, DerefMut};
 use std::sync::atomic::{AtomicUsize, Ordering};
 use std::sync::{Mutex, MutexGuard, OnceLock, PoisonError};
 
+#[cfg(test)]
+mod tests;
+
 /// How many threads have a place beside the first one.
 const OTHERS: usize = 64;
 

@@ -1,6 +1,6 @@
 //! The library's functions, and items as words.
 //!
-//! Nothing but the tests compares the declarations with `bindings/c/queue_c.h`.
+//! Nothing but the tests compares the declarations with `queue_c.h`. They are of one version, which the library has to be of.
 use crate::errors::{ForcePushError, PopError, PushError};
 use std::alloc::{Layout, handle_alloc_error};
 use std::ffi::c_void;
@@ -38,7 +38,13 @@ unsafe extern "C" {
     fn queue_c_is_closed(party: &mut Handle) -> u32;
     fn queue_c_is_empty(party: &mut Handle) -> u32;
     fn queue_c_is_full(party: &mut Handle) -> u32;
+
+    static queue_c_version_2_0_0: u8;
 }
+
+/// The name that the library of this version alone has.
+#[used]
+static VERSION_WANTED: &u8 = unsafe { &queue_c_version_2_0_0 };
 
 const fn fits_a_word<T>() -> bool {
     size_of::<T>() <= size_of::<Word>() && align_of::<T>() <= align_of::<Word>()

@@ -1,5 +1,8 @@
 //! What the reference's tests do not try: the handles, the pool beyond its places, items of each size, and who drops what is left.
 use concurrent_queue::{ConcurrentQueue, ForcePushError, Handle, PopError, PushError};
+use std::os::unix::process::ExitStatusExt;
+use std::panic::catch_unwind;
+use std::process::Command;
 use std::sync::atomic::{AtomicUsize, Ordering};
 use std::thread;
 
@@ -143,6 +146,32 @@ fn items_of_each_size() {
     goes_through("text".to_string());
     goes_through([7u64; 100]);
     goes_through(Wide(3));
+}
+
+/// The slots have fewer bytes than `isize::MAX`, and more than any memory: a process that asks for them ends.
+#[test]
+fn a_capacity_that_no_memory_has() {
+    const FORM: &str = "FORM_WITHOUT_MEMORY";
+    let large = isize::MAX as usize / 64;
+    match std::env::var(FORM).as_deref() {
+        Ok("queue") => drop(ConcurrentQueue::<u64>::bounded(large)),
+        Ok(_) => drop(Handle::<u64>::bounded(large)),
+        Err(_) => {
+            for form in ["queue", "handle"] {
+                let mut program = Command::new(std::env::current_exe().unwrap());
+                let ended = program.args(["--exact", "a_capacity_that_no_memory_has"]).env(FORM, form).output().unwrap();
+                assert_eq!(ended.status.signal(), Some(6), "{ended:?}");
+            }
+        }
+    }
+}
+
+#[test]
+fn a_capacity_whose_slots_have_too_many_bytes() {
+    for capacity in [0, isize::MAX as usize / 16 + 1, usize::MAX] {
+        assert!(catch_unwind(|| Handle::<u64>::bounded(capacity)).is_err());
+        assert!(catch_unwind(|| ConcurrentQueue::<u64>::bounded(capacity)).is_err());
+    }
 }
 
 /// More threads than places, so that some share a place and parties go to the reserve and back.

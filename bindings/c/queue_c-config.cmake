@@ -1,0 +1,23 @@
+# find_package(queue_c 2 REQUIRED) and target_link_libraries(app PRIVATE queue_c::queue_c). The folder may be moved.
+if(NOT TARGET queue_c::queue_c)
+    get_filename_component(queue_c_prefix "${CMAKE_CURRENT_LIST_DIR}/../../.." ABSOLUTE)
+    set(queue_c_library "${queue_c_prefix}/lib/libqueue_c.a")
+    if(NOT EXISTS "${queue_c_library}")
+        string(TOLOWER "${CMAKE_SYSTEM_PROCESSOR}" queue_c_arch)
+        string(REGEX REPLACE "^amd64$" "x86_64" queue_c_arch "${queue_c_arch}")
+        string(REGEX REPLACE "^arm64$" "aarch64" queue_c_arch "${queue_c_arch}")
+        set(queue_c_library "${queue_c_prefix}/lib/${queue_c_arch}/libqueue_c.a")
+    endif()
+    if(CMAKE_SYSTEM_NAME STREQUAL "Linux" AND EXISTS "${queue_c_library}")
+        add_library(queue_c::queue_c STATIC IMPORTED)
+        set_target_properties(queue_c::queue_c PROPERTIES
+            IMPORTED_LOCATION "${queue_c_library}"
+            INTERFACE_INCLUDE_DIRECTORIES "${queue_c_prefix}/include")
+    else()
+        set(queue_c_FOUND FALSE)
+        set(queue_c_NOT_FOUND_MESSAGE "queue_c is for Linux on x86-64 and aarch64, not for ${CMAKE_SYSTEM_NAME} on ${CMAKE_SYSTEM_PROCESSOR}")
+    endif()
+    unset(queue_c_prefix)
+    unset(queue_c_library)
+    unset(queue_c_arch)
+endif()
