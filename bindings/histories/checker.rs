@@ -1,121 +1,182 @@
-//! Decides whether a history is one legal history of a list with an optional capacity and a closed flag, each call at one moment between its stamps.
+//! Decides whether a history is legal, by the law that `queue_check` decides by: each call has its effects between its beginning and its end, and together they are
+//! those of a list with an optional capacity and a closed flag. A displacement from two slots or more may take two steps, of which one at a time is halfway.
 use crate::history::{Call, Event, History, Reply};
 use std::collections::HashSet;
 
-/// What a queue may do beside the table of one owner.
+/// What displacements may do, and what wrong queues do beside.
 #[derive(Clone, Copy, Default)]
-pub struct Allowance {
-    /// `len`, `is_empty` and `is_full` may see a displacement between its two steps, one item short.
-    pub seen_between: bool,
+pub struct Rules {
+    /// Each displacement is one step.
+    pub at_once: bool,
     /// A displacement may undo a close.
     pub close_lost: bool,
     /// A push may find one slot full while another call takes its item.
     pub full_while_held: bool,
 }
 
-#[derive(Clone, PartialEq, Eq, Hash)]
-struct State {
-    /// How many events of each thread have had their moment.
-    done: Vec<u8>,
+#[derive(Clone, Default, PartialEq, Eq, Hash)]
+struct Queue {
     items: Vec<u64>,
+    /// What the displacement that is halfway brings.
+    coming: Option<u64>,
     closed: bool,
 }
 
-/// What a queue of one owner answers and becomes.
-fn answer(state: &mut State, capacity: Option<usize>, call: Call) -> Reply {
-    let full = capacity.is_some_and(|cap| state.items.len() >= cap);
-    match call {
-        Call::Push(_) | Call::ForcePush(_) if state.closed => Reply::Closed,
-        Call::Push(_) if full => Reply::Full,
-        Call::Push(item) => {
-            state.items.push(item);
-            Reply::Done
-        }
-        Call::ForcePush(item) => {
-            let displaced = if full { Reply::Displaced(state.items.remove(0)) } else { Reply::Done };
-            state.items.push(item);
-            displaced
-        }
-        Call::Pop if !state.items.is_empty() => Reply::Item(state.items.remove(0)),
-        Call::Pop => if state.closed { Reply::Closed } else { Reply::Empty },
-        Call::Close => Reply::yes_if(!std::mem::replace(&mut state.closed, true)),
-        Call::Len => Reply::Len(state.items.len()),
-        Call::IsEmpty => Reply::yes_if(state.items.is_empty()),
-        Call::IsFull => Reply::yes_if(full),
-        Call::IsClosed => Reply::yes_if(state.closed),
-    }
+/// How far a call is.
+#[derive(Clone, Copy, PartialEq, Eq, Hash)]
+enum Way {
+    Waiting { was_open: bool },
+    Halfway,
+    Answered,
 }
 
-/// The answer of a question that sees so many items.
-fn answer_of(len: usize, capacity: Option<usize>, call: Call) -> Option<Reply> {
-    match call {
-        Call::Len => Some(Reply::Len(len)),
-        Call::IsEmpty => Some(Reply::yes_if(len == 0)),
-        Call::IsFull => Some(Reply::yes_if(capacity.is_some_and(|cap| len >= cap))),
-        _ => None,
+/// The queue, and the call that each thread is in.
+#[derive(Clone, PartialEq, Eq, Hash)]
+struct Stage {
+    queue: Queue,
+    calls: Vec<Option<Way>>,
+}
+
+impl Stage {
+    fn moved(&self, thread: usize, queue: Queue, way: Way) -> Stage {
+        let mut next = Stage { queue, calls: self.calls.clone() };
+        next.calls[thread] = Some(way);
+        next
     }
 }
 
 struct Checker<'a> {
     history: &'a History,
     capacity: Option<usize>,
-    allowance: Allowance,
+    rules: Rules,
 }
 
 impl Checker<'_> {
-    fn overlapping<'b>(&'b self, event: &'b Event) -> impl Iterator<Item = &'b Event> {
-        self.history.events().filter(|other| event.overlaps(other))
+    fn is_full(&self, queue: &Queue) -> bool {
+        self.capacity == Some(queue.items.len())
     }
 
-    /// The states after the event, if it may have its moment here.
-    fn after(&self, state: &State, event: &Event) -> Vec<State> {
-        let mut next = state.clone();
-        let mut states = Vec::new();
-        if answer(&mut next, self.capacity, event.call) == event.reply {
-            states.push(next);
-        } else if self.allowance.seen_between {
-            let between = self.overlapping(event).filter(|other| other.displaces()).count();
-            let lens = (1..=between).filter_map(|short| state.items.len().checked_sub(short));
-            if lens.into_iter().any(|len| answer_of(len, self.capacity, event.call) == Some(event.reply)) {
-                states.push(state.clone());
-            }
+    /// Whether the reply is right at this queue, and stands for no effect.
+    fn sees(&self, queue: &Queue, call: Call, reply: Reply) -> bool {
+        let is_gone = queue.items.is_empty() && queue.coming.is_none();
+        match (call, reply) {
+            (Call::Push(_), Reply::Full) => !queue.closed && self.is_full(queue),
+            (Call::Push(_) | Call::ForcePush(_), Reply::Closed) => queue.closed,
+            (Call::Pop, Reply::Empty) => is_gone && !queue.closed,
+            (Call::Pop, Reply::Closed) => is_gone && queue.closed,
+            (Call::Close, Reply::No) => queue.closed,
+            (Call::Len, Reply::Len(len)) => len == queue.items.len(),
+            (Call::IsEmpty, Reply::Yes | Reply::No) => reply == Reply::yes_if(queue.items.is_empty()),
+            (Call::IsFull, Reply::Yes | Reply::No) => reply == Reply::yes_if(self.is_full(queue)),
+            (Call::IsClosed, Reply::Yes | Reply::No) => reply == Reply::yes_if(queue.closed),
+            _ => false,
         }
-        if self.allowance.close_lost && state.closed {
-            let mut open = State { closed: false, ..state.clone() };
-            if event.displaces() && answer(&mut open, self.capacity, event.call) == event.reply {
-                states.push(open);
-            }
-        }
-        if self.allowance.full_while_held && self.capacity == Some(1) && matches!((event.call, event.reply), (Call::Push(_), Reply::Full)) && self.overlapping(event).any(Event::takes) {
-            states.push(state.clone());
-        }
-        states
     }
 
-    /// Depth first over the orders of the moments. A state that was met is not met again.
-    fn is_legal(&self) -> bool {
-        let threads = &self.history.0;
-        let start = State { done: vec![0; threads.len()], items: Vec::new(), closed: false };
-        let mut met = HashSet::from([start.clone()]);
-        let mut open = vec![start];
-        while let Some(state) = open.pop() {
-            let next: Vec<(usize, &Event)> =
-                threads.iter().enumerate().filter_map(|(thread, events)| Some((thread, events.get(state.done[thread] as usize)?))).collect();
-            // No event may have its moment after one whose end is earlier than its start.
-            let Some(first_end) = next.iter().map(|(_, event)| event.end).min() else { return true };
-            for (thread, event) in next {
-                if event.start > first_end {
-                    continue;
-                }
-                for mut after in self.after(&state, event) {
-                    after.done[thread] += 1;
-                    if met.insert(after.clone()) {
-                        open.push(after);
+    /// The queue after the only effect that the reply stands for, if it may be here.
+    fn acts(&self, queue: &Queue, call: Call, reply: Reply) -> Option<Queue> {
+        let mut next = queue.clone();
+        match (call, reply) {
+            (Call::Push(item) | Call::ForcePush(item), Reply::Done) if !queue.closed && queue.coming.is_none() && !self.is_full(queue) => next.items.push(item),
+            (Call::ForcePush(item), Reply::Displaced(old)) if self.capacity == Some(1) && !queue.closed && queue.items == [old] => next.items = vec![item],
+            (Call::Pop, Reply::Item(item)) if queue.items.first() == Some(&item) => drop(next.items.remove(0)),
+            (Call::Close, Reply::Yes) if !queue.closed => next.closed = true,
+            _ => return None,
+        }
+        Some(next)
+    }
+
+    /// The queue after the first step of a displacement, if it may be here.
+    fn parts(&self, queue: &Queue, call: Call, reply: Reply) -> Option<Queue> {
+        let (Call::ForcePush(item), Reply::Displaced(old)) = (call, reply) else { return None };
+        let may = self.capacity != Some(1) && self.is_full(queue) && queue.coming.is_none() && queue.items.first() == Some(&old);
+        may.then(|| Queue { items: queue.items[1..].to_vec(), coming: Some(item), closed: queue.closed })
+    }
+
+    fn arrives(queue: &Queue) -> Queue {
+        let items = queue.items.iter().copied().chain(queue.coming).collect();
+        Queue { items, coming: None, closed: queue.closed }
+    }
+
+    /// What a queue may do that is wrong, and is of a kind that has a name.
+    fn is_wrong_alike(&self, stage: &Stage, thread: usize, event: &Event) -> Option<Stage> {
+        let queue = &stage.queue;
+        if self.rules.full_while_held && self.capacity == Some(1) && matches!((event.call, event.reply), (Call::Push(_), Reply::Full)) {
+            let is_held = self.history.events().any(|other| event.overlaps(other) && other.takes());
+            return is_held.then(|| stage.moved(thread, queue.clone(), Way::Answered));
+        }
+        if self.rules.close_lost && queue.closed && event.displaces() {
+            let open = Queue { closed: false, ..queue.clone() };
+            let parted = self.parts(&open, event.call, event.reply)?;
+            return Some(stage.moved(thread, Self::arrives(&parted), Way::Answered));
+        }
+        None
+    }
+
+    /// The stages to which the thread's call, which gets this reply, leads by one step.
+    fn moves(&self, stage: &Stage, thread: usize, event: &Event) -> Vec<Stage> {
+        let queue = &stage.queue;
+        let was_open = match stage.calls[thread] {
+            Some(Way::Waiting { was_open }) => was_open,
+            Some(Way::Halfway) => return vec![stage.moved(thread, Self::arrives(queue), Way::Answered)],
+            Some(Way::Answered) | None => return Vec::new(),
+        };
+        let mut next = Vec::new();
+        if self.sees(queue, event.call, event.reply) {
+            next.push(stage.moved(thread, queue.clone(), Way::Answered));
+        }
+        next.extend(self.acts(queue, event.call, event.reply).map(|after| stage.moved(thread, after, Way::Answered)));
+        if let Some(parted) = self.parts(queue, event.call, event.reply) {
+            if self.rules.at_once && !queue.closed {
+                next.push(stage.moved(thread, Self::arrives(&parted), Way::Answered));
+            } else if !self.rules.at_once && was_open {
+                next.push(stage.moved(thread, parted, Way::Halfway));
+            }
+        }
+        next.extend(self.is_wrong_alike(stage, thread, event));
+        next
+    }
+
+    /// The stages at which the thread's call has its reply, from these on by any steps of the calls that have begun.
+    fn answered(&self, stages: HashSet<Stage>, thread: usize, current: &[Option<&Event>]) -> HashSet<Stage> {
+        let mut met = stages.clone();
+        let mut open: Vec<Stage> = stages.into_iter().collect();
+        let mut answered = HashSet::new();
+        while let Some(stage) = open.pop() {
+            if stage.calls[thread] == Some(Way::Answered) {
+                answered.insert(stage);
+                continue;
+            }
+            for (other, event) in current.iter().enumerate() {
+                for next in event.iter().flat_map(|event| self.moves(&stage, other, event)) {
+                    if met.insert(next.clone()) {
+                        open.push(next);
                     }
                 }
             }
         }
-        false
+        answered
+    }
+
+    /// Goes through the beginnings and ends in the order of time, with all stages that an order of effects can be at.
+    fn is_legal(&self) -> bool {
+        let threads = self.history.0.len();
+        let mut current: Vec<Option<&Event>> = vec![None; threads];
+        let mut stages = HashSet::from([Stage { queue: Queue::default(), calls: vec![None; threads] }]);
+        for (thread, event, is_begin) in self.history.in_time() {
+            let record = |mut stage: Stage| {
+                stage.calls[thread] = is_begin.then_some(Way::Waiting { was_open: !stage.queue.closed });
+                stage
+            };
+            if is_begin {
+                current[thread] = Some(event);
+            } else {
+                stages = self.answered(stages, thread, &current);
+                current[thread] = None;
+            }
+            stages = stages.into_iter().map(record).collect();
+        }
+        !stages.is_empty()
     }
 }
 
@@ -124,7 +185,7 @@ impl Checker<'_> {
 pub enum Verdict {
     /// Each call is atomic.
     Legal,
-    /// Legal where a displacement is seen between its two steps.
+    /// Legal where a displacement takes two steps.
     LegalBetween,
     /// Illegal, and legal where a displacement may undo a close.
     CloseLost,
@@ -141,13 +202,12 @@ impl Verdict {
 }
 
 pub fn decide(history: &History, capacity: Option<usize>) -> Verdict {
-    let seen_between = true;
     let tries = [
-        (Verdict::Legal, Allowance::default()),
-        (Verdict::LegalBetween, Allowance { seen_between, ..Allowance::default() }),
-        (Verdict::CloseLost, Allowance { seen_between, close_lost: true, ..Allowance::default() }),
-        (Verdict::FullWhileHeld, Allowance { seen_between, full_while_held: true, ..Allowance::default() }),
+        (Verdict::Legal, Rules { at_once: true, ..Rules::default() }),
+        (Verdict::LegalBetween, Rules::default()),
+        (Verdict::CloseLost, Rules { close_lost: true, ..Rules::default() }),
+        (Verdict::FullWhileHeld, Rules { full_while_held: true, ..Rules::default() }),
     ];
-    let found = tries.into_iter().find(|(_, allowance)| Checker { history, capacity, allowance: *allowance }.is_legal());
+    let found = tries.into_iter().find(|(_, rules)| Checker { history, capacity, rules: *rules }.is_legal());
     found.map_or(Verdict::Illegal, |(verdict, _)| verdict)
 }

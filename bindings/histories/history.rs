@@ -62,6 +62,16 @@ impl History {
         self.0.iter().flatten()
     }
 
+    /// The beginnings and ends in the order of time: whose, of which call, and whether it begins.
+    pub fn in_time(&self) -> Vec<(usize, &Event, bool)> {
+        let of_thread = |(thread, events): (usize, &'_ Vec<Event>)| -> Vec<(u64, usize, usize, bool)> {
+            events.iter().enumerate().flat_map(|(at, event)| [(event.start, thread, at, true), (event.end, thread, at, false)]).collect()
+        };
+        let mut stamps: Vec<_> = self.0.iter().enumerate().flat_map(of_thread).collect();
+        stamps.sort_unstable();
+        stamps.into_iter().map(|(_, thread, at, is_begin)| (thread, &self.0[thread][at], is_begin)).collect()
+    }
+
     /// Whether two threads were in calls at one time.
     pub fn has_overlap(&self) -> bool {
         let mut pairs = self.0.iter().enumerate().flat_map(|(i, one)| self.0[..i].iter().map(move |other| (one, other)));

@@ -1,7 +1,9 @@
 //! Records histories of threads on real queues and decides each. `histories COUNT SEED [first]`: so many of each capacity, or with `first` until one is illegal.
-//! Its status is 1 where one is illegal.
+//! Its status is 1 where one is illegal. `QUEUE_CHECK` may be the path of the proved program: then one of so many is decided by it too, as are the first that are
+//! illegal, and the program stops where the two differ.
 mod checker;
 mod history;
+mod proved;
 mod record;
 mod users;
 
@@ -9,6 +11,10 @@ use checker::{Verdict, decide};
 use record::{BATCH, Random, record};
 use std::collections::BTreeMap;
 use std::process::ExitCode;
+
+/// Of so many histories the proved program decides one too, and so many that are illegal.
+const ASKED_OF: usize = 16;
+const ASKED_ILLEGAL: usize = 50;
 
 const CAPACITIES: [Option<usize>; 6] = [Some(1), Some(2), Some(3), Some(4), Some(64), None];
 
@@ -18,6 +24,7 @@ struct Found {
     histories: usize,
     with_overlap: usize,
     displacements: usize,
+    asked: usize,
     verdicts: BTreeMap<Verdict, usize>,
 }
 
@@ -34,6 +41,7 @@ impl Found {
 fn try_capacity(capacity: Option<usize>, count: usize, seed: u64, only_first: bool, shown: &mut bool) -> Found {
     let mut random = Random::new(seed);
     let mut found = Found::default();
+    let queue_check = std::env::var("QUEUE_CHECK").ok();
     while found.histories < count && !(only_first && found.illegal() > 0) {
         for history in record(&mut random, capacity) {
             let verdict = decide(&history, capacity);
@@ -41,6 +49,14 @@ fn try_capacity(capacity: Option<usize>, count: usize, seed: u64, only_first: bo
             found.with_overlap += usize::from(history.has_overlap());
             found.displacements += history.events().filter(|event| event.displaces()).count();
             *found.verdicts.entry(verdict).or_default() += 1;
+            let is_asked = if verdict.is_legal() { found.histories % ASKED_OF == 0 } else { found.illegal() <= ASKED_ILLEGAL };
+            if let Some(program) = queue_check.as_deref().filter(|_| is_asked) {
+                found.asked += 1;
+                if !proved::agrees(program, &history, capacity, verdict) {
+                    history.print();
+                    panic!("queue_check does not find it {verdict:?}");
+                }
+            }
             if !verdict.is_legal() && !*shown {
                 *shown = true;
                 println!("an illegal history, {verdict:?}, capacity {}:", capacity.unwrap_or(0));
@@ -60,7 +76,7 @@ fn main() -> ExitCode {
     for (at, capacity) in CAPACITIES.into_iter().enumerate() {
         let found = try_capacity(capacity, count, seed + 1000 * at as u64, only_first, &mut shown);
         println!(
-            "{}, capacity {}: {} histories, {} with calls at one time, {} displacements; legal only with a displacement seen between {}; illegal {} (a close is lost {}, Full while the item is taken {}, other {})",
+            "{}, capacity {}: {} histories, {} with calls at one time, {} displacements; legal only with a displacement in two steps {}; illegal {} (a close is lost {}, Full while the item is taken {}, other {}); queue_check found {} the same",
             users::NAME,
             capacity.map_or("none".to_string(), |cap| cap.to_string()),
             found.histories,
@@ -71,6 +87,7 @@ fn main() -> ExitCode {
             found.of(Verdict::CloseLost),
             found.of(Verdict::FullWhileHeld),
             found.of(Verdict::Illegal),
+            found.asked,
         );
         histories += found.histories;
         illegal += found.illegal();

@@ -6,7 +6,7 @@ rust=(rustc --edition 2021 -C opt-level=3 -C codegen-units=1 --cap-lints allow)
 # FOLDER LIBRARY: builds the drop-in over that library.
 build_drop_in() {
     mkdir -p "$1"
-    "${rust[@]}" --crate-type rlib --crate-name concurrent_queue -L "native=$2" -L "native=$RATTLE_C" -l static=queue_c -l static=libc_c --out-dir "$1" "$here/rust/src/lib.rs"
+    "${rust[@]}" --crate-type rlib --crate-name concurrent_queue -L "native=$2" -l static=queue_c --out-dir "$1" "$here/rust/src/lib.rs"
 }
 
 # Finds the crate's source: the version that this repository ports is in Debian 13.
@@ -35,11 +35,12 @@ build_over() {
     "${rust[@]}" "$@" --extern "concurrent_queue=$folder/libconcurrent_queue.rlib" -L "$folder" -o "$out" "$source"
 }
 
-# Names the folders of the library, which has been built, and of the C library that it asks for memory.
+# Builds the library for this machine, once, and names its folder. In a fresh clone this proves all that it is built on, which may take an hour. So it has no
+# limit of time.
 name_library() {
-    QUEUE_C=$here/../crates/queue_c/out
-    RATTLE_C=$(dirname "$(realpath "$(command -v rt)")")/../c
-    export QUEUE_C RATTLE_C
+    library=$work/library
+    [ -f "$library/libqueue_c.a" ] || "$here/tools/library.py" "$library" >"$work/proved"
+    export QUEUE_C=$library
 }
 
 # Builds bench.c, bench.rs, pair.c and pair.rs, from the folder bench.
@@ -47,7 +48,7 @@ build_forms() {
     local source
     name_library
     for source in bench pair; do
-        cc -std=c11 -D_POSIX_C_SOURCE=200809L -O2 -I "$here/c" -pthread -o "$work/${source}_c" "$source.c" "$QUEUE_C/libqueue_c.a" "$RATTLE_C/liblibc_c.a"
+        cc -std=c11 -D_POSIX_C_SOURCE=200809L -O2 -I "$here/c" -pthread -o "$work/${source}_c" "$source.c" "$QUEUE_C/libqueue_c.a"
     done
     build_drop_in "$work/ours" "$QUEUE_C"
     find_reference

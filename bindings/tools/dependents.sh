@@ -3,6 +3,9 @@
 # How many seconds a crate's tests may take.
 limit=1800
 
+# The crate that takes the place of concurrent-queue.
+drop_in=$here/rust
+
 # SIDE: a folder whose crates come from Debian's packages, with the library's crate for concurrent-queue where the side is `ours`.
 make_side() {
     mkdir -p "$work/$1/.cargo"
@@ -14,7 +17,7 @@ replace-with = "debian"
 directory = "$registry"
 END
     if [ "$1" = ours ]; then
-        cp -r "$here/rust" "$work/$1/concurrent-queue"
+        cp -r "$drop_in" "$work/$1/concurrent-queue"
         cp "$here/README.md" "$work/$1/README.md"
         # Those that stand on it want none of its own tests' crates.
         sed -i '/^# Stand-ins/,/^$/d' "$work/$1/concurrent-queue/Cargo.toml"
@@ -66,10 +69,10 @@ run_tests() {
     fi
 }
 
-# The table, and a failure where a test fails over ours that passes over the reference.
+# [CRATE]: the table, of all crates or of this one, and a failure where a test fails over ours that passes over the reference.
 check_dependents() {
     local crate flags names side folder only crates=() rows=()
-    mapfile -t rows < <(grep -v '^#' "$here/dependents.txt" | tr -s ' ')
+    mapfile -t rows < <(grep "^${1:-[^#]}" "$here/dependents.txt" | tr -s ' ')
     mapfile -t crates < <(printf '%s\n' "${rows[@]}" | awk -F'|' '{ print $1, $3 }' | xargs -n 1 | sort -u)
     if ! debian_open "$work/debian" || ! debian_crates concurrent-queue "${crates[@]}"; then
         failed=$((failed + 1))

@@ -2,7 +2,7 @@
 
 # OUT LIBRARY: builds the recorder over C's handles of that library.
 build_over_handles() {
-    "${rust[@]}" --cfg c_handles -L "native=$2" -L "native=$RATTLE_C" -l static=queue_c -l static=libc_c -o "$1" "$here/histories/main.rs"
+    "${rust[@]}" --cfg c_handles -L "native=$2" -l static=queue_c -o "$1" "$here/histories/main.rs"
 }
 
 # SIDE: counts channels of async-channel that are open again, over that side's queue.
@@ -29,10 +29,40 @@ END
     env -C "$work/$1/lost_close" CARGO_TARGET_DIR="$work/$1/target" timeout 900 cargo run --offline --release --quiet
 }
 
+# Builds the program that decides histories and is proved, or takes the one that QUEUE_CHECK names.
+name_queue_check() {
+    if [ -z "${QUEUE_CHECK:-}" ]; then
+        # It ends as it does without an argument.
+        env -C "$here/../crates/queue_check" rt run </dev/null >"$work/log" 2>&1 || true
+        QUEUE_CHECK=$here/../crates/queue_check/out/queue_check
+    fi
+    if [ ! -x "$QUEUE_CHECK" ]; then
+        echo "queue_check, which is to decide histories: FAILED"
+        tail -n 20 "$work/log"
+        failed=$((failed + 1))
+        return 1
+    fi
+    export QUEUE_CHECK
+}
+
+# NAME COMMAND..: of this queue some history has to be illegal, which status 1 says. Each other status is a failure.
+check_some_illegal() {
+    local name=$1 status=0
+    shift
+    timeout 3600 "$@" >"$work/log" 2>&1 || status=$?
+    case $status in
+        0) echo "$name: no history is illegal: FAILED" ;;
+        1) echo "$name: $(tail -n 1 "$work/log")" && return ;;
+        *) echo "$name: FAILED, status $status" && tail -n 20 "$work/log" ;;
+    esac
+    failed=$((failed + 1))
+}
+
 # COUNT: the histories of each form, so many of each capacity, and queues that are open again. None over our library may be illegal, and some over the crate
 # concurrent-queue and over each wrong library have to be.
 check_histories() {
     local count=$1 form shim name side
+    name_queue_check || return 0
     build_over_handles "$work/handles" "$QUEUE_C"
     build_drop_in "$work/ours" "$QUEUE_C"
     build_over "$work/drop_in" "$here/histories/main.rs" "$work/ours"
@@ -51,12 +81,7 @@ check_histories() {
     for shim in "$here"/wrong/*.c; do
         name=$(basename "$shim")
         build_over_handles "$work/wrong_handles" "$(library_with "$shim")"
-        if timeout 600 "$work/wrong_handles" 4096 1 first >"$work/log"; then
-            echo "wrong/$name: no history is illegal: FAILED"
-            failed=$((failed + 1))
-        else
-            echo "wrong/$name: $(tail -n 1 "$work/log")"
-        fi
+        check_some_illegal "wrong/$name" "$work/wrong_handles" 4096 1 first
     done
     if ! find_reference; then
         failed=$((failed + 1))
@@ -65,11 +90,8 @@ check_histories() {
     build_reference "$work/reference"
     build_over "$work/control" "$here/histories/main.rs" "$work/reference"
     build_over "$work/lost_close_reference" "$here/histories/lost_close.rs" "$work/reference"
-    echo "the control, concurrent-queue $version:"
-    if timeout 3600 "$work/control" "$count" 1; then
-        echo "histories, the control: no history is illegal: FAILED"
-        failed=$((failed + 1))
-    fi
+    check_some_illegal "the control, concurrent-queue $version" "$work/control" "$count" 1
+    grep ', capacity ' "$work/log" || true
     echo "concurrent-queue $version, queues that are open again:"
     if timeout 600 "$work/lost_close_reference"; then
         echo "lost_close, the control: no queue is open again"

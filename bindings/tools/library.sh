@@ -13,14 +13,12 @@ try() {
     return 1
 }
 
-# Builds the library. In a fresh clone this proves all that it is built on, which may take an hour. So it has no limit of time.
+# Builds the library.
 build_library() {
-    if ! env -C "$here/../crates/queue_c" rt lib >"$work/log" 2>&1; then
+    if ! name_library; then
         echo "the library: FAILED"
-        tail -n 40 "$work/log"
         exit 1
     fi
-    name_library
     export CARGO_TARGET_DIR=$work/target
     echo "the library: $(nm -g --defined-only "$QUEUE_C/libqueue_c.a" 2>/dev/null | grep -c ' T queue_c_') functions"
 }
@@ -33,7 +31,7 @@ library_with() {
     for symbol in $(nm --defined-only "$work/$name.o" | sed -n 's/.* T //p'); do
         renames+=(--redefine-sym "$symbol=right_$symbol")
     done
-    objcopy "${renames[@]}" "$here/../crates/queue_c/out/libqueue_c.a" "$work/$name/libqueue_c.a"
+    objcopy "${renames[@]}" "$library/libqueue_c.a" "$work/$name/libqueue_c.a"
     ar r "$work/$name/libqueue_c.a" "$work/$name.o" 2>/dev/null
     echo "$work/$name"
 }

@@ -54,7 +54,7 @@ check_keeps() {
     local shim name
     for shim in "$here"/keeps/*.c; do
         name=$(basename "$shim" .c)
-        check_refused "LeakSanitizer: detected memory leaks" make -s -C c test OUT="$work/keeps_$name" QUEUE_C="$(library_with "$shim")" CFLAGS="$1" ARGS=200
+        check_refused "LeakSanitizer: detected memory leaks" make -s -C c test_c OUT="$work/keeps_$name" QUEUE_C="$(library_with "$shim")" CFLAGS="$1" ARGS=200
         echo "keeps/$name.c: $(sed -n 's/^SUMMARY: //p' "$work/log")"
     done
 }
@@ -66,7 +66,14 @@ check_c() {
         echo "c/queue_c.h: QUEUE_C_VERSION is $version, and the repository's version is another: FAILED"
         failed=$((failed + 1))
     fi
-    if try "c/test.c" make -s -C c test OUT="$work/c"; then
+    if [ "$(grep -ho "queue_c_version_[0-9_]*" c/queue_c.h rust/src/raw.rs | sort -u)" != "queue_c_version_${version//./_}" ]; then
+        echo "queue_c_version_..: c/queue_c.h or rust/src/raw.rs has not version $version: FAILED"
+        failed=$((failed + 1))
+    fi
+    if try "c/heap_test.c" make -s -C c test_heap OUT="$work/c"; then
+        echo "c/heap_test.c: $(tail -n 1 "$work/log")"
+    fi
+    if try "c/test.c" make -s -C c test_c OUT="$work/c"; then
         echo "c/test.c: $(tail -n 1 "$work/log")"
     fi
     if command -v "${CXX:-c++}" >/dev/null; then
@@ -76,15 +83,15 @@ check_c() {
     else
         echo "c/test.cpp: not tried, there is no C++ compiler"
     fi
-    if try "make install" make -s -C c install DESTDIR="$work/installed" PREFIX=/usr && command -v pkg-config >/dev/null; then
-        export PKG_CONFIG_PATH=$work/installed/usr/lib/pkgconfig PKG_CONFIG_SYSROOT_DIR=$work/installed PKG_CONFIG_ALLOW_SYSTEM_CFLAGS=1 PKG_CONFIG_ALLOW_SYSTEM_LIBS=1
-        if try "c/test.c by pkg-config" sh -c 'cc -std=c11 -D_POSIX_C_SOURCE=200809L -O2 -o "$1" c/test.c $(pkg-config --cflags --libs queue_c) && "$1" 300' sh "$work/by_pkg_config"; then
+    if try "make install" make -s -C c install PREFIX="$work/installed" && command -v pkg-config >/dev/null; then
+        export PKG_CONFIG_PATH=$work/installed/lib/pkgconfig
+        if try "c/test.c by pkg-config" sh -c 'cc -std=c11 -D_POSIX_C_SOURCE=200809L -O2 -o "$1" c/test.c $(pkg-config --cflags --libs queue_c) -pthread && "$1" 300' sh "$work/by_pkg_config"; then
             echo "c/test.c by pkg-config: $(tail -n 1 "$work/log")"
         fi
-        unset PKG_CONFIG_PATH PKG_CONFIG_SYSROOT_DIR PKG_CONFIG_ALLOW_SYSTEM_CFLAGS PKG_CONFIG_ALLOW_SYSTEM_LIBS
+        unset PKG_CONFIG_PATH
     fi
     if echo 'int main(void) { return 0; }' | cc $sanitize -x c -o "$work/sanitized" - 2>"$work/log"; then
-        if try "c/test.c with ASan and UBSan" make -s -C c test OUT="$work/sanitize" CFLAGS="$sanitize" ARGS=2000; then
+        if try "c/test.c with ASan and UBSan" make -s -C c test_c OUT="$work/sanitize" CFLAGS="$sanitize" ARGS=2000; then
             echo "c/test.c with ASan and UBSan: $(tail -n 1 "$work/log")"
         fi
         check_keeps "$sanitize"
@@ -121,14 +128,15 @@ check_tests() {
     check_c
     cp -r "$here/rust" "$work/ours"
     cd "$work/ours"
-    check_refused "QUEUE_C is not set" env -u QUEUE_C cargo build --offline --release
-    check_refused "which has no liblibc_c.a" env RATTLE_C="$work" cargo build --offline --release
-    check_refused "from x86-64-v2 on" cargo build --offline --release --target aarch64-unknown-linux-gnu
+    check_refused "libqueue_c.a is not there" env -u QUEUE_C cargo build --offline --release
+    check_refused "libqueue_c.a is not there" env QUEUE_C="$work" cargo build --offline --release
+    check_refused "for Linux on x86-64 and aarch64, not for unknown on wasm32" cargo build --offline --release --target wasm32-unknown-unknown
     check_refused "the feature \`loom\`" cargo build --offline --release --features loom
     for test in tests/*.rs; do
         file=$(basename "$test")
         cargo_tests "rust/tests/$file" --test "${file%.rs}"
     done
+    cargo_tests "rust/src/places/tests.rs" --lib
     cargo_tests "rust/src/refused.rs" --doc
     # No handle may be in two calls, though such a call might answer right.
     export QUEUE_C=$(library_with "$here/tools/one_call.c") CARGO_PROFILE_RELEASE_LTO=off
