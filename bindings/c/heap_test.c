@@ -13,7 +13,7 @@ struct block rattle_realloc(void *p, size_t kept, size_t n, size_t a);
 void rattle_dealloc(void *p);
 
 enum { LARGEST = 4096 };
-static const size_t times[] = {0, 1, 2, 3, 7, 33, 255, 4096};
+static const size_t times[] = {0, 1, 2, 3, 7, 33, 255, 517};
 #define TIMES (sizeof times / sizeof *times)
 
 static unsigned long checks, moved;
