@@ -1,6 +1,7 @@
 // The library from C++: a party that is dropped with its owner, and a thread that pops what another one pushes.
 #include "queue_c.h"
 #include <cstdio>
+#include <cstdlib>
 #include <thread>
 
 namespace {
@@ -24,15 +25,14 @@ private:
     queue_c_party party_ = QUEUE_C_NONE;
 };
 
-constexpr std::uint64_t count = 100000;
-
 }
 
-int main() {
+int main(int argc, char **argv) {
+    const std::uint64_t count = argc > 1 ? std::strtoull(argv[1], nullptr, 10) : 100000;
     Party mine, theirs;
     if (!mine.open(8) || !mine.split_to(theirs)) return 1;
     std::uint64_t sum = 0;
-    std::thread popper([&theirs, &sum] {
+    std::thread popper([&theirs, &sum, count] {
         for (std::uint64_t popped = 0; popped < count;) {
             std::uint64_t value = 0;
             if (theirs.pop(value)) {

@@ -3,6 +3,9 @@
 use crate::history::{Call, Event, History, Reply};
 use std::collections::HashSet;
 
+#[cfg(test)]
+mod tests;
+
 /// What displacements may do, and what wrong queues do beside.
 #[derive(Clone, Copy, Default)]
 pub struct Rules {

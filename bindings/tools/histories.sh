@@ -1,8 +1,8 @@
 # Histories of real threads, and queues and channels that are open again. To be sourced; wants tools/library.sh, tools/build.sh and tools/dependents.sh.
 
-# OUT LIBRARY: builds the recorder over C's handles of that library.
+# OUT LIBRARY FLAG..: builds the recorder over C's handles of that library.
 build_over_handles() {
-    "${rust[@]}" --cfg c_handles -L "native=$2" -l static=queue_c -o "$1" "$here/histories/main.rs"
+    "${rust[@]}" --cfg c_handles "${@:3}" -L "native=$2" -l static=queue_c -o "$1" "$here/histories/main.rs"
 }
 
 # SIDE: counts channels of async-channel that are open again, over that side's queue.
@@ -63,6 +63,10 @@ check_some_illegal() {
 check_histories() {
     local count=$1 form shim name side
     name_queue_check || return 0
+    build_over_handles "$work/known" "$QUEUE_C" --test
+    if try "histories/checker/tests.rs" "$work/known"; then
+        echo "histories/checker/tests.rs: $(sed -n 's/^test result: ok. \([0-9]*\) passed.*/\1/p' "$work/log") passed"
+    fi
     build_over_handles "$work/handles" "$QUEUE_C"
     build_drop_in "$work/ours" "$QUEUE_C"
     build_over "$work/drop_in" "$here/histories/main.rs" "$work/ours"

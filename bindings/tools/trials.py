@@ -123,7 +123,7 @@ class Trials:
         self("ld.lld", 'clang $flags -fuse-ld=lld -I"$I" -o a "$F/c/test.c" "$L"; ./a 300', "clang", "ld.lld")
         self("ld.gold", 'gcc $flags -fuse-ld=gold -I"$I" -o a "$F/c/test.c" "$L"; ./a 300', "gcc", "ld.gold")
         for cxx in ("g++", "clang++"):
-            self(f"{cxx} test.cpp", f'{cxx} -std=c++17 -O2 -Wall -Wextra -Werror -pthread -I"$I" -o a "$F/c/test.cpp" "$L"; ./a', cxx)
+            self(f"{cxx} test.cpp", f'{cxx} -std=c++17 -O2 -Wall -Wextra -Werror -pthread -I"$I" -o a "$F/c/test.cpp" "$L"; ./a 10000', cxx)
         self.file("app.c", APP)
         self("the header as C99 and as C++11", 'for of in "gcc -std=c99 -x c" "g++ -std=c++11 -x c++"; do $of -pedantic -Wall -Wextra -Werror -I"$I" app.c -x none "$L" -o a; ./a; done', "gcc", "g++")
         for static in ("-static", ""):
