@@ -66,7 +66,7 @@ check_c() {
         echo "c/queue_c.h: QUEUE_C_VERSION is $version, and the repository's version is another: FAILED"
         failed=$((failed + 1))
     fi
-    if [ "$(grep -ho "queue_c_version_[0-9_]*" c/queue_c.h rust/src/raw.rs | sort -u)" != "queue_c_version_${version//./_}" ]; then
+    if [ "$(grep -ho "queue_c_version_[0-9][0-9_]*" c/queue_c.h rust/src/raw.rs | sort -u)" != "queue_c_version_${version//./_}" ]; then
         echo "queue_c_version_..: c/queue_c.h or rust/src/raw.rs has not version $version: FAILED"
         failed=$((failed + 1))
     fi

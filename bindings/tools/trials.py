@@ -136,7 +136,7 @@ class Trials:
         self("a shared library that exports none of it", shared % ",--exclude-libs,libqueue_c.a" + "! grep -e queue_c_ -e rattle_ names; echo none")
         whole = '$cc -shared -o libqueue_c.so -Wl,--whole-archive "$L" -Wl,--no-whole-archive; nm -D --defined-only libqueue_c.so >names; test $(grep -c " T queue_c_" names) = 15; test $(wc -l <names) = 16; echo 15 functions and the version'
         self("the whole of it as a shared library", whole)
-        version = 'mkdir -p other; sed "s/queue_c_version_[0-9_]*/queue_c_version_1_0_0/" "$I/queue_c.h" >other/queue_c.h; '
+        version = 'mkdir -p other; sed "s/queue_c_version_[0-9][0-9_]*/queue_c_version_1_0_0/" "$I/queue_c.h" >other/queue_c.h; '
         for flags in ("", "-flto", "-O2 -Wl,--gc-sections -ffunction-sections -fdata-sections"):
             self(f"a header of another version does not link {flags}", version + f'! $cc $flags {flags} -Iother -o a app.c "$L" 2>said; grep -m 1 -o "undefined.*queue_c_version_1_0_0" said')
 
@@ -151,7 +151,7 @@ class Trials:
         self.file("cm/CMakeLists.txt", cmake % 2)
         for where in ("$F/c", "$PWD/moved"):
             self(f"CMake over {where}", f'rm -rf built; cmake -S cm -B built -DCMAKE_PREFIX_PATH="{where}" >said; cmake --build built >said; built/app; echo built', "cmake")
-        self("CMake refuses another version", f"sed -i 's/queue_c 2/queue_c 3/' cm/CMakeLists.txt; ! cmake -S cm -B other_version -DCMAKE_PREFIX_PATH=\"$F/c\" >said 2>&1; grep -m 1 -o 'version: [0-9.]*' said", "cmake")
+        self("CMake refuses another version", f"sed -i 's/queue_c 2/queue_c 3/' cm/CMakeLists.txt; ! cmake -S cm -B other_version -DCMAKE_PREFIX_PATH=\"$F/c\" >said 2>&1; grep -m 1 -o 'version: [0-9][0-9.]*' said", "cmake")
 
     def of_processors(self):
         self("test.c on older x86-64", '$cc $flags -static -I"$I" -o a "$F/c/test.c" "$L"; for cpu in qemu64 Conroe Penryn Nehalem; do qemu-x86_64 -cpu $cpu ./a 40 >said; echo $cpu $(tail -n 1 said); done', "qemu-x86_64")
