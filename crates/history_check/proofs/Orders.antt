@@ -59,7 +59,7 @@ updated es fs q x o w xs ys here it keeps worse p v there = elim (cases_eq p q) 
   | inr ne ↦ let h = worse p v (sym (set_other ys q p w ne) ∙ there) in (h.0, set_other xs q p o ne ∙ h.1, fewer es fs p h.0 v (keeps p ne) h.2)
 ]
 
-next_same : (p q : ℕ) (r : Reply ℕ) (es : List Event) → p ≡ q → next_reply p (End q r ∷ es) ≡ Some r
+pub next_same : (p q : ℕ) (r : Reply ℕ) (es : List Event) → p ≡ q → next_reply p (End q r ∷ es) ≡ Some r
 next_same p q r es same = ap (λ (b : Bool). if b then Some r else next_reply p es) (eq-eqb p q same)
 
 pub next_other : (p q : ℕ) (r : Reply ℕ) (es : List Event) → p ≢ q → next_reply p (End q r ∷ es) ≡ next_reply p es

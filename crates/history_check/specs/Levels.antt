@@ -2,7 +2,6 @@
 use Rattle.std.specs.Prelude.{◌≡◌, ℕ, Bool, true, Option, Some, None, List, [], ◌∷◌, ◌++◌, Contains, slice_get, length, ◌≤◌, ◌⊎◌, nat_eq, if◌then◌else◌}
 use Rattle.queue_steps.specs.{State.State, Effect.Fits, Replies.Tells, declared.model.Call.Call, declared.model.Reply.Reply, declared.model.Effect.Effect, declared.model.Effect.Effect as effect}
 use Rattle.history_check.specs.declared.recorded.{Event.Event, Event.TheVariants.Begin, Event.TheVariants.End, Move.Move, Move.Move as move, Rules.Rules, Way.TheVariants.Waiting}
-use Rattle.history_check.specs.declared.ahead.Ahead.{Ahead}
 use Rattle.history_check.specs.Legal.{Stage, opening, IsAt, MayRecord, recorded, Makes, Goes, IsLegal}
 
 -- the reply by which the party's next end is recorded
@@ -25,10 +24,6 @@ abbrev pub Acts : Call ℕ → Reply ℕ → State ℕ → Type 0
 Acts c r Q =
     ((e : Effect ℕ) × Tells c r (e ∷ []) × Fits e Q)
     ⊎ ((old v : ℕ) × Tells c r (effect.Front old v ∷ effect.Arrive ∷ []) × Fits (effect.Front old v) Q)
-
--- what is known of the events to come is right
-abbrev pub Foresees : {A : Type 0} → Ahead A → List Event → Type 0
-Foresees ahead es = Expects ahead.replies.items es
 
 -- the call, answered so, can have no effect at this state, nor later
 abbrev pub HasNoEffect : Call ℕ → Reply ℕ → State ℕ → Type 0

@@ -1,3 +1,4 @@
 pub mod Legal
 pub mod Levels
+pub mod Leaving
 pub mod Verdicts

@@ -4,9 +4,11 @@ ghost use Rattle.history_check.specs.declared.recorded.Event.{Event as SpecEvent
 ghost use Rattle.history_check.specs.declared.recorded.Move.TheVariants as move;
 ghost use Rattle.history_check.specs.declared.recorded.Way.TheVariants.{Waiting};
 ghost use Rattle.history_check.specs.Legal.{Stage as SpecStage, IsAt};
-ghost use Rattle.history_check.specs.Levels.{Foresees, Keeps, Has, HasAll, HasEach, Handles, Extends, Survives};
+ghost use Rattle.history_check.specs.Leaving.{Foresees};
+ghost use Rattle.history_check.specs.Levels.{Keeps, Has, HasAll, HasEach, Handles, Extends, Survives};
 
 use crate::ahead::Ahead;
+use crate::doom::is_doomed;
 use crate::recorded::{Event, Move, Way};
 use crate::settle::settle;
 use crate::stage::Stage;
@@ -173,7 +175,7 @@ impl<A: Allocator + Copy> Level<A> {
         Ok(())
     }
 
-    // Keeps the stage, once calls that can only see their replies have seen them.
+    // Keeps the stage, once calls that can only see their replies have seen them; unless it leads nowhere.
     fn keep(
         &mut self,
         trail: &mut Trail<A>,
@@ -184,6 +186,9 @@ impl<A: Allocator + Copy> Level<A> {
         ensures keeps { Extends self.old self.new }
     {
         settle(trail, ahead, &mut stage)?;
+        if is_doomed(ahead, &stage) {
+            return Ok(());
+        }
         self.add(stage)
     }
 

@@ -3,6 +3,7 @@
 
 mod ahead;
 pub mod decide;
+mod doom;
 mod expected;
 pub mod laws;
 mod level;
@@ -12,5 +13,6 @@ pub mod search;
 mod settle;
 mod show;
 mod stage;
+mod takers;
 mod trail;
 mod unended;

@@ -1,5 +1,6 @@
 //! The abstract queue, kept in memory.
-ghost use Rattle.std.specs.Prelude.{◌≡◌, ℕ, ◌+◌, List, ◌++◌, ◌∷◌, [], true, false, None, IfOk, OnOk};
+ghost use Rattle.std.specs.Prelude.{◌≡◌, ◌<◌, ℕ, ◌+◌, IfSome, List, ◌++◌, ◌∷◌, [], true, false, None, IfOk, OnOk};
+ghost use Rattle.history_check.specs.Leaving.{IsBefore, IsBeforeFirst};
 ghost use Rattle.queue_steps.specs.State.{State, start, is_full, IsBelow};
 ghost use Rattle.queue_steps.specs.Effect.{Fits, made};
 ghost use Rattle.queue_steps.specs.Replies.{Allows, MayAsk};
@@ -7,6 +8,7 @@ ghost use Rattle.queue_steps.specs.declared.model.Call.TheVariants as call;
 ghost use Rattle.queue_steps.specs.declared.model.Effect.TheVariants as effect;
 ghost use Rattle.queue_steps.specs.declared.model.Reply.TheVariants as reply;
 
+use crate::takers::Takers;
 use queue_steps::errors::{ForcePushError, PopError, PushError};
 use queue_steps::model::{Call, Effect, Reply};
 use queue_steps::sizes::{BLOCK_SLOTS, LIMIT};
@@ -160,6 +162,11 @@ impl<A: Allocator> Queue<A> {
             Some(front) => *front == item,
             None => false,
         }
+    }
+
+    /// The last item.
+    pub fn last_item(&self) -> Option<u64> {
+        self.items.back().copied()
     }
 
     /// How many words it takes up, about.
@@ -334,6 +341,24 @@ impl<A: Allocator> Queue<A> {
 }
 
 impl<A: Allocator + Copy> Queue<A> {
+    /// An item that nobody takes off who begins before this place, with the value nowhere before it.
+    pub fn spared_item(&self, takers: &Takers<A>, value: u64, place: usize) -> Option<u64>
+        ensures { IfSome result (λ w. IsBefore w value self.now.items × ((j : ℕ) → j < place → IsBeforeFirst takers.now w j)) }
+    {
+        for index in 0..self.items.len() {
+            let Some(item) = self.items.get(index).copied() else {
+                return None;
+            };
+            if item == value {
+                return None;
+            }
+            if takers.is_spared(item, place) {
+                return Some(item);
+            }
+        }
+        None
+    }
+
     /// A copy.
     ///
     /// # Errors

@@ -1,6 +1,7 @@
 //! Replies that are seen as soon as they are right.
 ghost use Rattle.std.specs.Prelude.{◌≡◌, OnOk, List};
-ghost use Rattle.history_check.specs.Levels.{next_reply, Foresees, IsAsGood};
+ghost use Rattle.history_check.specs.Leaving.{Foresees};
+ghost use Rattle.history_check.specs.Levels.{next_reply, IsAsGood};
 ghost use Rattle.history_check.specs.declared.recorded.Event.{Event as SpecEvent};
 
 use crate::ahead::Ahead;

@@ -1,5 +1,5 @@
 //! Where an order of calls is.
-ghost use Rattle.std.specs.Prelude.{◌≡◌, ◌∷◌, [], ℕ, Bool, true, false, Option, List, Some, None, IfOk, IfSome, IfNone, drop, length, slice_get};
+ghost use Rattle.std.specs.Prelude.{◌≡◌, ◌∷◌, ◌<◌, ◌⊎◌, [], ℕ, Bool, true, false, Option, List, Some, None, IfOk, IfSome, IfNone, drop, length, slice_get};
 ghost use Rattle.queue_steps.specs.Replies.{Tells};
 ghost use Rattle.queue_steps.specs.declared.model.Call.{Call as SpecCall};
 ghost use Rattle.queue_steps.specs.declared.model.Effect.{Effect as SpecEffect};
@@ -7,12 +7,14 @@ ghost use Rattle.queue_steps.specs.declared.model.Reply.{Reply as SpecReply};
 ghost use Rattle.queue_steps.specs.declared.model.Effect.TheVariants as effect;
 ghost use Rattle.history_check.specs.Legal.{Stage as SpecStage, opening, IsAt, moved, MayRecord, recorded, Makes, Takes};
 ghost use Rattle.history_check.specs.Levels.{IsExpected, Acts, OnlySees};
+ghost use Rattle.history_check.specs.Leaving.{IsBefore, IsBeforeFirst};
 ghost use Rattle.history_check.specs.declared.recorded.Way.{Way as SpecWay};
-ghost use Rattle.history_check.specs.declared.recorded.Way.TheVariants.{Waiting};
+ghost use Rattle.history_check.specs.declared.recorded.Way.TheVariants.{Waiting, Halfway, Answered};
 ghost use Rattle.history_check.specs.declared.recorded.Move.TheVariants as move;
 
 use crate::queue::Queue;
 use crate::recorded::{Event, Move, Rules, Way};
+use crate::takers::Takers;
 use queue_steps::errors::{ForcePushError, PushError};
 use queue_steps::model::{Call, Effect, Reply};
 use std::alloc::{AllocError, Allocator};
@@ -136,6 +138,15 @@ impl<A: Allocator + Copy> Stage<A> {
             at_once: self.at_once,
             last: self.last,
         })
+    }
+}
+
+impl<A: Allocator + Copy> Stage<A> {
+    /// An item that nobody takes off who begins before this place, with the value nowhere before it.
+    pub fn spared_item(&self, takers: &Takers<A>, value: u64, place: usize) -> Option<u64>
+        ensures { IfSome result (λ w. IsBefore w value self.now.queue.items × ((j : ℕ) → j < place → IsBeforeFirst takers.now w j)) }
+    {
+        self.queue.spared_item(takers, value, place)
     }
 }
 
@@ -339,6 +350,21 @@ impl<A: Allocator> Stage<A> {
             Some((old, value)) => self.queue.may_make(Effect::Front(old, value)),
             None => false,
         }
+    }
+
+    /// Whether the party's call has this reply, or will get it.
+    pub fn has_reply(&self, party: usize, reply: Reply<u64>) -> bool
+        ensures { result ≡ false → IsAt self.now party (Halfway reply) ⊎ IsAt self.now party (Answered reply) → ⊥ }
+    {
+        match self.calls.get(party).copied() {
+            Some(Some(Way::Halfway(given) | Way::Answered(given))) => given == reply,
+            _ => false,
+        }
+    }
+
+    /// The last item.
+    pub fn last_item(&self) -> Option<u64> {
+        self.queue.last_item()
     }
 
     /// How many words it takes up, about.

@@ -1,5 +1,5 @@
 use Rattle.std.proofs.Common.{length}
-use Rattle.history_check.specs.{Legal.IsLegal, Levels.Foresees, Levels.Survives}
+use Rattle.history_check.specs.{Legal.IsLegal, Leaving.Foresees, Levels.Survives}
 use Rattle.history_check.proofs.search.find_order.Given as goal
 
 abbrev pub invariant-loop-event : goal.invariant-loop-event

@@ -1,5 +1,5 @@
 use Rattle.std.proofs.Common.{List}
-use Rattle.history_check.specs.{Levels.Foresees, Levels.IsAsGood, declared.recorded.Event.Event as SpecEvent}
+use Rattle.history_check.specs.{Leaving.Foresees, Levels.IsAsGood, declared.recorded.Event.Event as SpecEvent}
 use Rattle.history_check.proofs.settle.settle.Given as goal
 
 abbrev pub invariant-loop-party : goal.invariant-loop-party

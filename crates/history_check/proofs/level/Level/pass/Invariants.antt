@@ -1,5 +1,5 @@
 use Rattle.std.proofs.Common.{◌≡◌, ℕ, ◌<◌, ◌∷◌, List, Some, slice_get}
-use Rattle.history_check.specs.{Legal.Stage as SpecStage, Levels.Foresees, Levels.Handles, Levels.Extends, declared.recorded.Event.Event as SpecEvent}
+use Rattle.history_check.specs.{Legal.Stage as SpecStage, Leaving.Foresees, Levels.Handles, Levels.Extends, declared.recorded.Event.Event as SpecEvent}
 use Rattle.history_check.proofs.level.Level.pass.Given as goal
 
 abbrev pub invariant-loop-place : goal.invariant-loop-place

@@ -1,6 +1,6 @@
 use Rattle.std.proofs.Common.{◌≡◌, ℕ, ◌<◌, List, Option, Some, slice_get}
 use Rattle.queue_steps.specs.declared.model.Reply.{Reply}
-use Rattle.history_check.specs.{Levels.Foresees, Levels.HasAll, Levels.Extends, declared.recorded.Event.Event as SpecEvent}
+use Rattle.history_check.specs.{Leaving.Foresees, Levels.HasAll, Levels.Extends, declared.recorded.Event.Event as SpecEvent}
 use Rattle.history_check.proofs.level.Level.spread_each.Given as goal
 
 abbrev pub invariant-loop-party : goal.invariant-loop-party
