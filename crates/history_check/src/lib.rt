@@ -1,14 +1,21 @@
 //! Whether a recorded history of calls on a queue is legal.
 #![tactic(auto)]
 
+mod calls;
 pub mod decide;
 mod expected;
+mod found_moves;
 pub mod laws;
 mod level;
+mod order_finder;
+mod point;
 mod queue;
 pub mod recorded;
 pub mod search;
 mod show;
 mod stage;
+mod steps;
 mod trail;
 mod unended;
+mod value_order;
+mod values;
