@@ -2,6 +2,9 @@
 #![tactic(auto)]
 
 mod calls;
+mod closing;
+mod cover;
+mod crowd;
 pub mod decide;
 mod expected;
 mod found_moves;
@@ -9,6 +12,8 @@ pub mod laws;
 pub mod left_out;
 mod level;
 mod order_finder;
+mod part;
+mod patterns;
 mod point;
 mod queue;
 pub mod recorded;
