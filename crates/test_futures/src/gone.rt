@@ -7,6 +7,7 @@ use crate::polling::task;
 use channel_futures::{Incoming, Outgoing, Receiver, Sender};
 use counted_channel::calls;
 use futures::Sink;
+use futures::task::Poll;
 use futures::test::MockTask;
 use std::alloc::AllocGlobal;
 use std::process::Abort;
@@ -105,7 +106,7 @@ fn polled_sink<'a>(
 ) -> Outgoing<Counted<'a>> {
     let mut sink = outgoing(rt, sender);
     let _ = sink.start_send(Counted::of(items));
-    let _ = task.enter(|cx| sink.poll_flush(cx));
+    task.enter(|cx| matches!(sink.poll_flush(cx), Poll::Pending));
     sink
 }
 
@@ -116,7 +117,7 @@ fn polled_stream<'a>(
     receiver: Receiver<Counted<'a>>,
 ) -> Incoming<Counted<'a>> {
     let mut stream = incoming(rt, receiver);
-    let _ = task.enter(|cx| stream.poll_recv(cx));
+    task.enter(|cx| matches!(stream.poll_recv(cx), Poll::Pending));
     stream
 }
 

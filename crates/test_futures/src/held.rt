@@ -9,11 +9,11 @@ use channel_futures::{Incoming, unbounded};
 use channel_handle::{Handle, Receiver, Sender};
 use futures::task::Poll;
 use queue_steps::steps::{Op, WRITE, Word};
+use std::sync::Arc;
 use std::sync::atomic::AtomicBool;
 use std::sync::atomic::Ordering::SeqCst;
 use std::thread::{join, sleep};
 use std::time::{Clock, Duration};
-use test_support::items::{Counted, Items};
 use test_support::signs::wait_for;
 
 /// For how many milliseconds the send is held while the stream is being dropped: many times what a thousand tries take.
@@ -67,12 +67,7 @@ impl<R: Clock> Gate for Holding<'_, R> {
 }
 
 /// Sends an item, and is held. Gives whether that is sent, and whether the channel is closed then.
-fn send<'a, R: Host>(
-    rt: &R,
-    signs: &Signs,
-    sender: Sender<Counted<'a>>,
-    item: Counted<'a>,
-) -> (bool, bool) {
+fn send<R: Host>(rt: &R, signs: &Signs, sender: Sender<Arc<u64>>, item: Arc<u64>) -> (bool, bool) {
     let (channel, mut end) = sender.into_parts();
     let sent = channel
         .try_send_at(rt, &Holding { rt, signs }, &mut end, item)
@@ -83,7 +78,7 @@ fn send<'a, R: Host>(
 }
 
 /// Polls a stream while the send is held, and drops it. Gives whether that was so and the poll is pending, and is to be made again.
-fn drop_in_pop<R: Host>(rt: &R, signs: &Signs, receiver: Receiver<Counted<'_>>) -> (bool, bool) {
+fn drop_in_pop<R: Host>(rt: &R, signs: &Signs, receiver: Receiver<Arc<u64>>) -> (bool, bool) {
     let Ok(mut stream) = Incoming::of(receiver) else {
         panic!(rt; "no receiver in futures")
     };
@@ -103,9 +98,9 @@ fn drop_in_pop<R: Host>(rt: &R, signs: &Signs, receiver: Receiver<Counted<'_>>) 
 #[test]
 fn a_stream_that_is_dropped_in_a_pop_waits_for_its_item(rt: HostRuntime) {
     let signs = Signs::new();
-    let items = Items::none();
     let (sender, receiver) = unbounded(rt.alloc()).expect(&rt, "memory");
-    let item = Counted::of(&items);
+    let kept = Arc::new(rt.alloc(), 7).expect(&rt, "memory");
+    let item = Arc::try_clone(&kept).expect(&rt, "one more owner");
     let (sent, polled) = join(
         &rt,
         || send(&rt, &signs, sender, item),
@@ -117,7 +112,7 @@ fn a_stream_that_is_dropped_in_a_pop_waits_for_its_item(rt: HostRuntime) {
     is_in(
         &rt,
         "early, and dropped",
-        (early, items.dropped()),
-        (false, 1),
+        (early, Arc::try_unwrap(kept).ok()),
+        (false, Some(7)),
     );
 }
