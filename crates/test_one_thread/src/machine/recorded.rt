@@ -22,7 +22,7 @@ enum Decided {
 }
 
 /// What is decided of a history on a ring of two slots.
-fn decided<R: Abort + AllocGlobal>(rt: &R, at_once: bool, history: &[Recorded]) -> Decided {
+fn judged<R: Abort + AllocGlobal>(rt: &R, at_once: bool, history: &[Recorded]) -> Decided {
     let rules = Rules {
         cap: Some(2),
         at_once,
@@ -45,6 +45,6 @@ fn a_look_within_a_displacement(rt: HostRuntime) {
     add_steps(&rt, &mut events, 0, STEPS_ALONE);
     let history = replay_recorded(rt.alloc(), Kind::Bounded(2), 2, &events).expect(&rt, "memory");
     is(&rt, history.len(), 8);
-    is(&rt, decided(&rt, false, &history), Decided::Legal);
-    is(&rt, decided(&rt, true, &history), Decided::NotLegal(7));
+    is(&rt, judged(&rt, false, &history), Decided::Legal);
+    is(&rt, judged(&rt, true, &history), Decided::NotLegal(7));
 }
