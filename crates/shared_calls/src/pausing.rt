@@ -12,12 +12,13 @@ ghost use Rattle.std.specs.Prelude.{◌≡◌, ◌≤◌, ◌-◌, true};
 
 use crate::early::is_early;
 use crate::left::Left;
-use crate::waiting::must_give_way;
+use crate::waiting::{has_lost, must_give_way};
 use call_driver::fast::pass_block_end;
 use call_driver::gate::Gate;
 use call_driver::progress::Progress;
 use call_driver::retry::retry;
 use call_driver::site::Site;
+use crossbeam_utils::Backoff;
 use queue_steps::model::{Call, CallKind, Reply};
 use queue_steps::sizes::STEPS_ALONE;
 use queue_steps::steps::{Kind, KindSteps, Next};
@@ -107,6 +108,14 @@ fn leave_block_end<M: Site, G: Gate>(
     }
 }
 
+/// Pauses where a call has lost an exchange, longer each time, so that those that lost do not all try again at once.
+#[inline(always)]
+fn back_off(backoff: &Backoff, has_lost: bool) {
+    if has_lost {
+        backoff.spin();
+    }
+}
+
 /// The rounds of `carry_on`: at most as many as a call takes steps that runs alone.
 fn go_round<M: Site, G: Gate>(
     site: &M::Shared,
@@ -124,6 +133,7 @@ fn go_round<M: Site, G: Gate>(
         progress,
         mut carried,
     } = left;
+    let backoff = Backoff::new();
     let mut before = progress.local;
     let mut progress = match retry::<M, G>(site, gate, kind, call, seat, progress, &mut carried) {
         ControlFlow::Break(reply) => return ControlFlow::Break(Reply::fill(reply, carried)),
@@ -133,6 +143,7 @@ fn go_round<M: Site, G: Gate>(
         if must_give_way(&before, &progress.local) {
             break;
         }
+        back_off(&backoff, has_lost(&before, &progress.local));
         before = progress.local;
         match retry::<M, G>(site, gate, kind, call, seat, progress, &mut carried) {
             ControlFlow::Break(reply) => return ControlFlow::Break(Reply::fill(reply, carried)),

@@ -1,4 +1,4 @@
-//! A party's call that may wait for another party's: how it begins, and where it gives way.
+//! A party's call that may wait for another party's: how it begins, where it gives way, and where it has lost an exchange.
 ghost use Rattle.std.specs.ControlFlow.{MatchControlFlow};
 ghost use Rattle.shared_calls.specs.Leaving.{IsLeft};
 
@@ -27,6 +27,29 @@ pub fn must_give_way<B: Copy>(before: &Local<B>, after: &Local<B>) -> bool {
             (ChainLocal::PopHead, ChainLocal::PopHead) => true,
             (ChainLocal::Following(_, _), ChainLocal::Following(_, _)) => true,
             (ChainLocal::Awaiting(_, _), ChainLocal::Awaiting(_, _)) => true,
+            _ => false,
+        },
+        _ => false,
+    }
+}
+
+/// Whether a call that stood there, and then here, has lost an exchange to another one, so that it tries again. A call on one slot is not among them: it tries again at once.
+#[inline(always)]
+pub fn has_lost<B: Copy>(before: &Local<B>, after: &Local<B>) -> bool {
+    match (before, after) {
+        (Local::Ring(before), Local::Ring(after)) => match (before, after) {
+            (RingLocal::Claiming(_, _), RingLocal::PushTail(_) | RingLocal::PushStamp(_, _)) => {
+                true
+            }
+            (RingLocal::Taking(_), RingLocal::PopHead | RingLocal::PopStamp(_)) => true,
+            _ => false,
+        },
+        (Local::Chain(before), Local::Chain(after)) => match (before, after) {
+            (
+                ChainLocal::Claiming(_, _, _, _),
+                ChainLocal::PushTail(_, _) | ChainLocal::PushBlock(_, _, _),
+            ) => true,
+            (ChainLocal::Taking(_, _), ChainLocal::PopHead | ChainLocal::PopBlock(_)) => true,
             _ => false,
         },
         _ => false,
