@@ -1,7 +1,7 @@
 use Rattle.std.proofs.Common.{◌-◌}
 use Rattle.queue_steps.specs.declared.{sizes.TheConstants.STEPS_ALONE, model.Call.Call}
 use Rattle.call_driver.specs.OnWay.{Before}
-use Rattle.call_driver.proofs.retry.WithinEnd.finish.Given as goal
+use Rattle.call_driver.proofs.retry.retry_alone.Given as goal
 
 -- the call ends within the steps that are left, whichever it is
 abbrev pub invariant-loop : goal.invariant-loop

@@ -1,7 +1,7 @@
-use Rattle.std.proofs.Common.{◌≡◌, ℕ, suc, ◌+◌, ◌-◌, arith, subst}
+use Rattle.std.proofs.Common.{◌≡◌, suc, ◌+◌, ◌-◌, arith}
 use Rattle.queue_steps.specs.declared.sizes.TheConstants.{STEPS_ALONE}
-use Rattle.call_driver.{specs.OnWay.Before, proofs.Going.before}
-use Rattle.call_driver.proofs.retry.WithinEnd.finish.Goals as goal
+use Rattle.call_driver.proofs.Going.{before}
+use Rattle.call_driver.proofs.retry.retry_alone.Goals as goal
 
 pub retry-requires-clause-on_way : goal.retry-requires-clause-on_way
 retry-requires-clause-on_way g c =
@@ -10,9 +10,8 @@ retry-requires-clause-on_way g c =
     (STEPS_ALONE - (c.loop.counter + 1), (h.0, h.1, rw more at h.2))
 
 pub returns-in-Break : goal.returns-in-Break
-returns-in-Break g c = λ n call first all h.
+returns-in-Break g c = λ call first start.
     let more : STEPS_ALONE - c.loop.counter ≡ suc (STEPS_ALONE - (c.loop.counter + 1)) = omega (arith, c.loop-test.true) in
-    let start = subst (λ (i : ℕ). Before g.M.Site i c.args.kind c.args.call c.args.site.now first call c.args.progress c.args.carried.now c.args.seat.now) all h in
     c.in-Break.ensures (STEPS_ALONE - (c.loop.counter + 1)) call first (rw more at (c.loop.invariant.goes call first start))
 
 pub loop-preserved : goal.loop-preserved

@@ -1,7 +1,7 @@
 use Rattle.std.proofs.Common.{◌-◌}
 use Rattle.queue_laws.specs.Common.Vocabulary.{Call, STEPS_ALONE}
 use Rattle.call_driver.specs.OnWay.{Stood}
-use Rattle.shared_calls.proofs.pausing.carry_on.Given as goal
+use Rattle.shared_calls.proofs.pausing.go_round.Given as goal
 
 -- some call has taken a step, and whichever call had, has taken one
 abbrev pub invariant-loop : goal.invariant-loop

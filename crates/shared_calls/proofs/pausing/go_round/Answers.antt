@@ -2,7 +2,7 @@ use Rattle.std.proofs.Common.{◌-◌}
 use Rattle.queue_laws.specs.Common.Vocabulary.{STEPS_ALONE}
 use Rattle.call_driver.proofs.Going.{again}
 use Rattle.shared_calls.proofs.Filling.{is_filled, filled_as}
-use Rattle.shared_calls.proofs.pausing.carry_on.Goals as goal
+use Rattle.shared_calls.proofs.pausing.go_round.Goals as goal
 
 pub retry-requires-in-loop-clause-on_way : goal.retry-requires-in-loop-clause-on_way
 retry-requires-in-loop-clause-on_way g c =
