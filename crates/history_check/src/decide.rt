@@ -15,11 +15,11 @@ pub enum Verdict<A: Allocator> {
     Legal(Vec<Move, A>),
     /// It is not: so many of its first events are the shortest beginning that is not legal.
     NotLegal(usize),
-    /// More stages beside each other than are looked at.
+    /// The stages beside each other, and the moves to them, take up more words than they may.
     TooMany,
 }
 
-/// Whether the history is legal, with so many stages beside each other at most.
+/// Whether the history is legal. The stages beside each other, and the moves to them, take up so many words at most, about.
 ///
 /// # Errors
 ///

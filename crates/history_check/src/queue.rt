@@ -25,6 +25,9 @@ pub struct Queue<A: Allocator> {
     accepted: u64,
 }
 
+/// How many words a queue and a stage around it take up beside items and calls, about.
+const WORDS_BESIDE_ITEMS: usize = 32;
+
 impl<A: Allocator> Model for Queue<A> {
     ghost Value = { State ℕ };
 
@@ -133,6 +136,35 @@ impl<A: Allocator> Queue<A> {
             ForcePushError::Closed(back) => back == value && self.closed,
             ForcePushError::NoMemory(back) => back == value && self.may_ask(),
         }
+    }
+
+    /// Whether the effect may stand here, as far as a look at both ends tells.
+    pub fn may_make(&self, effect: Effect<u64>) -> bool
+        ensures { result ≡ false → Fits effect self.now → ⊥ }
+    {
+        match effect {
+            Effect::Append(_) => !self.closed && self.coming.is_none() && !self.is_full(),
+            Effect::Take(item) | Effect::Replace(item, _) | Effect::Front(item, _) => {
+                self.begins_with(item)
+            }
+            Effect::Arrive => self.coming.is_some(),
+            Effect::Close | Effect::SelfClose => !self.closed,
+        }
+    }
+
+    // Whether the item is the front.
+    fn begins_with(&self, item: u64) -> bool
+        ensures { result ≡ false → (others : List ℕ) → self.now.items ≡ item ∷ others → ⊥ }
+    {
+        match self.items.front() {
+            Some(front) => *front == item,
+            None => false,
+        }
+    }
+
+    /// How many words it takes up, about.
+    pub fn words(&self) -> usize {
+        self.items.len().saturating_add(WORDS_BESIDE_ITEMS)
     }
 
     /// Does the effect, if it may stand here. Where it may not, the queue is of no use any more.
