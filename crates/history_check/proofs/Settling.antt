@@ -1,5 +1,5 @@
 -- A reply that is right now, of a call that can have no effect any more, may be seen at once: it is in no one's way.
-use Rattle.std.proofs.Common.{◌≡◌, ◌≢◌, ◌∙◌, ◌≤◌, inl, inr, ℕ, Bool, true, false, not, Option, Some, None, List, [], ◌∷◌, refl, ap, sym, subst, length, arith}
+use Rattle.std.proofs.Common.{◌≡◌, ◌≢◌, ◌∙◌, ◌≤◌, inl, inr, ℕ, Bool, true, not, Option, Some, None, List, [], ◌∷◌, refl, ap, sym, subst, length, arith}
 use Rattle.std.proofs.lemmas.{Bool.cases_eq, List.set_comm}
 use Rattle.queue_steps.specs.{Replies.Tells, Effect.Fits, declared.model.Call.Call, declared.model.Reply.Reply, declared.model.Effect.Effect, declared.model.Effect.Effect as effect}
 use Rattle.history_check.specs.declared.recorded.{Event.Event, Event.TheVariants.Begin, Event.TheVariants.End, Move.Move, Way.Way, Way.TheVariants.Waiting, Way.TheVariants.Halfway, Way.TheVariants.Answered}

@@ -5,7 +5,7 @@ use Rattle.std.proofs.lemmas.{Option.slice_get_cases, Option.slice_get_read, Opt
 use Rattle.queue_steps.specs.declared.model.{Call.Call, Reply.Reply}
 use Rattle.history_check.specs.declared.recorded.{Event.Event, Move.Move, Way.Way, Way.TheVariants.Waiting, Way.TheVariants.Halfway, Way.TheVariants.Answered}
 use Rattle.history_check.specs.Legal.{Stage, IsAt, MayRecord, recorded, Makes, Goes}
-use Rattle.history_check.proofs.{Moves.at_front, Moves.step_of, Moves.is_there, Orders.made_first, Orders.along, Orders.moves_may_wait, Orders.need_not_see, Orders.gets_expected}
+use Rattle.history_check.proofs.{Moves.at_front, Moves.step_of, Moves.is_there, Orders.along, Orders.moves_may_wait, Orders.need_not_see, Orders.gets_expected}
 use Rattle.history_check.specs.Levels.{next_reply, Expects, IsExpected, Acts, IsAsGood, Keeps, Has, HasAll, HasEach, Handles, Extends, Survives, Passes, LevelsPass}
 
 -- a longer level has as much
