@@ -1,8 +1,9 @@
 //! Whether a recorded history is legal.
 ghost use Rattle.std.specs.Prelude.{◌+◌, ◌-◌, ◌<◌, IfOk, IfSome};
-ghost use Rattle.history_check.specs.Legal.{IsLegal};
+ghost use Rattle.history_check.specs.Legal.{IsLegal, IsOrder};
 ghost use Rattle.history_check.specs.Verdicts.{AreBounds, IsFound, IsVerdict};
 
+use crate::order_finder::look_for_order;
 use crate::recorded::{Event, Move, Rules};
 use crate::search::{Found, find_order};
 use crate::show::shows;
@@ -40,7 +41,7 @@ pub fn decide<A: Allocator + Copy>(
     }
 }
 
-// An order that is shown to be one, or that there is none.
+// An order that is shown to be one, or that there is none: by a finder that is quick on long histories, and then by a search of all orders.
 fn examine<A: Allocator + Copy>(
     alloc: A,
     rules: Rules,
@@ -50,6 +51,9 @@ fn examine<A: Allocator + Copy>(
 ) -> Result<Found<A>, AllocError>
     ensures { IfOk result (IsFound rules parties events.now) }
 {
+    if let Some(moves) = quick_order(alloc, rules, parties, events)? {
+        return Ok(Found::Order(moves));
+    }
     match find_order(alloc, rules, parties, events, most)? {
         Found::Order(moves) => {
             if shows(alloc, rules, parties, events, &moves)? {
@@ -61,6 +65,24 @@ fn examine<A: Allocator + Copy>(
         Found::Nothing(first) => Ok(Found::Nothing(first)),
         Found::TooMany => Ok(Found::TooMany),
     }
+}
+
+// An order that the finder looks for, if it finds one. It is shown to be one.
+fn quick_order<A: Allocator + Copy>(
+    alloc: A,
+    rules: Rules,
+    parties: usize,
+    events: &[Event],
+) -> Result<Option<Vec<Move, A>>, AllocError>
+    ensures { IfOk result (λ o. IfSome o (λ moves. IsOrder rules parties events.now moves.items)) }
+{
+    let Some(moves) = look_for_order(alloc, rules, parties, events)? else {
+        return Ok(None);
+    };
+    if !shows(alloc, rules, parties, events, &moves)? {
+        return Ok(None);
+    }
+    Ok(Some(moves))
 }
 
 // Two beginnings: one that is legal, and a longer one that is not.

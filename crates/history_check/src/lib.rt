@@ -2,15 +2,22 @@
 #![tactic(auto)]
 
 mod ahead;
+mod calls;
 pub mod decide;
 mod expected;
+mod found_moves;
 pub mod laws;
 mod level;
+mod order_finder;
+mod point;
 mod queue;
 pub mod recorded;
 pub mod search;
 mod settle;
 mod show;
 mod stage;
+mod steps;
 mod trail;
 mod unended;
+mod value_order;
+mod values;
