@@ -7,6 +7,7 @@ pub mod decide;
 mod expected;
 mod found_moves;
 pub mod laws;
+pub mod left_out;
 mod level;
 mod order_finder;
 mod point;
