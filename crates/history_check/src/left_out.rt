@@ -5,7 +5,7 @@ ghost use Rattle.history_check.specs.Levels.{Expects};
 ghost use Rattle.history_check.specs.LeftOut.{is_among, is_left_out, remaining, ArePlain};
 ghost use Rattle.history_check.specs.declared.recorded.Event.{Event as SpecEvent};
 
-use crate::expected::{expected, go_past, next_event};
+use crate::expected::{expected, note_past, next_event};
 use crate::recorded::{Event, Rules};
 use crate::search::{Found, find_order};
 use queue_steps::errors::{ForcePushError, PushError};
@@ -127,7 +127,7 @@ fn remaining<A: Allocator + Copy>(
             return Ok(None);
         };
         put(&mut some, event, stays)?;
-        go_past(event, others, replies);
+        note_past(event, others, replies);
         rest = others;
     }
     Ok(Some(some))

@@ -3,6 +3,9 @@
 
 mod ahead;
 mod calls;
+mod closing;
+mod cover;
+mod crowd;
 pub mod decide;
 mod expected;
 mod found_moves;
@@ -10,6 +13,8 @@ pub mod laws;
 pub mod left_out;
 mod level;
 mod order_finder;
+mod part;
+mod patterns;
 mod point;
 mod queue;
 pub mod recorded;

@@ -2,13 +2,13 @@
 //!
 //! First the values are put in an order. Given that, all that an order of the calls can be at is how many values are in and how many are out, so that few points are beside each other.
 use crate::calls::{Calls, put_at};
+use crate::crowd::Crowd;
 use crate::found_moves::FoundMoves;
 use crate::point::{Point, Role, Watch};
 use crate::recorded::{Event, Move, Rules};
 use crate::steps::Steps;
-use crate::value_order::{CHOICES, in_order};
-use crate::values::{Told, Value, values_of};
-use queue_steps::model::{Call, Reply};
+use crate::value_order::{CHOICES, Choice, in_order};
+use crate::values::{Claim, Value, values_of};
 use std::alloc::{AllocError, Allocator};
 use std::collections::HashSet;
 use std::hash::{BuildHasherDefault, FoldHasher};
@@ -22,78 +22,48 @@ const POINTS_EACH: usize = 40;
 /// How many points are looked at in any case.
 const POINTS: usize = 200_000;
 
-/// An order of the effects of the calls, if one is found.
+/// An order of the effects of the calls, if one is found: first by these values, whose gaps are narrowed, and then by the values as the calls have them.
 ///
 /// # Errors
 ///
 /// Where there is no memory.
-pub fn look_for_order<A: Allocator + Copy>(
+pub fn look_for_order<'a, A: Allocator + Copy>(
     alloc: A,
     rules: Rules,
     parties: usize,
-    events: &[Event],
+    calls: &'a Calls<'a, A>,
+    narrowed: &'a [Value],
 ) -> Result<Option<Vec<Move, A>>, AllocError> {
-    let Some(calls) = Calls::of(alloc, parties, events)? else {
+    if let Some(moves) = try_choice(alloc, rules, parties, calls, narrowed, Choice::PopBegin)? {
+        return Ok(Some(moves));
+    }
+    let Claim::Values(mut values) = values_of(alloc, calls)? else {
         return Ok(None);
     };
-    let Told::Values(mut values) = values_of(alloc, &calls)? else {
-        return Ok(None);
-    };
-    let takers = unended_pops(alloc, &calls)?;
-    give_to(alloc, &mut values, &takers, calls.last_gap())?;
+    let crowd = Crowd::of(alloc, calls, &values)?;
+    let needed = crowd.needed(&values);
+    crowd.give(&mut values, needed, calls.last_gap());
     for choice in CHOICES {
-        let Some(order) = in_order(alloc, &values, choice)? else {
-            return Ok(None);
-        };
-        if let Some(moves) = find_along(alloc, rules, parties, &calls, &values, &order)? {
+        if let Some(moves) = try_choice(alloc, rules, parties, calls, &values, choice)? {
             return Ok(Some(moves));
         }
     }
     Ok(None)
 }
 
-// The gaps in which pops begin that do not end.
-fn unended_pops<A: Allocator + Copy>(
+// An order of the calls in which the values come in the order of this choice, if one is found.
+fn try_choice<A: Allocator + Copy>(
     alloc: A,
+    rules: Rules,
+    parties: usize,
     calls: &Calls<'_, A>,
-) -> Result<Vec<usize, A>, AllocError> {
-    let mut gaps = Vec::new(alloc);
-    for index in 0..calls.len() {
-        if let Some(made) = calls.get(index) {
-            if matches!((made.call, made.reply), (Call::Pop, None)) {
-                gaps.push(made.gaps.from)?;
-            }
-        }
+    values: &[Value],
+    choice: Choice,
+) -> Result<Option<Vec<Move, A>>, AllocError> {
+    match in_order(alloc, values, choice)? {
+        Some(order) => find_along(alloc, rules, parties, calls, values, &order),
+        None => Ok(None),
     }
-    Ok(gaps)
-}
-
-// Lets pops without an end take, one each, the first of the values that had to be out before another was pushed and that no call with an end takes.
-fn give_to<A: Allocator + Copy>(
-    alloc: A,
-    values: &mut [Value],
-    takers: &[usize],
-    last_gap: usize,
-) -> Result<(), AllocError> {
-    let mut latest = 0;
-    let mut left = Vec::new(alloc);
-    for (index, value) in values.iter().enumerate() {
-        if value.pop.is_some() {
-            latest = value.enters.from.max(latest);
-        } else if value.leaves.from == last_gap.saturating_add(1) {
-            left.push((value.enters.until, index))?;
-        }
-    }
-    left.sort_unstable();
-    for ((until, index), begun) in left.iter().zip(takers) {
-        if *until < latest {
-            if let Some(value) = values.get_mut(*index) {
-                value.leaves.from = value.enters.from.max(*begun);
-                value.leaves.until = last_gap;
-            }
-        }
-    }
-    Ok(())
 }
 
 // What each call is there for, if the values come in this order.
@@ -149,7 +119,10 @@ fn find_along<'a, A: Allocator + Copy>(
         steps: Steps::new(alloc, rules, calls, values, order),
         found: FoundMoves::new(alloc, events.len().saturating_add(calls.len()))?,
         branches: Vec::new(alloc),
-        points: events.len().saturating_mul(POINTS_EACH).saturating_add(POINTS),
+        points: events
+            .len()
+            .saturating_mul(POINTS_EACH)
+            .saturating_add(POINTS),
     };
     search.branches.push(Branch {
         point: Point::default(),

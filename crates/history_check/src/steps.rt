@@ -24,7 +24,7 @@ pub struct Steps<'a, A: Allocator> {
     takers: Vec<usize, A>,
     // The calls that have begun and may close the queue.
     closers: Vec<usize, A>,
-    // Whether a call was told that it closed the queue, so that no other did.
+    // Whether a call is known to have closed the queue, so that no other did.
     is_closer_known: bool,
 }
 
@@ -52,7 +52,7 @@ impl<'a, A: Allocator + Copy> Steps<'a, A> {
     }
 }
 
-// Whether some call was told that it closed the queue.
+// Whether some call is known to have closed the queue.
 fn is_closer_known<A: Allocator>(calls: &Calls<'_, A>) -> bool {
     for index in 0..calls.len() {
         if let Some(made) = calls.get(index) {
@@ -235,11 +235,7 @@ impl<'a, A: Allocator> Steps<'a, A> {
                 then,
                 Move::Act(made.party, Reply::ForcePush(Ok(None))),
             ),
-            _ => self.append(
-                point,
-                then,
-                Move::Act(made.party, Reply::Push(Ok(()))),
-            ),
+            _ => self.append(point, then, Move::Act(made.party, Reply::Push(Ok(())))),
         }
     }
 

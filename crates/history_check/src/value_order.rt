@@ -120,7 +120,7 @@ fn sorted_by<A: Allocator + Copy, F: Fn(&Value) -> usize>(
     Ok(places)
 }
 
-/// An order of the values, by their places, in which none comes behind one that has to be pushed or popped after it. None where there is no such order.
+/// An order of the values, by their places, in which each comes before those that have to be pushed or popped after it. None where there is no such order.
 ///
 /// # Errors
 ///

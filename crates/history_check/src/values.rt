@@ -1,5 +1,5 @@
 //! The values that a history's calls bring and take, and when they may do so.
-use crate::calls::{Calls, Gaps, Made, put_at};
+use crate::calls::{Calls, Gaps, Made};
 use queue_steps::model::{Call, Reply};
 use std::alloc::{AllocError, Allocator};
 use std::collections::HashMap;
@@ -26,9 +26,9 @@ pub struct Wrong {
     pub by: usize,
 }
 
-/// What the calls of a history say of its values.
+/// What the calls of a history claim of its values.
 #[derive(Drop)]
-pub enum Told<A: Allocator> {
+pub enum Claim<A: Allocator> {
     /// These values, each brought once, in the order in which their pushes begin.
     Values(Vec<Value, A>),
     /// This item is taken twice, or was never brought, or was taken before it was brought.
@@ -37,10 +37,28 @@ pub enum Told<A: Allocator> {
     Equal,
 }
 
+/// The one of two values whose pop begins later.
+pub fn last_to_leave(one: Option<Value>, other: Option<Value>) -> Option<Value> {
+    match (one, other) {
+        (Some(first), Some(second)) if first.leaves.from >= second.leaves.from => one,
+        (_, Some(_)) => other,
+        (_, None) => one,
+    }
+}
+
+/// The one of two values whose push begins later.
+pub fn last_to_enter(one: Option<Value>, other: Option<Value>) -> Option<Value> {
+    match (one, other) {
+        (Some(first), Some(second)) if first.enters.from >= second.enters.from => one,
+        (_, Some(_)) => other,
+        (_, None) => one,
+    }
+}
+
 // The place of each item's value.
 type Places<A> = HashMap<u64, usize, BuildHasherDefault<FoldHasher>, A>;
 
-/// What the calls say of the values.
+/// What the calls claim of the values.
 ///
 /// # Errors
 ///
@@ -48,7 +66,7 @@ type Places<A> = HashMap<u64, usize, BuildHasherDefault<FoldHasher>, A>;
 pub fn values_of<A: Allocator + Copy>(
     alloc: A,
     calls: &Calls<'_, A>,
-) -> Result<Told<A>, AllocError> {
+) -> Result<Claim<A>, AllocError> {
     let mut values = Vec::new(alloc);
     let mut places: Places<A> = HashMap::with_hasher(alloc, BuildHasherDefault::new());
     for push in 0..calls.len() {
@@ -59,7 +77,7 @@ pub fn values_of<A: Allocator + Copy>(
             continue;
         };
         if places.insert(item, values.len())?.is_some() {
-            return Ok(Told::Equal);
+            return Ok(Claim::Equal);
         }
         values.push(Value {
             item,
@@ -71,10 +89,10 @@ pub fn values_of<A: Allocator + Copy>(
     }
     for pop in 0..calls.len() {
         if let Some(wrong) = note_pop(calls, &mut values, &places, pop) {
-            return Ok(Told::Wrong(wrong));
+            return Ok(Claim::Wrong(wrong));
         }
     }
-    Ok(Told::Values(values))
+    Ok(Claim::Values(values))
 }
 
 // The item that the call brings, or may have brought if it does not end.
@@ -95,7 +113,7 @@ pub fn taken(made: Made) -> Option<u64> {
     }
 }
 
-// Past the last gap: what a call without an end may have brought comes behind all else.
+// Past the last gap: what a call without an end may have brought comes after all else.
 fn never(push: Made, last_gap: usize) -> Gaps {
     let far = match push.reply {
         Some(_) => 1,
@@ -130,10 +148,7 @@ fn note_pop<A: Allocator>(
         });
     }
     if by < value.enters.from {
-        return Some(Wrong {
-            item,
-            by: value.enters.from,
-        });
+        return Some(Wrong { item, by });
     }
     value.pop = Some(pop);
     value.leaves = Gaps {
