@@ -107,9 +107,7 @@ fn refuted<A: Allocator + Copy>(
     ensures { IfOk result (λ o. IfSome o (IsFound rules parties events.now)) }
 {
     let words = most.min(PART_WORDS);
-    let is_refuted = part_refutes(
-        alloc, rules, parties, events, &part.kept, part.looks, words,
-    )?;
+    let is_refuted = part_refutes(alloc, rules, parties, events, &part.kept, part.looks, words)?;
     if is_refuted {
         Ok(Some(Found::Nothing(part.before)))
     } else {

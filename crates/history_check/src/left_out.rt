@@ -5,7 +5,7 @@ ghost use Rattle.history_check.specs.Levels.{Expects};
 ghost use Rattle.history_check.specs.LeftOut.{is_among, is_left_out, remaining, ArePlain};
 ghost use Rattle.history_check.specs.declared.recorded.Event.{Event as SpecEvent};
 
-use crate::expected::{expected, note_past, next_event};
+use crate::expected::{expected, next_event, note_past};
 use crate::recorded::{Event, Rules};
 use crate::search::{Found, find_order};
 use queue_steps::errors::{ForcePushError, PushError};
