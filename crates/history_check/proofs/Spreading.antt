@@ -27,18 +27,12 @@ all_more xs ys es s p o e all = record {
   displace = λ r is. has_more xs ys es s (Move.Displace p r) e (all.displace r is);
 }
 
--- a level keeps a stage that it has, or one as good
-pub keeps_as_good : (level : List Stage) (es : List Event) (s t : Stage) → IsAsGood es s t → Contains level t → Keeps level es s
-keeps_as_good level es s t good has = λ ms g. let h = good ms g in (t, h.0, has, h.1, h.2)
-
+-- a level keeps a stage that it has
 pub keeps_it : (level : List Stage) (es : List Event) (s : Stage) → Contains level s → Keeps level es s
 keeps_it level es s has = λ ms g. (s, ms, has, g, omega arith)
 
 pub as_good_twice : (es : List Event) (s t u : Stage) → IsAsGood es s t → IsAsGood es t u → IsAsGood es s u
 as_good_twice es s t u one two = λ ms g. let h = one ms g in let k = two h.0 h.1 in (k.0, k.1, let le = h.2 in let then = k.2 in omega (arith, le, then))
-
-pub as_good : (es : List Event) (s : Stage) → IsAsGood es s s
-as_good es s = λ ms g. (ms, g, omega arith)
 
 pub extends_twice : (xs ys zs : List Stage) → Extends xs ys → Extends ys zs → Extends xs zs
 extends_twice xs ys zs (a, is) (b, are) = (a ++ b, are ∙ subst (λ (l : List Stage). l ++ b ≡ xs ++ (a ++ b)) (sym is) (append_assoc xs a b))
