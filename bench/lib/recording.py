@@ -15,6 +15,10 @@ class Unreadable(Exception):
     """Why a text is no history, or no answer."""
 
 
+class Undecided(Exception):
+    """Why `queue_check` does not know."""
+
+
 @dataclass
 class Call:
     """A call of a party: its first line, and its last one with the reply, where it has ended. Lines count from 1."""
@@ -53,8 +57,9 @@ def calls_of(lines):
 
 @dataclass
 class Answer:
-    """What `queue_check` answers: the line that nothing explains, if there is one, and the moves of an order, where it prints one."""
+    """What `queue_check` answers, in its words; the line that nothing explains, if there is one; and the moves of an order, where it prints one."""
 
+    verdict: str
     wrong: int = None
     moves: list = field(default_factory=list)
 
@@ -66,7 +71,7 @@ def answer_of(text):
     if first not in ("legal", "not legal") or (first == "not legal" and not place):
         raise Unreadable("this is no answer of queue_check: it begins with `legal`, or with `not legal` and `line N: ..`")
     found = [it for it in map(MOVE.fullmatch, rest) if it]
-    return Answer(int(place[1]) if first == "not legal" else None, [(int(it[1]), int(it[2]), it[3]) for it in found])
+    return Answer(first, int(place[1]) if first == "not legal" else None, [(int(it[1]), int(it[2]), it[3]) for it in found])
 
 
 def ask(checker, kind, lines):
@@ -76,7 +81,7 @@ def ask(checker, kind, lines):
     except OSError as why:
         raise Unreadable(f"{checker} was not started, {why.strerror}: docs/CHECK.md says how it is built") from None
     if run.returncode not in (0, 1):
-        raise Unreadable(f"{checker} {kind}: status {run.returncode}, {run.stderr.strip()}")
+        raise (Undecided if run.returncode == 3 else Unreadable)(f"{checker} {kind}: {run.stderr.strip()}")
     return answer_of(run.stdout)
 
 
@@ -93,14 +98,15 @@ class Move:
 
 def followed(kind, lines, calls, moves):
     """The moves, each with its call and the list after it. `NoOrder` of lib.law says that they are none."""
-    order, taken = Order(rules_of(kind)), 0
+    order, taken, current, begun = Order(rules_of(kind)), 0, {}, {call.first: call for call in calls}
     for before, party, what in moves:
-        for line in lines[taken:before]:
-            order.line(line)
+        for number in range(taken + 1, before + 1):
+            order.line(lines[number - 1])
+            if number in begun:
+                current[begun[number].party] = begun[number]
         taken = before
         order.move(str(party), what)
         items, _, closed, _ = order.queue
-        call = next(it for it in calls if it.party == party and it.is_open_at(before + 1))
-        yield Move(before, call, what, items, closed)
+        yield Move(before, current[party], what, items, closed)
     for line in lines[taken:] if moves else ():
         order.line(line)
