@@ -2,6 +2,7 @@
    its type, make, drop and calls, as mutex.h. */
 #include <inttypes.h>
 #include <pthread.h>
+#include <sched.h>
 #include <stdatomic.h>
 #include <stdio.h>
 #include <stdlib.h>
@@ -22,8 +23,9 @@ static void *run(void *mine)
 {
     unsigned party = (uintptr_t)mine, random = seed * THREADS + party;
     atomic_fetch_add(&arrived, 1);
-    while (atomic_load(&arrived) < THREADS)
-        ;
+    for (unsigned spins = 0; atomic_load(&arrived) < THREADS; spins++)
+        if (spins > 1000)
+            sched_yield();
     for (unsigned at = 0; at < CALLS; at++) {
         unsigned which = rand_r(&random) % (sizeof calls / sizeof *calls);
         uint64_t value = 100 * (party + 1) + at;

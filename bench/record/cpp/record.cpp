@@ -23,7 +23,8 @@ std::vector<std::string> record(Queue &queue, uint64_t seed)
         std::minstd_rand random(seed * THREADS + party + 1);
         std::vector<Call> calls = calls_of(queue, party);
         arrived++;
-        while (arrived < THREADS) {}
+        for (unsigned spins = 0; arrived < THREADS; spins++)
+            if (spins > 1000) std::this_thread::yield();
         for (unsigned at = 0; at < CALLS; at++) {
             const Call &call = calls[random() % calls.size()];
             uint64_t value = 100 * (party + 1) + at;

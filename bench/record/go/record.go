@@ -5,6 +5,7 @@ import (
 	"fmt"
 	"math/rand"
 	"os"
+	"runtime"
 	"strconv"
 	"strings"
 	"sync"
@@ -20,7 +21,11 @@ func record(made []call, seed int64) []string {
 	run := func(party int) {
 		defer ended.Done()
 		random := rand.New(rand.NewSource(seed*parties + int64(party)))
-		for arrived.Add(1); arrived.Load() < parties; {
+		arrived.Add(1)
+		for spins := 0; arrived.Load() < parties; spins++ {
+			if spins > 1000 {
+				runtime.Gosched()
+			}
 		}
 		for at := 0; at < calls; at++ {
 			one := made[random.Intn(len(made))]

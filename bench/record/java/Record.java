@@ -15,7 +15,9 @@ public class Record {
             threads.add(new Thread(() -> {
                 var random = new SplittableRandom(seed * THREADS + party);
                 arrived.incrementAndGet();
-                while (arrived.get() < THREADS) Thread.onSpinWait();
+                for (int spins = 0; arrived.get() < THREADS; spins++)
+                    if (spins > 1000) Thread.yield();
+                    else Thread.onSpinWait();
                 for (int at = 0; at < CALLS; at++) {
                     var call = calls.get(random.nextInt(calls.size()));
                     long value = 100L * (party + 1) + at;

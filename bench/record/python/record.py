@@ -3,6 +3,7 @@ import itertools
 import random
 import sys
 import threading
+import time
 
 from queues import QUEUES
 
@@ -12,7 +13,7 @@ THREADS, CALLS = 3, 8
 def run(calls, party, choice, arrived, clock, lines):
     arrived.append(party)
     while len(arrived) < THREADS:
-        pass
+        time.sleep(0)
     for at in range(CALLS):
         name, call = choice.choice(calls)
         value = 100 * (party + 1) + at

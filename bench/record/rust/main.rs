@@ -20,8 +20,10 @@ fn record(calls: &[Call], seed: u64) -> Vec<String> {
             random % limit
         };
         arrived.fetch_add(1, SeqCst);
+        let mut spins = 0;
         while arrived.load(SeqCst) < THREADS {
-            spin_loop();
+            spins += 1;
+            if spins > 1000 { thread::yield_now() } else { spin_loop() }
         }
         let make_one = |at| {
             let (call, value) = (&calls[below(calls.len() as u64) as usize], 100 * (party + 1) + at);
