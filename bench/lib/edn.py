@@ -49,7 +49,7 @@ class Reader:
         while self.rest and self.rest[-1][0] in ("tag", "discards"):
             kind, _, line = self.rest.pop()
             if kind == "discards" and not self.form():
-                raise BadForm(f"line {line}: #_ has no form behind it")
+                raise BadForm(f"line {line}: #_ has no form after it")
         if not self.rest or self.rest[-1][0] == "closes":
             return None
         kind, text, line = self.rest.pop()

@@ -30,7 +30,7 @@ class Call:
     last: int = None
 
     def is_open_at(self, line):
-        """Whether the line lies behind its beginning and not behind its end."""
+        """Whether the line comes after its beginning, and not after its end."""
         return self.first < line and (self.last is None or line <= self.last)
 
 
@@ -87,7 +87,7 @@ def ask(checker, kind, lines):
 
 @dataclass
 class Move:
-    """A move of a call, behind so many lines of the history, and the list after it."""
+    """A move of a call after so many lines of the history, and the list then."""
 
     before: int
     call: Call

@@ -32,9 +32,9 @@ std::vector<std::string> record(Queue &queue, uint64_t seed)
             unsigned begin = clock++;
             Reply reply = call.make(value);
             unsigned end = clock++;
-            std::string name = call.name, word = reply.word, told = reply.has_value ? std::to_string(reply.value) : "";
+            std::string name = call.name, word = reply.word, number = reply.has_value ? std::to_string(reply.value) : "";
             lines[begin] = std::to_string(party) + " " + (name == "push" ? name + " " + std::to_string(value) : name);
-            lines[end] = std::to_string(party) + " = " + word + (word.empty() || told.empty() ? "" : " ") + told;
+            lines[end] = std::to_string(party) + " = " + word + (word.empty() || number.empty() ? "" : " ") + number;
         }
     };
     std::vector<std::thread> threads;

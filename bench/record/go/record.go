@@ -31,10 +31,10 @@ func record(made []call, seed int64) []string {
 			one := made[random.Intn(len(made))]
 			value := 100*(party+1) + at
 			begin := stamp.Add(1) - 1
-			word, told := one.make(value)
+			word, number := one.make(value)
 			end := stamp.Add(1) - 1
 			lines[begin] = words(party, one.name, one.argument(value))
-			lines[end] = words(party, "=", word, told)
+			lines[end] = words(party, "=", word, number)
 		}
 	}
 	ended.Add(parties)
