@@ -15,6 +15,8 @@ COLOURS = {
     "third": ("#8c959f", "#6e7681"),
     "first-tint": ("#ddf4ff", "#13233a"),
     "second-tint": ("#fff1e5", "#33200f"),
+    "wrong": ("#cf222e", "#f85149"),
+    "wrong-tint": ("#ffebe9", "#3c1618"),
 }
 FONT = "font-family:system-ui,-apple-system,'Segoe UI',Helvetica,Arial,sans-serif"
 
@@ -30,9 +32,10 @@ class Picture:
 
     parts: list = field(default_factory=list)
 
-    def box(self, x, y, width, height, look, edge="", radius=0):
+    def box(self, x, y, width, height, look, edge="", radius=0, dashed=False):
         lined = f" {edge}-line" if edge else ""
-        self.parts.append(f'<rect class="{look}{lined}" x="{x:g}" y="{y:g}" width="{width:g}" height="{height:g}" rx="{radius:g}"/>')
+        dashes = ' stroke-dasharray="4 3"' if dashed else ""
+        self.parts.append(f'<rect class="{look}{lined}" x="{x:g}" y="{y:g}" width="{width:g}" height="{height:g}" rx="{radius:g}"{dashes}/>')
 
     def line(self, x1, y1, x2, y2, look):
         self.parts.append(f'<path class="{look}-line" d="M{x1:g} {y1:g}L{x2:g} {y2:g}"/>')
@@ -43,10 +46,13 @@ class Picture:
         how = f'text-anchor="{anchor}" font-size="{size}" font-weight="{weight}"'
         self.parts.append(f'<text class="{look}{around}" x="{x:g}" y="{y:g}" {how}>{escape(words)}</text>')
 
-    def write(self, path, width, height, title):
-        """Writes all to a file, which says this title to who cannot see it."""
+    def svg(self, width, height, title):
+        """The whole as a file's text, which says this title to who cannot see it."""
         style = f"text{{{FONT}}}.clear{{paint-order:stroke;stroke-width:3;stroke-linejoin:round}}{rules(0)}@media (prefers-color-scheme:dark){{{rules(1)}}}"
         head = f'<svg xmlns="http://www.w3.org/2000/svg" viewBox="0 0 {width:g} {height:g}" width="{width:g}" height="{height:g}" role="img">'
         page = f'<rect class="page" width="{width:g}" height="{height:g}"/>'
         lines = [head, f"<title>{escape(title)}</title>", f"<style>{style}</style>", page, *self.parts, "</svg>"]
-        Path(path).write_text("\n".join(lines) + "\n")
+        return "\n".join(lines) + "\n"
+
+    def write(self, path, width, height, title):
+        Path(path).write_text(self.svg(width, height, title))
