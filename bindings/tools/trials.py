@@ -185,7 +185,7 @@ class Trials:
     def of_processors(self):
         self("test.c on older x86-64", '$cc $flags -static -I"$I" -o a "$F/c/test.c" "$L"; for cpu in qemu64 Conroe Penryn Nehalem; do qemu-x86_64 -cpu $cpu ./a 40 >said; echo $cpu $(tail -n 1 said); done', "qemu-x86_64")
         if not os.path.isdir(f"{self.folder}/c/lib/aarch64"):
-            return self.lacks("aarch64", "library for it in the folder")
+            return self.lacks("test.c, example.c and heap_test.c on aarch64", "library for aarch64 in the folder")
         A = 'A="aarch64-linux-gnu-gcc $flags -static"; L=$F/c/lib/aarch64/libqueue_c.a; '
         needs = ("aarch64-linux-gnu-gcc", "qemu-aarch64")
         self("test.c on aarch64, by qemu", A + '$A -I"$I" -o arm "$F/c/test.c" "$L"; qemu-aarch64 ./arm 100', *needs)
