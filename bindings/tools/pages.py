@@ -1,6 +1,13 @@
-"""The pages of docs/ as the folder has them: without what wants the kit, or files that are not there."""
+#!/usr/bin/env python3
+"""pages.py: whether the pages of docs/ can be made as the folder of `dist` has them, without what wants the kit, or files that are not there.
+
+Where one cannot, it says why, and ends with status 1.
+"""
 import os
 import re
+import shutil
+import sys
+import tempfile
 
 BINDINGS = os.path.dirname(os.path.dirname(os.path.realpath(__file__)))
 DOCS = os.path.join(os.path.dirname(BINDINGS), "docs")
@@ -39,7 +46,6 @@ The first line proves the checker and the eight crates below it, builds it and r
 """,
             "    ./queue_check bounded:16 < recording\n",
         ),
-        ("take the proved build 0.3 s", "take it 0.3 s"),
         ("[The reference](DIFFERENCES.md), one slot", "The crate `concurrent-queue` 2.5.0, one slot"),
         ("of [the cases](../crates/test_cases/data/check), 1,241 lines", "of `recordings/`, 1,241 lines"),
     ),
@@ -53,6 +59,11 @@ COMMAND = re.compile(r"^(\s*)(?:cd crates/(\w+) && )?(.*?)\brt try -- ", re.M)
 def read(path):
     with open(path, encoding="utf-8") as file:
         return file.read()
+
+
+def write(path, text):
+    with open(path, "w", encoding="utf-8") as file:
+        file.write(text)
 
 
 def run_there(text, program):
@@ -91,3 +102,37 @@ def faults(folder, paths):
                 yield f"{path}: no {target}"
         for it in FOREIGN.finditer(text):
             yield f"{path}: {it[0]}"
+
+
+def add(to, names):
+    """Adds the pages of these programs, and what they show, to the folder with the programs."""
+    beside = sorted({it for name in names for it in PAGES[name]})
+    os.makedirs(to, exist_ok=True)
+    for it in beside:
+        if it.endswith(".md"):
+            write(f"{to}/{it}", of_the_folder(it, beside))
+        else:
+            shutil.copyfile(f"{DOCS}/{it}", f"{to}/{it}")
+    for it in [it for name in names for it in RECORDED.get(name, ())]:
+        os.makedirs(f"{to}/recordings", exist_ok=True)
+        shutil.copyfile(f"{RECORDINGS}/{it}", f"{to}/recordings/{it}")
+    return [it for it in beside if it.endswith(".md")]
+
+
+def main():
+    found = []
+    with tempfile.TemporaryDirectory() as folder:
+        write(f"{folder}/PROVED", "")
+        # Of each program alone, too: it may be made without the others.
+        for names in (tuple(PAGES), *((it,) for it in PAGES)):
+            made = add(f"{folder}/{'_'.join(names)}", names)
+            found += faults(f"{folder}/{'_'.join(names)}", made)
+    print("\n".join(sorted(set(found))) or "pages.py: ok")
+    return 1 if found else 0
+
+
+if __name__ == "__main__":
+    try:
+        sys.exit(main())
+    except ValueError as why:
+        sys.exit(f"pages.py: {why}")
