@@ -29,18 +29,15 @@ END
     env -C "$work/$1/lost_close" CARGO_TARGET_DIR="$work/$1/target" timeout 900 cargo run --offline --release --quiet
 }
 
-# Builds the program that decides histories and is proved, or takes the one that QUEUE_CHECK names.
+# Proves and builds the program that decides histories, or takes the one that QUEUE_CHECK names.
 name_queue_check() {
     if [ -z "${QUEUE_CHECK:-}" ]; then
-        # It ends as it does without an argument.
-        env -C "$here/../crates/queue_check" rt run </dev/null >"$work/log" 2>&1 || true
+        if ! "$here/tools/program.py" queue_check; then
+            echo "queue_check, which is to decide histories: FAILED"
+            failed=$((failed + 1))
+            return 1
+        fi
         QUEUE_CHECK=$here/../crates/queue_check/out/queue_check
-    fi
-    if [ ! -x "$QUEUE_CHECK" ]; then
-        echo "queue_check, which is to decide histories: FAILED"
-        tail -n 20 "$work/log"
-        failed=$((failed + 1))
-        return 1
     fi
     export QUEUE_CHECK
 }

@@ -18,7 +18,7 @@ C_FLAGS = "-std=c11 -D_POSIX_C_SOURCE=200809L -O2 -fPIC -fno-ident -Wall -Wextra
 
 
 def stop(why):
-    sys.exit(f"library: {why}")
+    sys.exit(f"{os.path.basename(sys.argv[0])}: {why}")
 
 
 def compiler(arch):

@@ -2,16 +2,19 @@
 """trials.py FOLDER WORK HIDDEN..: tries a folder that bindings/dist made, with these folders hidden and an empty environment. WORK is a new folder.
 
 It hides them by `unshare`, as root or in a namespace of its own; where neither can be had it says so, and tries all the same. It says what it did not
-try, and what for. It ends with status 1 where a trial fails.
+try, and for want of what. It ends with status 1 where a trial fails.
 """
+import collections
 import os
 import pwd
+import re
 import shutil
+import signal
 import subprocess
 import sys
 import time
 
-LIMIT = 1800
+LIMIT = 900
 C = 'cc=$CC; flags="-std=c11 -D_POSIX_C_SOURCE=200809L -O2 -Wall -Wextra -Werror -pthread"; L=$F/c/lib/x86_64/libqueue_c.a; I=$F/c/include\n'
 APP = '#include "queue_c.h"\nint main(void) { queue_c_party a = QUEUE_C_NONE; return queue_c_unbounded(&a) != QUEUE_C_DONE || queue_c_drop(&a) != QUEUE_C_DONE; }\n'
 OWN_HEAP = r'''
@@ -69,17 +72,39 @@ WRONG_HEAPS = {
 }
 
 
+BY_CTYPES = """
+import ctypes
+queue = ctypes.CDLL("./libqueue_c.so")
+party, value = ctypes.c_void_p(), ctypes.c_uint64()
+by = ctypes.byref
+assert queue.queue_c_bounded(by(party), ctypes.c_size_t(2)) == 0
+assert queue.queue_c_push(by(party), ctypes.c_uint64(7)) == 0
+assert queue.queue_c_pop(by(party), by(value)) == 0 and value.value == 7
+assert queue.queue_c_drop(by(party)) == 0
+print("popped", value.value)
+"""
+PAGES = {"queue_run": "PROGRAMS.md", "queue_explore": "EXPLORE.md", "queue_check": "CHECK.md"}
+# A command of a page, the comment behind it, and comments below that; or what a block below the command has.
+SHOWN = re.compile(r"^ +((?:printf|\./queue_)[^#\n]*?)(?: +# (.*(?:\n +# .*)*)|\n\n```\n((?:.*\n)*?)```)$", re.M)
+
+
+def shown(page):
+    """The commands of a page, each with what the page says that it prints."""
+    for command, comment, block in SHOWN.findall(page):
+        yield command, re.sub(r"\n +# ", "\n", comment) or block.rstrip("\n")
+
+
 class Trials:
     def __init__(self, folder, work, is_hidden):
         self.folder, self.work, self.is_hidden = folder, work, is_hidden
-        self.passed, self.failed, self.not_tried = 0, 0, 0
+        self.passed, self.failed, self.lacking = 0, 0, collections.Counter()
 
     def file(self, name, text):
         with open(f"{self.work}/{name}", "w", encoding="utf-8") as file:
             file.write(text)
 
     def lacks(self, name, what):
-        self.not_tried += 1
+        self.lacking[what] += 1
         print(f"{name}: not tried, there is no {what}", flush=True)
 
     def __call__(self, name, script, *needs, **also):
@@ -89,11 +114,13 @@ class Trials:
                 return self.lacks(name, it)
         start = time.monotonic()
         env = {**os.environ, "F": self.folder, "CC": "cc", **also}
+        ran = subprocess.Popen(["bash", "-euc", C + script], cwd=self.work, env=env, stdin=subprocess.DEVNULL, stdout=subprocess.PIPE, stderr=subprocess.STDOUT, text=True, errors="replace", start_new_session=True)
         try:
-            ran = subprocess.run(["bash", "-euc", C + script], cwd=self.work, env=env, stdin=subprocess.DEVNULL, stdout=subprocess.PIPE, stderr=subprocess.STDOUT, text=True, errors="replace", timeout=LIMIT)
-            status, said = ran.returncode, ran.stdout
+            said, status = ran.communicate(timeout=LIMIT)[0], ran.returncode
         except subprocess.TimeoutExpired:
-            status, said = f"none within {LIMIT} seconds", ""
+            # With all that it started, which may have its output open.
+            os.killpg(ran.pid, signal.SIGKILL)
+            said, status = ran.communicate()[0], f"none within {LIMIT} seconds"
         lines = [it for it in said.splitlines() if it.strip()]
         if status == 0:
             self.passed += 1
@@ -136,6 +163,8 @@ class Trials:
         self("a shared library that exports none of it", shared % ",--exclude-libs,libqueue_c.a" + "! grep -e queue_c_ -e rattle_ names; echo none")
         whole = '$cc -shared -o libqueue_c.so -Wl,--whole-archive "$L" -Wl,--no-whole-archive; nm -D --defined-only libqueue_c.so >names; test $(grep -c " T queue_c_" names) = 15; test $(wc -l <names) = 16; echo 15 functions and the version'
         self("the whole of it as a shared library", whole)
+        self.file("by_ctypes.py", BY_CTYPES)
+        self("that library from Python", "python3 by_ctypes.py", "python3")
         version = 'mkdir -p other; sed "s/queue_c_version_[0-9][0-9_]*/queue_c_version_1_0_0/" "$I/queue_c.h" >other/queue_c.h; '
         for flags in ("", "-flto", "-O2 -Wl,--gc-sections -ffunction-sections -fdata-sections"):
             self(f"a header of another version does not link {flags}", version + f'! $cc $flags {flags} -Iother -o a app.c "$L" 2>said; grep -m 1 -o "undefined.*queue_c_version_1_0_0" said')
@@ -156,7 +185,7 @@ class Trials:
     def of_processors(self):
         self("test.c on older x86-64", '$cc $flags -static -I"$I" -o a "$F/c/test.c" "$L"; for cpu in qemu64 Conroe Penryn Nehalem; do qemu-x86_64 -cpu $cpu ./a 40 >said; echo $cpu $(tail -n 1 said); done', "qemu-x86_64")
         if not os.path.isdir(f"{self.folder}/c/lib/aarch64"):
-            return self.lacks("aarch64", "library for it in the folder")
+            return self.lacks("test.c, example.c and heap_test.c on aarch64", "library for aarch64 in the folder")
         A = 'A="aarch64-linux-gnu-gcc $flags -static"; L=$F/c/lib/aarch64/libqueue_c.a; '
         needs = ("aarch64-linux-gnu-gcc", "qemu-aarch64")
         self("test.c on aarch64, by qemu", A + '$A -I"$I" -o arm "$F/c/test.c" "$L"; qemu-aarch64 ./arm 100', *needs)
@@ -166,7 +195,8 @@ class Trials:
     def of_rust(self):
         cd = 'cd "$F/rust"; export CARGO_TARGET_DIR="$W/target"; '
         count = """ | grep '^test result' | awk '{p += $4; f += $6} END {print p " passed, " f " failed"; exit f > 0 || p == 0}'"""
-        self("the crate's tests", cd + "cargo test 2>&1" + count, "cargo", W=self.work)
+        for flags in ("", "--release"):
+            self(f"the crate's tests {flags}", cd + f"cargo test {flags} 2>&1" + count, "cargo", W=self.work)
         self("the crate's example", cd + "cargo run --quiet --example sum", "cargo", W=self.work)
         self("cargo doc", cd + 'RUSTDOCFLAGS=-Dwarnings cargo doc --no-deps 2>&1; ls "$W/target/doc/concurrent_queue/index.html"', "cargo", W=self.work)
         self("another system is refused", cd + '! cargo build --target wasm32-unknown-unknown >"$W/said" 2>&1; grep -h "Linux on x86-64 and aarch64" "$W/said"', "cargo", W=self.work)
@@ -182,23 +212,45 @@ class Trials:
 
     def of_programs(self):
         for at in ("bin", "bin/static"):
-            for name in ("queue_run", "queue_explore", "queue_check"):
-                file = f"{self.folder}/{at}/{name}"
-                if not os.path.isfile(file):
+            for name in PAGES:
+                if os.path.isfile(f"{self.folder}/{at}/{name}"):
+                    self.of_program(at, name)
+                else:
                     self.lacks(f"{at}/{name}", f"{name} in the folder")
-                    continue
-                self(f"{at}/{name}", f'"$F/{at}/{name}" 2>&1 | grep usage')
-                if at == "bin/static":
-                    self(f"{at}/{name} on an older processor", f'qemu-x86_64 -cpu qemu64 "$F/{at}/{name}" 2>&1 | grep usage', "qemu-x86_64")
-            if os.path.isfile(f"{self.folder}/{at}/queue_run"):
-                self(f"{at}/queue_run, threads", f'"$F/{at}/queue_run" threads bounded:3 2 2 2000')
-            if os.path.isfile(f"{self.folder}/{at}/queue_check"):
-                legal = "printf '0 push 1\\n0 = ok\\n1 pop\\n1 = item 1\\n'"
-                self(f"{at}/queue_check, a history", f'{legal} | "$F/{at}/queue_check" bounded:2')
+
+    def of_program(self, at, name):
+        it = f"{at}/{name}"
+        self(it, f'"$F/{it}" 2>&1 | grep usage')
+        with open(f"{self.folder}/bin/{PAGES[name]}", encoding="utf-8") as page:
+            pairs = list(shown(page.read()))
+        script = f'cd "$F/{at}"\n'
+        for number, (command, wanted) in enumerate(pairs):
+            self.file(f"wanted_{number}", wanted)
+            script += f'{{ {command} || true; }} >"$W/said" 2>&1; test "$(cat "$W/said")" = "$(cat "$W/wanted_{number}")" || {{ cat "$W/said"; false; }}\n'
+        self(f"{it}, what its page shows", script + f"echo {len(pairs)} as they are there; test {len(pairs)} -gt 0", W=self.work)
+        if name == "queue_check":
+            status = 'tells() { code=0; "$F/%s" $1 <"$F/bin/recordings/$2" >said || code=$?; test $code = $3 || { echo "$1 $2: $code"; false; }; }; ' % it
+            recordings = "tells single full_beside_an_empty_slot.in 1; tells bounded:2 len_1_beside_a_displacement.in 0; tells atomic:bounded:2 len_1_beside_a_displacement.in 1; cat said"
+            self(f"{it}, its recordings", status + recordings)
+        if at == "bin":
+            glibc = f'readelf --dyn-syms -W "$F/{it}" | grep -o "GLIBC_[0-9.]*" | sort -uV | tail -n 1'
+            self(f"{it} asks for no later glibc", glibc + """ >said; printf 'GLIBC_2.34\n' | sort -V - said | tail -n 1 | grep -x GLIBC_2.34; cat said""", "readelf")
+        else:
+            self(f"{it} on an older processor", f'qemu-x86_64 -cpu qemu64 "$F/{it}" 2>&1 | grep usage', "qemu-x86_64")
+            if self.is_hidden:
+                self(f"{it} where nothing else is", f'rm -rf empty; mkdir empty; cp "$F/{it}" empty/it; chroot empty /it 2>&1 | grep usage')
+            else:
+                self.lacks(f"{it} where nothing else is", "right to another root")
+            self(f"{it}, linked again", f'cd "$F/bin/static/objects"; $CC -static -o "$W/again" {name}.o libos_c.a liblibc_c.a -pthread; "$W/again" 2>&1 | grep usage', W=self.work)
 
     def all(self):
-        print("hidden" if self.is_hidden else "NOT HIDDEN: neither root nor a namespace of one's own can be had here", flush=True)
+        hidden = "hidden" if self.is_hidden else "NOT HIDDEN: neither root nor a namespace of one's own can be had here"
+        print(hidden, flush=True)
         self("sums", 'cd "$F"; sha256sum -c --quiet SHA256SUMS; echo "$(wc -l <SHA256SUMS) files"')
+        first = 'rm -rf taken; cp -r "$F" taken; cd taken; export CARGO_TARGET_DIR="$W/target"; '
+        with open(f"{self.folder}/README.md", encoding="utf-8") as page:
+            commands = [it[4:] for it in page.read().split("\n## ")[0].splitlines() if it.startswith("    ")]
+        self("the first commands of README.md", first + "".join(f"({it}\n)\n" for it in commands) + f"test {len(commands)} = 3", "make", "cargo", W=self.work)
         self.file("own.c", OWN_HEAP)
         self.of_c()
         self.of_links()
@@ -207,7 +259,8 @@ class Trials:
         self.of_rust()
         self.of_programs()
         self("sums afterwards", 'cd "$F"; sha256sum -c --quiet SHA256SUMS; echo "$(wc -l <SHA256SUMS) files"')
-        print(f"{self.passed} passed, {self.failed} failed, {self.not_tried} not tried")
+        wanting = ", ".join(f"{what} ({count})" for what, count in self.lacking.items())
+        print(f"{self.passed} passed, {self.failed} failed, {self.lacking.total()} not tried{wanting and ', for want of: '}{wanting}; {hidden}")
         return int(self.failed > 0)
 
 
