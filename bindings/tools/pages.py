@@ -14,8 +14,8 @@ DOCS = os.path.join(os.path.dirname(BINDINGS), "docs")
 RECORDINGS = os.path.join(os.path.dirname(BINDINGS), "crates", "test_cases", "data", "check")
 
 # What each program has beside it, of docs/ and of the recordings.
-PAGES = {"queue_run": ("PROGRAMS.md", "STEPS.md"), "queue_explore": ("EXPLORE.md", "STEPS.md", "schedule.svg"), "queue_check": ("CHECK.md",)}
-RECORDED = {"queue_check": ("full_beside_an_empty_slot.in", "len_1_beside_a_displacement.in")}
+PAGES = {"queue_run": ("PROGRAMS.md", "STEPS.md"), "queue_explore": ("EXPLORE.md", "STEPS.md", "schedule.svg"), "queue_check": ("CHECK.md", "lost_close.svg")}
+RECORDED = {"queue_check": ("lost_close.in", "len_1_beside_a_displacement.in")}
 
 # What a page says otherwise there. Each text is once on the page of docs/.
 OTHERWISE = {
@@ -35,23 +35,12 @@ OTHERWISE = {
         ("The proved build (`rt run`), on", "On"),
     ),
     "STEPS.md": (("; `cases/waits` has schedules.", "."),),
-    "CHECK.md": (
-        (
-            """`rt try` proves nothing, and gives up after 60 seconds, which some 10,000 lines may take: it then writes `run=no-answer`, which says nothing of the history. `rt try --seconds 600 --` gives it more. A recording is run with the proved program, which is built once:
-
-    (cd crates/queue_check && rt run -- bounded:16 < recording)
-    crates/queue_check/out/queue_check bounded:16 < recording
-
-The first line proves the checker and the eight crates below it, builds it and runs it: from a fresh clone in some 14 [processor minutes](../bench/minutes.tsv). It leaves the program that the second line runs.
-""",
-            "    ./queue_check bounded:16 < recording\n",
-        ),
-        ("[The reference](DIFFERENCES.md), one slot", "The crate `concurrent-queue` 2.5.0, one slot"),
-        ("of [the cases](../crates/test_cases/data/check), 1,241 lines", "of `recordings/`, 1,241 lines"),
-    ),
+    "CHECK.md": (("[FOUND](FOUND.md) has what the tool found in queues of other libraries. Of ours", "Of ours"),),
 }
 # What no page of the folder may say: these are of who has the kit, or the repository.
 FOREIGN = re.compile(r"\brt (?:try|run|check|lib|ci)\b|\b(?:crates|bench|docs|cases)/")
+# What a page has for the repository alone, and what the folder has in its place.
+PLACES = re.compile(r"<!-- in the repository -->\n.*?<!-- in the folder:\s*(.*?)-->\n", re.S)
 LINK = re.compile(r"(!?)\[([^\]]*)\]\(([^)\s]+)\)")
 COMMAND = re.compile(r"^(\s*)(?:cd crates/(\w+) && )?(.*?)\brt try -- ", re.M)
 
@@ -78,6 +67,7 @@ def of_the_folder(name, beside):
         if text.count(old) != 1:
             raise ValueError(f"docs/{name} has not once: {old.splitlines()[0]}")
         text = text.replace(old, new)
+    text = PLACES.sub(lambda it: it[1] and "    " + it[1], text)
     (program,) = [it for it, pages in PAGES.items() if pages[0] == name] or [""]
     text = run_there(text, program)
     text = re.sub(r"\]\(PROVED\.md(?:#[\w-]*)?\)", "](../PROVED)", text)
