@@ -1,1 +1,3 @@
 pub mod ReadEvents
+pub mod Parting
+pub mod Judging

@@ -19,11 +19,13 @@ answer_status answer.Legal = 0
 answer_status (answer.NotLegal n) = 1
 
 abbrev pub stop_text : Stop → List ℕ
-stop_text stop.Usage = codes "usage: queue_check [atomic:]KIND" ++ 10 ∷
+stop_text stop.Usage = codes "usage: queue_check [many] [atomic:]KIND" ++ 10 ∷
     codes "KIND is single, bounded:CAP or unbounded; CAP is 1 to 18446744073709551615; on atomic:KIND a forced push displaces in one step" ++ 10 ∷
-    codes "reads: PARTY CALL where a call begins, PARTY = REPLY where it ends, a line each, in the order of time; PARTY is 0 to 4095; CALL is push N, force N, pop, close, is_closed, is_empty, is_full, len or capacity"
+    codes "reads: PARTY CALL where a call begins, PARTY = REPLY where it ends, a line each, in the order of time; PARTY is 0 to 4095; CALL is push N, force N, pop, close, is_closed, is_empty, is_full, len or capacity" ++ 10 ∷
+    codes "many: a line that begins with # is between two histories"
 stop_text (stop.Fault f) = fault_text f
 stop_text (stop.Line n why) = fault_text (fault.Unreadable n) ++ 10 ∷ line_fault_text why
+stop_text (stop.LineOf k n why) = codes "history " ++ decimal k ++ codes ", " ++ fault_text (fault.Unreadable n) ++ 10 ∷ line_fault_text why
 stop_text stop.TooManyLines = codes "too many lines"
 stop_text stop.TooManyStages = codes "too many stages"
 
@@ -31,8 +33,14 @@ abbrev pub stop_status : Stop → ℕ
 stop_status stop.Usage = 2
 stop_status (stop.Fault f) = fault_status f
 stop_status (stop.Line n why) = 2
+stop_status (stop.LineOf k n why) = 2
 stop_status stop.TooManyLines = 3
 stop_status stop.TooManyStages = 3
+
+-- the same stop, of history k among many
+abbrev pub stop_of : ℕ → Stop → Stop
+stop_of k (stop.Line n why) = stop.LineOf k n why
+stop_of k why = why
 
 -- why a history was not decided
 abbrev pub IsUndecided : Stop → Type 0

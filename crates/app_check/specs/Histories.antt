@@ -1,7 +1,7 @@
--- The text of a recorded history: a line an event.
+-- The lines of a recorded history: one for each event.
 use Rattle.std.specs.Prelude.{◌≡◌, ◌≢◌, ℕ, ◌+◌, ◌<◌, List, [], ◌∷◌, ◌++◌, codes, length, map, Option, Some, None, Result, MatchResult, slice_get, slice_set, replicate}
 use Rattle.std.specs.{Fmt.decimal, List.AllByRecursion}
-use Rattle.app_text.specs.{Reading.IsWord, Calls.call_text, Calls.IsCallOfWord, Replies.reply_text, Lines.lines_of, declared.faults.Fault.Fault as fault}
+use Rattle.app_text.specs.{Reading.IsWord, Calls.call_text, Calls.IsCallOfWord, Replies.reply_text, declared.faults.Fault.Fault as fault}
 use Rattle.{queue_steps.specs.declared.model.Call.Call, history_check.specs.declared.recorded.Event.Event, history_check.specs.declared.recorded.Event.Event as event}
 use Rattle.app_check.specs.{LineFaults.IsLineFault, LineFaults.IsNextFault, Replies.IsReplyOf, declared.line_faults.LineFault.LineFault, declared.faults.Stop.Stop, declared.faults.Stop.Stop as stop, declared.reading.TheConstants.MOST_LINES, declared.reading.TheConstants.MOST_PARTIES}
 
@@ -47,20 +47,26 @@ Lead calls (e ∷ es) after = MayCome calls e × Lead (calls_behind calls e) es 
 unfoldable pub idle : List (Option (Call ℕ))
 idle = replicate MOST_PARTIES None
 
--- the text is that of these events, a line each, and so many parties are enough for them
-pub record IsRecording (text : List ℕ) (parties : ℕ) (events : List Event) : Type 0 where
-  pub lines : map event_text events ≡ lines_of text
+-- the lines are those of these events, a line each, and so many parties are enough for them
+pub record IsRecording (lines : List (List ℕ)) (parties : ℕ) (events : List Event) : Type 0 where
+  pub read : map event_text events ≡ lines
   pub after : List (Option (Call ℕ))
   pub leads : Lead idle events after
   pub enough : AllByRecursion (λ e. party_of e < parties) events
 
--- line n of the text, counted from 1, is the first that is no event which may come there, and this is why
-pub record IsFirstWrong (text : List ℕ) (n : ℕ) (why : LineFault) : Type 0 where
+-- the lines are a history
+pub record IsHistory (lines : List (List ℕ)) : Type 0 where
+  pub parties : ℕ
+  pub events : List Event
+  pub recording : IsRecording lines parties events
+
+-- line n, counted from 1, is the first that is no event which may come there, and this is why
+pub record IsFirstWrong (lines : List (List ℕ)) (n : ℕ) (why : LineFault) : Type 0 where
   pub before : List Event
   pub after : List (Option (Call ℕ))
   pub line : List ℕ
   pub rest : List (List ℕ)
-  pub lines : lines_of text ≡ map event_text before ++ line ∷ rest
+  pub lines_are : lines ≡ map event_text before ++ line ∷ rest
   pub number : n ≡ length before + 1
   pub leads : Lead idle before after
   pub wrong : (e : Event) → MayCome after e → event_text e ≢ line
@@ -79,9 +85,9 @@ abbrev pub IsNextRead : ℕ → Option (Call ℕ) → List ℕ → Result Event 
 IsNextRead p now text found =
     MatchResult found (λ e. ((party_of e ≡ p) × IsNext now e) × (said e ≡ text)) (λ why. ((e : Event) → (party_of e ≡ p) × IsNext now e → said e ≢ text) × IsNextFault now text why)
 
--- why the text was not read
-abbrev pub IsUnread : List ℕ → Stop → Type 0
-IsUnread text (stop.Line n why) = IsFirstWrong text n why
-IsUnread text (stop.Fault fault.NoMemory) = Unit {0}
-IsUnread text stop.TooManyLines = MOST_LINES < length (lines_of text)
-IsUnread text _ = ⊥
+-- why the lines were not read
+abbrev pub IsUnread : List (List ℕ) → Stop → Type 0
+IsUnread lines (stop.Line n why) = IsFirstWrong lines n why
+IsUnread lines (stop.Fault fault.NoMemory) = Unit {0}
+IsUnread lines stop.TooManyLines = MOST_LINES < length lines
+IsUnread lines _ = ⊥

@@ -1,6 +1,8 @@
 pub mod Replies
 pub mod LineFaults
 pub mod Histories
+pub mod Parts
+pub mod Many
 pub mod Orders
 pub mod Answers
 pub mod Asked

@@ -2,6 +2,7 @@
 ghost use Rattle.std.specs.Prelude.{◌≡◌, ◌<◌, ◌≤◌, ◌++◌, ◌∷◌, None, Some, IfOk, MatchOption, MatchResult, length, replicate, slice_get};
 ghost use Rattle.std.specs.Fmt.{decimal};
 ghost use Rattle.app_text.specs.Reading.{IsWord};
+ghost use Rattle.app_text.specs.Lines.{lines_of};
 ghost use Rattle.app_check.specs.declared.reading.TheConstants.{MOST_PARTIES};
 ghost use Rattle.app_check.specs.Histories.{calls_behind, party_of, HasNoNumber, IsEventRead, IsNextRead, IsRecording, IsUnread, MayCome};
 ghost use Rattle.app_check.specs.LineFaults.{IsLineFault};
@@ -41,7 +42,7 @@ pub struct History<A: Allocator> {
 ///
 /// `Line` with the number of the first line that is no event which may come there, and why; `TooManyLines`, and `NoMemory`.
 pub fn read_history<A: Allocator + Copy>(alloc: A, text: &[u8]) -> Result<History<A>, Stop>
-    ensures { MatchResult result (λ history. IsRecording text.now history.parties history.events.items) (IsUnread text.now) }
+    ensures { MatchResult result (λ history. IsRecording (lines_of text.now) history.parties history.events.items) (IsUnread (lines_of text.now)) }
 {
     let mut open = between_calls(alloc, MOST_PARTIES)?;
     let calls = open.as_mut_slice();
