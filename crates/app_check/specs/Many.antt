@@ -23,6 +23,10 @@ pub record IsJudged (rules : Rules) (lines : List (List ℕ)) (j : Judgement) : 
 abbrev pub AreJudged : Rules → List (List (List ℕ)) → List Judgement → Type 0
 AreJudged rules histories judgements = AllZip (λ lines j. IsJudged rules lines j) histories judgements
 
+-- the same, by some rules
+abbrev pub AreJudgements : List (List (List ℕ)) → List Judgement → Type 0
+AreJudgements histories judgements = (rules : Rules) × AreJudged rules histories judgements
+
 -- history k, counted from 1, is the first that is not read, and this is why
 pub record IsFirstUnread (histories : List (List (List ℕ))) (k : ℕ) (why : Stop) : Type 0 where
   pub before : List (List (List ℕ))

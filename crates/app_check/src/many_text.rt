@@ -2,7 +2,7 @@
 ghost use Rattle.std.specs.Prelude.{◌≡◌, ◌+◌, ◌^◌, ◌<◌, ◌++◌, List, ℕ, Some, IfOk, OnOk, length, string_bytes, take};
 ghost use Rattle.app_text.specs.Lines.{lines_of};
 ghost use Rattle.app_check.specs.Parts.{histories_of};
-ghost use Rattle.app_check.specs.Many.{counts_text, lines_text, many_status, IsManyText, IsShortestText};
+ghost use Rattle.app_check.specs.Many.{counts_text, lines_text, many_status, AreJudgements, IsManyText, IsShortestText};
 
 use crate::histories::history_at;
 use crate::judgements::Judgement;
@@ -17,7 +17,7 @@ pub fn many_told<A: Allocator>(
     text: &[u8],
     judgements: &[Judgement],
 ) -> Result<(u8, Vec<u8, A>), AllocError>
-    requires { length judgements.now ≡ length (histories_of (lines_of text.now)) }
+    requires { AreJudgements (histories_of (lines_of text.now)) judgements.now }
     ensures { IfOk result (λ p. (p.0 ≡ many_status judgements.now) × IsManyText (histories_of (lines_of text.now)) judgements.now p.1.items) }
 {
     let tally = tally_of(judgements);
