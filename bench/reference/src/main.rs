@@ -1,4 +1,4 @@
-//! Times the reference crate as `bench_queue` times this one. The arguments are its own: `alone KIND PATTERN BYTES COUNT` or `threads KIND PUSHERS POPPERS COUNT`. It has one form of queue, so `owned` and `ended` are not known here.
+//! Times the reference crate as `bench_queue` times this one. The arguments are its own: `alone KIND PATTERN BYTES COUNT` or `threads KIND PUSHERS POPPERS COUNT`. It has one form of queue, so `owned` and `ended` are not known here. And `made SLOTS COUNT` makes queues, as `lib/made.c` does.
 
 use concurrent_queue::{ConcurrentQueue, PopError};
 use std::env;
@@ -242,9 +242,55 @@ fn peak() -> Option<u64> {
     size.trim().strip_suffix(" kB")?.parse().ok()
 }
 
+/// What glibc's allocator says of itself.
+#[repr(C)]
+struct Mallinfo2 {
+    arena: usize,
+    ordblks: usize,
+    smblks: usize,
+    hblks: usize,
+    hblkhd: usize,
+    usmblks: usize,
+    fsmblks: usize,
+    uordblks: usize,
+    fordblks: usize,
+    keepcost: usize,
+}
+
+extern "C" {
+    fn mallinfo2() -> Mallinfo2;
+}
+
+/// The bytes that are allocated.
+fn allocated() -> usize {
+    // SAFETY: the function has no precondition.
+    let it = unsafe { mallinfo2() };
+    it.uordblks + it.hblkhd
+}
+
+/// Makes so many queues, one after another. Tells the mean time of making one, the clock's own with it, and the bytes that one has.
+fn tell_made(slots: usize, count: u32) {
+    let (mut took, mut bytes) = (Duration::ZERO, 0);
+    for _ in 0..count {
+        let before = allocated();
+        let start = Instant::now();
+        let queue: ConcurrentQueue<u64> = black_box(ConcurrentQueue::bounded(slots));
+        took += start.elapsed();
+        bytes = allocated() - before;
+        drop(queue);
+    }
+    println!("{} ns each, {bytes} bytes", took.as_nanos() / u128::from(count.max(1)));
+}
+
 fn main() -> ExitCode {
     let args: Vec<String> = env::args().skip(1).collect();
     let words: Vec<&str> = args.iter().map(String::as_str).collect();
+    if let ["made", slots, count] = words[..] {
+        if let (Ok(slots), Ok(count)) = (slots.parse(), count.parse()) {
+            tell_made(slots, count);
+            return ExitCode::SUCCESS;
+        }
+    }
     let Some(Run { sum, took }) = run(&words) else {
         eprintln!("alone KIND PATTERN BYTES COUNT | threads KIND PUSHERS POPPERS COUNT");
         return ExitCode::FAILURE;
