@@ -1,4 +1,5 @@
-/* made SLOTS COUNT: makes so many queues, one after another, and prints the mean time of making one, the clock's own with it, and the bytes that one has. */
+/* made SLOTS COUNT: makes so many queues, one after another, and prints the mean time of making one, the clock's own with it, and the bytes that the
+ * first one has. (What is freed may count as allocated later.) */
 #define _GNU_SOURCE
 #include "queue_c.h"
 #include <malloc.h>
@@ -28,7 +29,7 @@ int main(int words, char **word) {
         double start = now();
         if (queue_c_bounded(&party, slots) != QUEUE_C_DONE) return 1;
         took += now() - start;
-        bytes = allocated() - before;
+        if (!i) bytes = allocated() - before;
         queue_c_drop(&party);
     }
     printf("%.0f ns each, %zu bytes\n", took / (double)count, bytes);

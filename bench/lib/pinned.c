@@ -10,6 +10,7 @@
 #include <pthread.h>
 #include <sched.h>
 #include <stdatomic.h>
+#include <stdbool.h>
 #include <stdlib.h>
 #include <string.h>
 #include <sys/mman.h>
@@ -93,13 +94,16 @@ void *realloc(void *block, size_t size) {
     return now ? memcpy(now, block, before < size ? before : size) : 0;
 }
 
-/* Two threads that hand a cache line to each other. */
+/* Two threads that hand a cache line to each other. Beside busy processes that may take long, so they end after a while. */
 struct player {
     int processor, turn, trips;
-    double took;
+    double each;
 };
 
+static const double LONGEST = 2e7;
+
 static _Alignas(PAIR_OF_LINES) atomic_int line;
+static _Alignas(PAIR_OF_LINES) atomic_bool is_over;
 
 static double now(void) {
     struct timespec it;
@@ -109,14 +113,16 @@ static double now(void) {
 
 static void *play(void *it) {
     struct player *player = it;
-    double start = 0;
+    int trips = 0;
     pin(player->processor);
-    for (int trip = -player->trips / 8; trip < player->trips; trip++) {
-        if (!trip) start = now();
-        while (atomic_load(&line) != player->turn) {}
+    double start = now();
+    /* (the clock is read now and then alone) */
+    for (; trips < player->trips && (trips % 64 || now() - start < LONGEST); trips++) {
+        while (atomic_load(&line) != player->turn && !atomic_load(&is_over)) {}
         atomic_store(&line, 1 - player->turn);
     }
-    player->took = now() - start;
+    atomic_store(&is_over, true);
+    player->each = (now() - start) / trips;
     return 0;
 }
 
@@ -125,8 +131,9 @@ double to_and_fro(int one, int other, int trips) {
     struct player players[] = {{one, 0, trips, 0}, {other, 1, trips, 0}};
     pthread_t threads[2];
     atomic_store(&line, 0);
+    atomic_store(&is_over, false);
     for (int i = 0; i < 2; i++)
         if (pthread_create(&threads[i], 0, play, &players[i])) abort();
     for (int i = 0; i < 2; i++) pthread_join(threads[i], 0);
-    return players[0].took / trips;
+    return players[0].each;
 }

@@ -98,11 +98,12 @@ def run(machine, quiet, busy, rounds):
         with machine.made_busy():
             run_all(machine, busy, min(rounds, BUSY_ROUNDS), is_busy=True)
     lines = [line for row in quiet for line in row.lines if line]
-    apart = f"a cache line goes to and fro in {statistics.median(lines):.0f} ns, {min(lines):.0f} to {max(lines):.0f}; " if lines else ""
     left_out = sum(len(row.lines) - len(row.kept()) for row in quiet)
     return [
-        f"medians of {rounds} rounds with the range, beside busy processes of {BUSY_ROUNDS} at most; all programs and rows in turn; each thread on a processor, drawn by lot in each round; load averages {start} at the start, {end} at the end",
-        f"{apart}{left_out} of {rounds * len(quiet)} rounds are left out, in which two of the processors were one core: the line took less than half of its usual time",
+        f"medians of {rounds} rounds with the range, beside busy processes of {min(rounds, BUSY_ROUNDS)}; all programs and rows in turn",
+        "each thread on a processor, drawn by lot in each round" + (f"; a cache line goes to and fro in {statistics.median(lines):.0f} ns, {min(lines):.0f} to {max(lines):.0f}" if lines else ""),
+        f"{left_out} of {rounds * len(quiet)} rounds of a row are left out, in which two of the processors were one core: the line took less than half of its usual time",
+        f"load averages {start} at the start, {end} at the end, before the rows beside busy processes",
     ]
 
 

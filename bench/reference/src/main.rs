@@ -268,15 +268,17 @@ fn allocated() -> usize {
     it.uordblks + it.hblkhd
 }
 
-/// Makes so many queues, one after another. Tells the mean time of making one, the clock's own with it, and the bytes that one has.
+/// Makes so many queues, one after another. Tells the mean time of making one, the clock's own with it, and the bytes that the first one has.
 fn tell_made(slots: usize, count: u32) {
     let (mut took, mut bytes) = (Duration::ZERO, 0);
-    for _ in 0..count {
+    for made in 0..count {
         let before = allocated();
         let start = Instant::now();
         let queue: ConcurrentQueue<u64> = black_box(ConcurrentQueue::bounded(slots));
         took += start.elapsed();
-        bytes = allocated() - before;
+        if made == 0 {
+            bytes = allocated() - before;
+        }
         drop(queue);
     }
     println!("{} ns each, {bytes} bytes", took.as_nanos() / u128::from(count.max(1)));
