@@ -37,16 +37,15 @@ def build(source, packages):
         print("cargo is not there, so not measured:", ", ".join(wanted))
         return None, {}
     there = {name: line for name, line in wanted.items() if any(packages.glob(f"{name}-[0-9]*"))}
-    for crates, flags in [(there, from_packages(packages)), (wanted, ["--config=net.retry=0"])]:
+    tries = [(there, from_packages(packages)), (wanted, ["--config=net.retry=0"]), ({}, ["--offline"])]
+    for crates, flags in tries[not there:]:
         folder = lay(source, crates.values())
-        if crates and said("cargo", "build", "--release", "--quiet", "--all-features", *flags, cwd=folder) is not None:
+        if is_built := said("cargo", "build", "--release", "--quiet", "--all-features", *flags, cwd=folder) is not None:
             break
-    else:
-        crates = {}
     missing = [it for it in wanted if it not in crates]
     if missing:
         print("not measured:", ", ".join(missing), "(no packages, no registry). In Debian: apt-get install", *(f"librust-{it}-dev" for it in missing), "or bench/crates FOLDER")
-    if not crates:
+    if not is_built:
         return None, {}
     lock = (folder / "Cargo.lock").read_text()
     return folder / "target" / "release" / source.name, {it: re.search(rf'name = "{it}"\nversion = "([^"]+)"', lock)[1] for it in crates}

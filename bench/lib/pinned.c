@@ -1,7 +1,8 @@
 /* Preloaded into a program that is timed, so that its threads and its memory lie where they are put:
  *
  *   PINS=2,0,..   the processors of its threads, in the order in which they are started; the last is the main thread's too
- *   PLACE=N       each block of 64 bytes or more begins N bytes after a multiple of 128. N is a multiple of 16. Such blocks are never used again.
+ *   PLACE=N       each block of 64 bytes or more that it has before it starts a thread begins N bytes after a multiple of 128. N is a multiple of 16. The
+ *                 memory of such blocks is not used again.
  *
  * `to_and_fro` is for the script, which loads this library as well.
  */
@@ -73,7 +74,7 @@ static int is_placed(void *block) { return room && (char *)block >= room && (cha
 
 /* A block in the room, its size in the bytes before it. */
 void *malloc(size_t size) {
-    if (!room || size < LEAST_PLACED || size > ROOM) return __libc_malloc(size);
+    if (!room || atomic_load(&started) || size < LEAST_PLACED || size > ROOM) return __libc_malloc(size);
     size_t whole = (PAIR_OF_LINES + place + size + PAIR_OF_LINES - 1) / PAIR_OF_LINES * PAIR_OF_LINES;
     size_t at = atomic_fetch_add(&used, whole);
     if (at + whole > ROOM) return __libc_malloc(size);
