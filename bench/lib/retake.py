@@ -4,6 +4,7 @@ import shutil
 import subprocess
 
 from lib import pages
+from lib.wrong import link
 
 OWN = {
     "crates/app/src/main.rt": "//! The owner's own.\n",
@@ -17,13 +18,6 @@ OWN = {
 ABOVE = ["# the owner's crates", "app: exclusive_queue own_cells # and not more"]
 BETWEEN = ["# between the marks", "mid: app"]
 BELOW = ["# below", "tool: mid"]
-
-
-def link(source, to):
-    try:
-        os.link(source, to)
-    except OSError:
-        shutil.copyfile(source, to)
 
 
 def write(path, text):

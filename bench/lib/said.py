@@ -1,5 +1,6 @@
 """What `take` says, and that it says no more: of old names in the crates of whoever takes, and where nobody reads to the end."""
 import os
+import re
 import subprocess
 
 from lib import pages
@@ -52,7 +53,7 @@ def take(*words):
 def named(said):
     """The old names that a take has found, each with the new one."""
     lines = (it.split(" names ")[1] for it in said.splitlines() if " names " in it)
-    return dict(it.removesuffix(" now").split(", which is ") for it in lines)
+    return dict(re.sub(" now$", "", it).split(", which is ") for it in lines)
 
 
 def says(top):

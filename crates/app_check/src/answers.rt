@@ -9,8 +9,8 @@ use history_check::recorded::{Event, Move, Rules};
 use std::alloc::{AllocError, Allocator};
 use std::fmt::Write;
 
-/// How many stages beside each other are looked at.
-pub const MOST_STAGES: usize = 1_000_000;
+/// How many words the stages beside each other, and the moves to them, may take up: 1 GiB.
+pub const MOST_WORDS: usize = 1 << 27;
 
 /// What is told of a history.
 #[derive(Clone, Copy)]
@@ -46,7 +46,7 @@ pub fn answer_of<A: Allocator + Copy>(
 ) -> Result<(Answer, String<A>), Stop>
     ensures { MatchResult result (λ p. IsAnswer rules parties events.now p.0 (string_bytes p.1)) IsUndecided }
 {
-    match decide(alloc, rules, parties, events, MOST_STAGES)? {
+    match decide(alloc, rules, parties, events, MOST_WORDS)? {
         Verdict::Legal(moves) => Ok((Answer::Legal, legal_text(alloc, &moves)?)),
         Verdict::NotLegal(count) => Ok((Answer::NotLegal(count), not_legal_text(alloc, count)?)),
         Verdict::TooMany => Err(Stop::TooManyStages),

@@ -1,7 +1,7 @@
 -- A call within the driver: what is so of one that is on its way, and what steps leave of it.
 use Rattle.std.specs.Prelude.{◌≡◌, ℕ, zero, suc, Option, Some}
 use Rattle.std.specs.{ControlFlow.MatchControlFlow, declared.ops.ControlFlow.ControlFlow}
-use Rattle.queue_steps.specs.{declared.sizes.TheConstants.STEPS_ALONE, declared.model.Call.Call, declared.model.Reply.Reply, declared.steps.types.Kind.Kind, Kinds.call_kind, Kinds.filled}
+use Rattle.queue_steps.specs.{declared.model.Call.Call, declared.model.Reply.Reply, declared.steps.types.Kind.Kind, Kinds.call_kind, Kinds.filled}
 use Rattle.call_driver.specs.{Leads.GoesOn, declared.site.Site.Ghosts, declared.progress.Progress.Progress}
 
 module _ {O M T B S K : Type 0} (m : Ghosts O M T B S K) where
@@ -42,12 +42,3 @@ module _ {O M T B S K : Type 0} (m : Ghosts O M T B S K) where
   StaysOnWay k call site p x before left y after told =
       (n : ℕ) (c : Call T) (first : S) → OnWay n k call site first c p x before
       → MatchControlFlow told (λ more. OnWay n k call site first c left y after) (EndsWith site first c y after)
-
-  -- whichever call was on its way, it has ended with this reply and the value y
-  abbrev pub EndsRightly : Kind → Call Unit → M → Progress B → Option T → S → Option T → S → Reply Unit → Type 0
-  EndsRightly k call site p x before y after reply =
-      (n : ℕ) (c : Call T) (first : S) → suc n ≡ STEPS_ALONE → OnWay n k call site first c p x before → EndsWith site first c y after reply
-
-  -- some call is on its way that ends within the steps that a call takes at most which runs alone
-  abbrev pub CanEnd : Kind → Call Unit → M → Progress B → Option T → S → Type 0
-  CanEnd k call site p x seat = (n : ℕ) × (suc n ≡ STEPS_ALONE) × IsUnderWay n k call site p x seat

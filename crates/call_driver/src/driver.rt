@@ -1,24 +1,23 @@
 //! The driver of a call: it asks for the next step, has it done where such steps are done, and asks again, until the reply.
 //!
-//! A call takes fast steps first, which stand one after another. Any other step leaves for the slow path: on a chain the steps of a block's end, and then a loop.
+//! A call takes fast steps first, which stand one after another. At any other step it leaves them: on a chain for the steps of a block's end, and then for a loop.
 ghost use Rattle.std.specs.Prelude.{◌≡◌, ℕ, suc, true};
 ghost use Rattle.queue_steps.specs.declared.model.Call.{Call as SpecCall};
 ghost use Rattle.queue_steps.specs.declared.sizes.TheConstants.{STEPS_ALONE};
 ghost use Rattle.queue_steps.specs.Kinds.{call_kind, call_value};
 ghost use Rattle.queue_steps.specs.WaitFree.{is_wait_free};
 ghost use Rattle.call_driver.specs.Apart.{IsCall, FitsCall};
-ghost use Rattle.call_driver.specs.OnWay.{OnWay, CanEnd, EndsRightly, EndsWith};
+ghost use Rattle.call_driver.specs.OnWay.{OnWay, EndsWith};
 
 use crate::fast::Row;
 use crate::gate::Gate;
 use crate::progress::Progress;
-use crate::retry::End;
-use crate::site::{SharedSite, Site};
+use crate::retry::finish_alone;
+use crate::site::{AloneSite, SharedSite, Site};
 use crate::steps::end;
 use queue_steps::model::{Call, CallKind, Reply, ReplyKind};
 use queue_steps::sizes::WAIT_FREE_STEPS;
 use queue_steps::steps::{Answer, Kind, KindSteps, Local, Next};
-use std::mem;
 use std::ops::ControlFlow;
 
 /// A call on its way, before its first step.
@@ -43,61 +42,13 @@ pub fn begin<M: Site>(
     )
 }
 
-/// The steps of a call that are not known to be common, to its end.
-#[cold]
-#[inline(never)]
-fn slow_path<M: Site, G: Gate, E: End<M> + Drop>(
-    site: &M::Shared,
-    gate: &G,
-    end: E,
-    kind: Kind,
-    call: CallKind,
-    seat: &mut M::Seat,
-    progress: Progress<M::Block>,
-    carried: &mut Option<M::Item>,
-) -> ReplyKind
-    requires kind { M.Steps.has_kind kind }
-    requires can { CanEnd M.Site kind call site.now progress carried.old seat.old }
-    ensures { EndsRightly M.Site kind call site.now progress carried.old seat.old carried.new seat.new result }
-{
-    end.finish(site, gate, kind, call, seat, progress, carried)
-}
-
-/// Goes on where no step is known to be common. What the slow path is handed is made here alone, so that the fast steps write none of it. So the carried value goes to a place of its own and back: the slow path never gets the place that the fast steps are lent, and a word stays in a register there.
-#[inline(always)]
-pub fn leave<M: Site, G: Gate, E: End<M> + Drop>(
-    site: &M::Shared,
-    gate: &G,
-    end: E,
-    kind: Kind,
-    call: CallKind,
-    seat: &mut M::Seat,
-    progress: &Progress<M::Block>,
-    carried: &mut Option<M::Item>,
-) -> ReplyKind
-    requires kind { M.Steps.has_kind kind }
-    requires can { CanEnd M.Site kind call site.now progress.now carried.old seat.old }
-    ensures { EndsRightly M.Site kind call site.now progress.now carried.old seat.old carried.new seat.new result }
-{
-    let left = Progress {
-        local: progress.local,
-        answer: progress.answer,
-    };
-    let mut own = carried.take();
-    let reply = slow_path::<M, G, E>(site, gate, end, kind, call, seat, left, &mut own);
-    let none = mem::replace(carried, own);
-    let None = none else { unreachable!() };
-    reply
-}
-
-/// Runs a call to its end, after the fast steps `F`. What may wait is called in one place only, once these are over.
+/// Runs a call of one owner to its end, after the fast steps `F`.
 ///
 /// The place of the value that the call carries is lent, and then holds what it ends with.
 #[inline(always)]
-pub fn drive<M: Site, G: Gate, E: End<M> + Drop, F: Row<M, G>>(
+pub fn drive<M: AloneSite, G: Gate, F: Row<M, G>>(
     site: &M::Shared,
     gate: &G,
-    end: E,
     seat: &mut M::Seat,
     call: CallKind,
     carried: &mut Option<M::Item>,
@@ -110,26 +61,9 @@ pub fn drive<M: Site, G: Gate, E: End<M> + Drop, F: Row<M, G>>(
     match F::run(site, gate, kind, call, seat, &mut progress, carried) {
         ControlFlow::Break(reply) => reply,
         ControlFlow::Continue(()) => {
-            leave::<M, G, E>(site, gate, end, kind, call, seat, &progress, carried)
+            finish_alone::<M, G>(site, gate, kind, call, seat, &progress, carried)
         }
     }
-}
-
-/// Runs a call to its end, in the loop alone.
-pub fn drive_in_loop<M: Site, G: Gate, E: End<M> + Drop>(
-    site: &M::Shared,
-    gate: &G,
-    end: E,
-    seat: &mut M::Seat,
-    call: CallKind,
-    carried: &mut Option<M::Item>,
-) -> ReplyKind
-    requires rests { M.rests site.now seat.old }
-    requires whole { FitsCall call carried.old }
-    ensures { (c : SpecCall M.Item) → IsCall call carried.old c → EndsWith M.Site site.now seat.old c carried.new seat.new result }
-{
-    let (kind, progress) = begin::<M>(site, seat, call);
-    end.finish(site, gate, kind, call, seat, progress, carried)
 }
 
 /// Runs a wait-free call to its end. That this comes by its second step is the site's law (`wait_free` of `SharedSite`).

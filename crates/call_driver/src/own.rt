@@ -6,10 +6,9 @@ ghost use Rattle.call_driver.specs.Apart.{FitsCall, SequentialApart};
 ghost use Rattle.call_driver.specs.Own.{MayTake, Took};
 
 use crate::cells::OwnCells;
-use crate::driver::{drive as drive_at, drive_in_loop as drive_in_loop_at};
-use crate::fast::Usual;
+use crate::driver::drive as drive_at;
+use crate::fast::{Rest, Usual};
 use crate::gate::Open;
-use crate::retry::{OverBlocks, Within};
 use crate::site::{AloneSite, Site};
 use queue_steps::model::{Call, CallKind, Reply, ReplyKind};
 use queue_steps::sizes::STEPS_ALONE;
@@ -107,25 +106,17 @@ pub fn drive<C: OwnCells, W>(
     ensures idle { C.idle cells.new }
     ensures sequential { SequentialApart (C.owned cells.old) call carried.old result carried.new (C.owned cells.new) }
 {
-    let end = OverBlocks { then: Within };
-    drive_at::<Own<C>, Open, OverBlocks<Within>, Usual<W>>(&(), &Open, end, cells, call, carried)
+    drive_at::<Own<C>, Open, Usual<W>>(&(), &Open, cells, call, carried)
 }
 
-/// Runs a call to its end, in the loop alone.
+/// Runs a call to its end, without fast steps.
 pub fn drive_in_loop<C: OwnCells>(cells: &mut C, call: Call<C::Item>) -> Reply<C::Item>
     requires { C.idle cells.old }
     ensures idle { C.idle cells.new }
     ensures sequential { Sequential (C.owned cells.old) call result (C.owned cells.new) }
 {
     let (call, mut carried) = call.split();
-    let reply = drive_in_loop_at::<Own<C>, Open, Within>(
-        &(),
-        &Open,
-        Within,
-        cells,
-        call,
-        &mut carried,
-    );
+    let reply = drive_at::<Own<C>, Open, Rest<()>>(&(), &Open, cells, call, &mut carried);
     Reply::fill(reply, carried)
 }
 

@@ -1,7 +1,9 @@
 //! The loops in which a call takes the steps that are rare, and tries again.
-ghost use Rattle.std.specs.Prelude.{◌≡◌, ℕ, true};
+ghost use Rattle.std.specs.Prelude.{◌≡◌, ◌-◌, ℕ, true};
+ghost use Rattle.queue_steps.specs.declared.model.Call.{Call as SpecCall};
+ghost use Rattle.queue_steps.specs.declared.sizes.TheConstants.{STEPS_ALONE};
 ghost use Rattle.queue_steps.specs.CommonNext.{is_walk_of};
-ghost use Rattle.call_driver.specs.OnWay.{IsUnderWay, CanEnd, TakesStep, EndsRightly};
+ghost use Rattle.call_driver.specs.OnWay.{OnWay, IsUnderWay, TakesStep, EndsWith};
 
 use crate::fast::pass_block_end;
 use crate::gate::Gate;
@@ -11,6 +13,7 @@ use crate::steps::{any_step, walking_step};
 use queue_steps::model::{CallKind, ReplyKind};
 use queue_steps::sizes::{BLOCK_SLOTS, STEPS_ALONE};
 use queue_steps::steps::{Kind, KindSteps, blocks};
+use std::mem;
 use std::ops::ControlFlow;
 
 /// The steps of a call that walks over a block, until it does another. The compiler knows in this loop where the call stands.
@@ -68,84 +71,80 @@ pub fn retry<M: Site, G: Gate>(
     }
 }
 
-/// How a call comes to its end, once no step is known to be common.
-pub trait End<M: Site> {
-    /// Takes steps in a loop until the reply.
-    fn finish<G: Gate>(
-        self,
-        site: &M::Shared,
-        gate: &G,
-        kind: Kind,
-        call: CallKind,
-        seat: &mut M::Seat,
-        progress: Progress<M::Block>,
-        carried: &mut Option<M::Item>,
-    ) -> ReplyKind
-        requires kind { M.Steps.has_kind kind }
-        requires can { CanEnd M.Site kind call site.now progress carried.old seat.old }
-        ensures { EndsRightly M.Site kind call site.now progress carried.old seat.old carried.new seat.new result };
+/// The loop of a call of one owner, which comes to its end within a number of steps.
+fn retry_alone<M: AloneSite, G: Gate>(
+    site: &M::Shared,
+    gate: &G,
+    kind: Kind,
+    call: CallKind,
+    seat: &mut M::Seat,
+    progress: Progress<M::Block>,
+    carried: &mut Option<M::Item>,
+) -> ReplyKind
+    requires kind { M.Steps.has_kind kind }
+    requires on_way { IsUnderWay M.Site (STEPS_ALONE - 1) kind call site.now progress carried.old seat.old }
+    ensures { (c : SpecCall M.Item) (first : M.Seat) → OnWay M.Site (STEPS_ALONE - 1) kind call site.now first c progress carried.old seat.old → EndsWith M.Site site.now first c carried.new seat.new result }
+{
+    let mut progress = progress;
+    for _ in 0..STEPS_ALONE {
+        match retry::<M, G>(site, gate, kind, call, seat, progress, carried) {
+            ControlFlow::Break(reply) => return reply,
+            ControlFlow::Continue(after) => progress = after,
+        }
+    }
+    unreachable!()
 }
 
-/// The end of a call where there are blocks: it takes the steps of a block's end first.
-#[derive(Drop)]
-pub struct OverBlocks<E> {
-    /// What comes after those.
-    pub then: E,
-}
+/// Tells the steps of a block's end here from those of a party's calls.
+struct Alone;
 
-impl<M: Site, E: End<M> + Drop> End<M> for OverBlocks<E> {
-    #[inline(always)]
-    fn finish<G: Gate>(
-        self,
-        site: &M::Shared,
-        gate: &G,
-        kind: Kind,
-        call: CallKind,
-        seat: &mut M::Seat,
-        progress: Progress<M::Block>,
-        carried: &mut Option<M::Item>,
-    ) -> ReplyKind
-        requires kind { M.Steps.has_kind kind }
-        requires can { CanEnd M.Site kind call site.now progress carried.old seat.old }
-        ensures { EndsRightly M.Site kind call site.now progress carried.old seat.old carried.new seat.new result }
-    {
-        let OverBlocks { then } = self;
-        let mut progress = progress;
-        match pass_block_end::<M, G, E>(site, gate, kind, call, seat, &mut progress, carried) {
-            ControlFlow::Break(reply) => reply,
-            ControlFlow::Continue(()) => {
-                then.finish(site, gate, kind, call, seat, progress, carried)
-            }
+/// The steps of a call of one owner that are not known to be common, to its end: those of a block's end, and then the loop.
+#[cold]
+#[inline(never)]
+fn go_on_alone<M: AloneSite, G: Gate>(
+    site: &M::Shared,
+    gate: &G,
+    kind: Kind,
+    call: CallKind,
+    seat: &mut M::Seat,
+    progress: Progress<M::Block>,
+    carried: &mut Option<M::Item>,
+) -> ReplyKind
+    requires kind { M.Steps.has_kind kind }
+    requires on_way { IsUnderWay M.Site (STEPS_ALONE - 1) kind call site.now progress carried.old seat.old }
+    ensures { (c : SpecCall M.Item) (first : M.Seat) → OnWay M.Site (STEPS_ALONE - 1) kind call site.now first c progress carried.old seat.old → EndsWith M.Site site.now first c carried.new seat.new result }
+{
+    let mut progress = progress;
+    match pass_block_end::<M, G, Alone>(site, gate, kind, call, seat, &mut progress, carried) {
+        ControlFlow::Break(reply) => reply,
+        ControlFlow::Continue(()) => {
+            retry_alone::<M, G>(site, gate, kind, call, seat, progress, carried)
         }
     }
 }
 
-/// The end of a call that runs alone: it comes within a number of steps.
-#[derive(Drop)]
-pub struct Within;
-
-impl<M: AloneSite> End<M> for Within {
-    fn finish<G: Gate>(
-        self,
-        site: &M::Shared,
-        gate: &G,
-        kind: Kind,
-        call: CallKind,
-        seat: &mut M::Seat,
-        progress: Progress<M::Block>,
-        carried: &mut Option<M::Item>,
-    ) -> ReplyKind
-        requires kind { M.Steps.has_kind kind }
-        requires can { CanEnd M.Site kind call site.now progress carried.old seat.old }
-        ensures { EndsRightly M.Site kind call site.now progress carried.old seat.old carried.new seat.new result }
-    {
-        let mut progress = progress;
-        for _ in 0..STEPS_ALONE {
-            match retry::<M, G>(site, gate, kind, call, seat, progress, carried) {
-                ControlFlow::Break(reply) => return reply,
-                ControlFlow::Continue(after) => progress = after,
-            }
-        }
-        unreachable!()
-    }
+/// Runs a call of one owner to its end that has left its fast steps. What the cold function is handed is made here, part by part, so that the fast steps write none of it. The carried value goes to a place of its own and back: the place that the fast steps are lent is never handed on, and a word stays in a register there.
+#[inline(always)]
+pub fn finish_alone<M: AloneSite, G: Gate>(
+    site: &M::Shared,
+    gate: &G,
+    kind: Kind,
+    call: CallKind,
+    seat: &mut M::Seat,
+    progress: &Progress<M::Block>,
+    carried: &mut Option<M::Item>,
+) -> ReplyKind
+    requires kind { M.Steps.has_kind kind }
+    requires on_way { IsUnderWay M.Site (STEPS_ALONE - 1) kind call site.now progress.now carried.old seat.old }
+    ensures { (c : SpecCall M.Item) (first : M.Seat) → OnWay M.Site (STEPS_ALONE - 1) kind call site.now first c progress.now carried.old seat.old → EndsWith M.Site site.now first c carried.new seat.new result }
+{
+    let left = Progress {
+        local: progress.local,
+        answer: progress.answer,
+    };
+    let mut own = carried.take();
+    let reply = go_on_alone::<M, G>(site, gate, kind, call, seat, left, &mut own);
+    let none = mem::replace(carried, own);
+    let None = none else { unreachable!() };
+    reply
 }

@@ -22,8 +22,8 @@ use queue_steps::steps::{Kind, shown_len, shows_closed};
 use shared_calls::allocated_chain::AllocatedChain;
 use shared_calls::beginning::{FastSteps, OnRing, OnSlot};
 use shared_calls::chain;
+use shared_calls::pausing::wait_out;
 use shared_calls::running::Waits;
-use shared_calls::waiting::{Waiting, run_slow};
 use shared_chain::source::{Granting, Refusing, Source};
 use shared_chain::web::ChainWeb;
 use shared_tables::ring::{self, Rings, open_ring};
@@ -35,7 +35,6 @@ use std::marker::{Model, PhantomData};
 use std::ops::ControlFlow;
 use std::sync::Wait;
 
-mod block_end;
 mod calling;
 mod count;
 mod giving_up;
@@ -156,13 +155,9 @@ macro_rules! at_table {
         );
         match begun {
             ControlFlow::Break(reply) => reply,
-            ControlFlow::Continue(left) => run_slow::<SharedTable<T, $kind, A>, Open, _>(
-                $table,
-                &Open,
-                Waiting { rt: $rt },
-                $seat,
-                left,
-            ),
+            ControlFlow::Continue(left) => {
+                wait_out::<SharedTable<T, $kind, A>, Open, R>($rt, $table, &Open, $seat, left)
+            }
         }
     }};
 }

@@ -1,7 +1,7 @@
 //! An eventcount: who waits for a condition sleeps, and who makes it true wakes it. It knows nothing of the condition.
 //!
 //! The order of a wait, and of a notify, is in the types. Who waits takes a [`Ticket`], looks at the condition with it in hand, and is given a [`Missed`] if it looked in vain: nothing else
-//! is waited on. Who makes the condition true is given an [`OwesOne`] or an [`OwesAll`] of the eventcount: a notify that has begun. It cannot be dropped, and only its steps end it.
+//! is waited on. Who makes the condition true is given an [`OwesOne`] or an [`OwesAll`] of the eventcount: a notify that is owed. It cannot be dropped, and only the steps of that notify end it.
 //!
 //! `C` is the condition, a type of which only the code that looks at the condition, or makes it true, can make a value. That code hands one in for each ticket that it looked with in
 //! vain, and for each notify that it owes.

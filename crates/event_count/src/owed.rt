@@ -1,28 +1,20 @@
-//! What is owed to those that wait: a notify that has begun. It names its eventcount, and only its steps end it.
-ghost use Rattle.std.specs.Prelude.{◌≡◌};
-ghost use Rattle.event_count.specs.declared.wakes.steps.Phase.TheVariants.{Given, Clearing};
+//! What is owed to those that wait: a notify of an eventcount that it names. It cannot be dropped, and only the notify ends it.
 ghost use Rattle.event_count.specs.Cursors.{IsTaking};
 
-use crate::cursor::Cursor;
+use crate::cursor::{Cursor, OwedAll, OwedOne};
 use crate::take_step;
-use crate::wakes::Phase;
 use crate::words::Words;
-use std::marker::PhantomData;
 
 /// The condition was made true for one that waits at an eventcount, and nobody was notified yet.
 pub struct OwesOne<'a, C> {
     words: &'a Words,
-    cursor: Cursor,
-    condition: PhantomData<C>,
-    ghost given: { cursor.phase ≡ Given },
+    owed: OwedOne<C>,
 }
 
 /// The condition was made true for all that wait at an eventcount, and nobody was notified yet.
 pub struct OwesAll<'a, C> {
     words: &'a Words,
-    cursor: Cursor,
-    condition: PhantomData<C>,
-    ghost given: { cursor.phase ≡ Clearing },
+    owed: OwedAll<C>,
 }
 
 /// The steps of a notify of one that goes to wake.
@@ -43,23 +35,17 @@ impl<'a, C> OwesOne<'a, C> {
     where
         C: Drop,
     {
-        let _ = condition;
         OwesOne {
             words,
-            cursor: Cursor::begin(Phase::Given),
-            condition: PhantomData,
+            owed: OwedOne::new(condition),
         }
     }
 
     /// Wakes one of those that wait, where there are some.
     #[inline(always)]
     pub fn notify(self) {
-        let OwesOne {
-            words,
-            cursor,
-            condition: _,
-        } = self;
-        let cursor = take_step(words, cursor);
+        let OwesOne { words, owed } = self;
+        let cursor = take_step(words, owed.begin());
         if cursor.is_over() {
             cursor.end();
         } else {
@@ -75,23 +61,17 @@ impl<'a, C> OwesAll<'a, C> {
     where
         C: Drop,
     {
-        let _ = condition;
         OwesAll {
             words,
-            cursor: Cursor::begin(Phase::Clearing),
-            condition: PhantomData,
+            owed: OwedAll::new(condition),
         }
     }
 
     /// Wakes all that wait.
     #[inline]
     pub fn notify(self) {
-        let OwesAll {
-            words,
-            cursor,
-            condition: _,
-        } = self;
-        let cleared = take_step(words, cursor);
+        let OwesAll { words, owed } = self;
+        let cleared = take_step(words, owed.begin());
         let moved = take_step(words, cleared);
         take_step(words, moved).end();
     }

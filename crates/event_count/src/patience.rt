@@ -1,20 +1,30 @@
-//! How a thread waits between two looks: it gives way to others a few times, and then it sleeps.
+//! How a thread waits between two looks: it pauses a few times, longer each time, and then it sleeps.
 ghost use Rattle.std.specs.Prelude.{IsTrue};
 ghost use Rattle.event_count.specs.Looks.{IsAwake, IsInVain};
 
 use crate::{Deadline, EventCount, Missed, Never, Ticket};
+use std::hint::spin_loop;
 use std::sync::Wait;
-use std::thread::yield_now;
 
-/// How often a thread gives way to others before it sleeps.
-const YIELDS: u32 = 8;
+/// How often a thread looks in vain, and pauses, before it sleeps. It does not give way to others: beside a busy thread that costs a whole slice of the scheduler's time.
+const LOOKS: u32 = 10;
+
+/// The most that a pause is doubled: it is 1, 2, 4 .. 64 times the processor's own.
+const DOUBLINGS: u32 = 6;
+
+/// Pauses after so many looks in vain.
+fn pause(looks: u32) {
+    for _ in 0..1u32 << looks.min(DOUBLINGS) {
+        spin_loop();
+    }
+}
 
 /// The waits of one call.
 #[derive(Drop)]
 pub struct Patience<'a, C> {
     awaited: &'a EventCount<C>,
-    /// How often it gives way before it sleeps.
-    yields: u32,
+    /// How often it has looked in vain since it slept.
+    looks: u32,
 }
 
 /// A look at the condition that is to be made.
@@ -70,16 +80,13 @@ impl<C> Vain<'_, C> {
 impl<'a, C> Patience<'a, C> {
     #[inline]
     pub fn new(awaited: &'a EventCount<C>) -> Patience<'a, C> {
-        Patience {
-            awaited,
-            yields: YIELDS,
-        }
+        Patience { awaited, looks: 0 }
     }
 
     /// Begins a look: with a ticket where its holder sleeps if it looks in vain.
     #[inline]
     pub fn look(&self) -> Look<'a, C> {
-        if self.yields == 0 {
+        if self.looks >= LOOKS {
             Look::Prepared(self.awaited.prepare())
         } else {
             Look::Awake
@@ -100,15 +107,15 @@ impl<'a, C> Patience<'a, C> {
         match vain {
             Vain::Missed(missed) => {
                 missed.wait_until(rt, until);
-                self.yields = YIELDS;
+                self.looks = 0;
                 false
             }
             Vain::Awake => {
                 if until.is_past() {
                     return true;
                 }
-                self.yields = self.yields.saturating_sub(1);
-                yield_now();
+                pause(self.looks);
+                self.looks = self.looks.saturating_add(1);
                 false
             }
         }

@@ -35,7 +35,7 @@ nobody level es is (s, ms, (k, inside, same), g) = let none : k < 0 = subst (λ 
 dead : (es : List Event) (level : List Stage) → Dies level es → Survives level es → ⊥
 dead [] level is v = nobody level [] is v
 dead (e ∷ es) level (inl is) v = nobody level (e ∷ es) is v
-dead (e ∷ es) level (inr (replies, closed, next, more, expects, handles, dies)) (s, ms, has, g) = dead es next dies (levels_pass closed next e replies handles es expects (s, ms, contains_more level closed s more has, g))
+dead (e ∷ es) level (inr (replies, closed, next, more, expects, handles, dies)) (s, ms, has, g) = dead es next dies (levels_pass closed next e es replies handles expects (s, ms, contains_more level closed s more has, g))
 
 pub levels_refute : LevelsRefute
 levels_refute rules parties es level has dies (moves, goes) = dead es level dies (opening rules parties, moves, has, goes)

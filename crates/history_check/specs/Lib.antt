@@ -1,3 +1,4 @@
+pub mod LeftOut
 pub mod Legal
 pub mod Levels
 pub mod Verdicts

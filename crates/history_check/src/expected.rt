@@ -62,8 +62,8 @@ pub fn expected<A: Allocator>(
     Ok(replies)
 }
 
-/// Goes past the event, behind which these come.
-pub fn go_past(event: Event, rest: &[Event], replies: &mut [Option<Reply<u64>>])
+/// Notes what the party's next end is after the event, after which these come.
+pub fn note_past(event: Event, rest: &[Event], replies: &mut [Option<Reply<u64>>])
     requires noted { Expects replies.old (event ∷ rest.now) }
     ensures { Expects replies.new rest.now }
 {

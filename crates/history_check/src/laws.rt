@@ -1,5 +1,6 @@
 //! Laws of legal histories. Each function is there for its contract alone.
 ghost use Rattle.history_check.specs.Legal.{BeginningsAreLegal, ShortestIsNext};
+ghost use Rattle.history_check.specs.LeftOut.{ValuesMayBeLeftOut};
 ghost use Rattle.history_check.specs.Levels.{LevelsPass, LevelsRefute, MovesMayWait};
 
 /// Each beginning of a legal history is legal.
@@ -25,4 +26,9 @@ pub fn levels_pass()
 /// Where levels pass the events, from the opening on, until one is empty, the history is not legal.
 pub fn levels_refute()
     ensures { LevelsRefute }
+{}
+
+/// Values may be left out of a legal history of a queue without a capacity.
+pub fn values_may_be_left_out()
+    ensures { ValuesMayBeLeftOut }
 {}

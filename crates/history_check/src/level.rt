@@ -1,11 +1,14 @@
 //! Stages beside each other, each once, and what moves and events make of them.
-ghost use Rattle.std.specs.Prelude.{◌≡◌, ℕ, Bool, List, [], true, Option, Some, None, Contains, IfOk, IfSome, OnOk, slice_get};
+ghost use Rattle.std.specs.Prelude.{◌≡◌, ◌∷◌, ℕ, Bool, List, [], true, Option, Some, None, Contains, IfOk, IfSome, OnOk, slice_get};
+ghost use Rattle.history_check.specs.declared.recorded.Event.{Event as SpecEvent};
 ghost use Rattle.history_check.specs.declared.recorded.Move.TheVariants as move;
 ghost use Rattle.history_check.specs.declared.recorded.Way.TheVariants.{Waiting};
 ghost use Rattle.history_check.specs.Legal.{Stage as SpecStage, IsAt};
-ghost use Rattle.history_check.specs.Levels.{Has, HasAll, HasEach, Handles, Extends, Passes};
+ghost use Rattle.history_check.specs.Levels.{Foresees, Keeps, Has, HasAll, HasEach, Handles, Extends, Survives};
 
+use crate::ahead::Ahead;
 use crate::recorded::{Event, Move, Way};
+use crate::settle::settle;
 use crate::stage::Stage;
 use crate::trail::Trail;
 use queue_steps::model::{Call, Reply};
@@ -22,6 +25,8 @@ pub struct Level<A: Allocator> {
     befores: Vec<Option<usize>, A>,
     // The place of the last stage with this fingerprint.
     lasts: HashMap<u64, usize, BuildHasherDefault<FoldHasher>, A>,
+    // How many words the stages take up, about.
+    words: usize,
 }
 
 impl<A: Allocator> Model for Level<A> {
@@ -84,6 +89,7 @@ impl<A: Allocator + Copy> Level<A> {
             stages: Vec::new(alloc),
             befores: Vec::new(alloc),
             lasts: HashMap::with_hasher(alloc, BuildHasherDefault::new()),
+            words: 0,
         }
     }
 
@@ -162,28 +168,47 @@ impl<A: Allocator + Copy> Level<A> {
         let place = self.stages.len();
         let before = self.lasts.insert(fingerprint, place)?;
         self.befores.push(before)?;
+        self.words = self.words.saturating_add(stage.words());
         self.stages.push(stage)?;
         Ok(())
     }
 
-    // Adds what the move leads to from the stage, if it leads anywhere.
+    // Keeps the stage, once calls that can only see their replies have seen them.
+    fn keep(
+        &mut self,
+        trail: &mut Trail<A>,
+        ahead: &Ahead<A>,
+        mut stage: Stage<A>,
+    ) -> Result<(), AllocError>
+        ensures has { OnOk result ((es : List SpecEvent) → Foresees ahead.now es → Keeps self.new es stage) }
+        ensures keeps { Extends self.old self.new }
+    {
+        settle(trail, ahead, &mut stage)?;
+        self.add(stage)
+    }
+
+    // Keeps what the move leads to from the stage, if it leads anywhere.
     fn follow(
         &mut self,
         alloc: A,
         trail: &mut Trail<A>,
+        ahead: &Ahead<A>,
         stage: &Stage<A>,
         next: Move,
     ) -> Result<(), AllocError>
-        ensures has { OnOk result (Has self.new stage.now next) }
+        ensures has { OnOk result ((es : List SpecEvent) → Foresees ahead.now es → Has self.new es stage.now next) }
         ensures keeps { Extends self.old self.new }
     {
+        if !stage.may_make(next) {
+            return Ok(());
+        }
         let mut then = stage.fork(alloc)?;
         if !then.make(next)? {
             return Ok(());
         }
         let last = trail.note(stage.last(), next)?;
         then.set_last(last);
-        self.add(then)
+        self.keep(trail, ahead, then)
     }
 
     // Adds what the party's call leads to by a displacement, in two steps or at once.
@@ -191,18 +216,19 @@ impl<A: Allocator + Copy> Level<A> {
         &mut self,
         alloc: A,
         trail: &mut Trail<A>,
+        ahead: &Ahead<A>,
         stage: &Stage<A>,
         party: usize,
         reply: Reply<u64>,
     ) -> Result<(), AllocError>
-        ensures part { OnOk result (Has self.new stage.now (move.Part party reply)) }
-        ensures displace { OnOk result (Has self.new stage.now (move.Displace party reply)) }
+        ensures part { OnOk result ((es : List SpecEvent) → Foresees ahead.now es → Has self.new es stage.now (move.Part party reply)) }
+        ensures displace { OnOk result ((es : List SpecEvent) → Foresees ahead.now es → Has self.new es stage.now (move.Displace party reply)) }
         ensures keeps { Extends self.old self.new }
     {
         if stage.is_at_once() {
-            self.follow(alloc, trail, stage, Move::Displace(party, reply))
+            self.follow(alloc, trail, ahead, stage, Move::Displace(party, reply))
         } else {
-            self.follow(alloc, trail, stage, Move::Part(party, reply))
+            self.follow(alloc, trail, ahead, stage, Move::Part(party, reply))
         }
     }
 
@@ -211,21 +237,22 @@ impl<A: Allocator + Copy> Level<A> {
         &mut self,
         alloc: A,
         trail: &mut Trail<A>,
+        ahead: &Ahead<A>,
         stage: &Stage<A>,
         party: usize,
         call: Call<u64>,
         expected: Option<Reply<u64>>,
     ) -> Result<(), AllocError>
         requires waits { (b : Bool) × IsAt stage.now party (Waiting call b) }
-        ensures has { OnOk result (HasAll self.new stage.now party expected) }
+        ensures has { OnOk result ((es : List SpecEvent) → Foresees ahead.now es → HasAll self.new es stage.now party expected) }
         ensures keeps { Extends self.old self.new }
     {
         let Some(reply) = stage.reply_to(call, expected) else {
             return Ok(());
         };
-        self.follow(alloc, trail, stage, Move::See(party, reply))?;
-        self.follow(alloc, trail, stage, Move::Act(party, reply))?;
-        self.follow_displacement(alloc, trail, stage, party, reply)?;
+        self.follow(alloc, trail, ahead, stage, Move::See(party, reply))?;
+        self.follow(alloc, trail, ahead, stage, Move::Act(party, reply))?;
+        self.follow_displacement(alloc, trail, ahead, stage, party, reply)?;
         Ok(())
     }
 
@@ -234,65 +261,69 @@ impl<A: Allocator + Copy> Level<A> {
         &mut self,
         alloc: A,
         trail: &mut Trail<A>,
+        ahead: &Ahead<A>,
         stage: &Stage<A>,
         party: usize,
         reply: Option<Reply<u64>>,
     ) -> Result<(), AllocError>
-        ensures has { OnOk result (HasAll self.new stage.now party reply) }
+        ensures has { OnOk result ((es : List SpecEvent) → Foresees ahead.now es → HasAll self.new es stage.now party reply) }
         ensures keeps { Extends self.old self.new }
     {
         let Some(way) = stage.way(party) else {
             return Ok(());
         };
         match way {
-            Way::Waiting(call, _) => self.spread_waiting(alloc, trail, stage, party, call, reply),
-            Way::Halfway(_) => self.follow(alloc, trail, stage, Move::Arrive(party)),
+            Way::Waiting(call, _) => self.spread_waiting(
+                alloc, trail, ahead, stage, party, call, reply,
+            ),
+            Way::Halfway(_) => self.follow(alloc, trail, ahead, stage, Move::Arrive(party)),
             Way::Answered(_) => Ok(()),
         }
     }
 
-    // Adds what the parties' calls lead to, if these are the replies of their next ends. False where some are not there.
+    // Keeps what the parties' calls lead to. False where some parties are not known of.
     fn spread_each(
         &mut self,
         alloc: A,
         trail: &mut Trail<A>,
+        ahead: &Ahead<A>,
         stage: &Stage<A>,
-        replies: &[Option<Reply<u64>>],
     ) -> Result<bool, AllocError>
-        ensures has { IfOk result (λ yes. yes ≡ true → HasEach self.new stage.now replies.now) }
+        ensures has { IfOk result (λ yes. yes ≡ true → (es : List SpecEvent) → Foresees ahead.now es → HasEach self.new es stage.now ahead.now.replies.items) }
         ensures keeps { Extends self.old self.new }
     {
-        for party in 0..replies.len() {
-            let reply = replies[party];
-            self.spread(alloc, trail, stage, party, reply)?;
+        for party in 0..ahead.replies.len() {
+            let reply = ahead.replies[party];
+            self.spread(alloc, trail, ahead, stage, party, reply)?;
         }
-        Ok(stage.parties() <= replies.len())
+        Ok(stage.parties() <= ahead.replies.len())
     }
 
-    // Records the event at the stage, into the next level; or adds what calls lead to from there. False where some are not there.
+    // Records the event at the stage, into the next level; or keeps what calls lead to from there. False where some are not there.
     fn handle(
         &mut self,
         alloc: A,
         trail: &mut Trail<A>,
+        ahead: &Ahead<A>,
         next: &mut Level<A>,
         mut stage: Stage<A>,
         event: Event,
-        replies: &[Option<Reply<u64>>],
     ) -> Result<bool, AllocError>
-        ensures handles { IfOk result (λ yes. yes ≡ true → Handles self.new next.new event replies.now stage) }
+        ensures handles { IfOk result (λ yes. yes ≡ true → (es : List SpecEvent) → Foresees ahead.now (event ∷ es) → Handles self.new next.new event es ahead.now.replies.items stage) }
         ensures keeps { Extends self.old self.new }
         ensures keeps_next { Extends next.old next.new }
     {
+        settle(trail, ahead, &mut stage)?;
         if stage.record(event) {
             let last = trail.note(stage.last(), Move::Event)?;
             stage.set_last(last);
             next.add(stage)?;
             return Ok(true);
         }
-        Ok(self.spread_each(alloc, trail, &stage, replies)?)
+        Ok(self.spread_each(alloc, trail, ahead, &stage)?)
     }
 
-    /// The stages after the event, if these are the replies of the parties' next ends. None where so many are not enough.
+    /// The stages after the event. None where so many words are not enough.
     ///
     /// # Errors
     ///
@@ -301,18 +332,26 @@ impl<A: Allocator + Copy> Level<A> {
         &mut self,
         alloc: A,
         trail: &mut Trail<A>,
+        ahead: &Ahead<A>,
         event: Event,
-        replies: &[Option<Reply<u64>>],
         most: usize,
     ) -> Result<Option<Level<A>>, AllocError>
-        ensures { IfOk result (λ o. IfSome o (λ next. Passes self.old event replies.now next)) }
+        ensures { IfOk result (λ o. IfSome o (λ next. (es : List SpecEvent) → Foresees ahead.now (event ∷ es) → Survives self.old (event ∷ es) → Survives next es)) }
     {
         let mut next = Level::new(alloc);
         for place in 0..most {
             let Some(stage) = self.stage_at(alloc, place)? else {
                 return Ok(Some(next));
             };
-            if !self.handle(alloc, trail, &mut next, stage, event, replies)? {
+            if self
+                .words
+                .saturating_add(next.words)
+                .saturating_add(trail.words())
+                > most
+            {
+                return Ok(None);
+            }
+            if !self.handle(alloc, trail, ahead, &mut next, stage, event)? {
                 return Ok(None);
             }
         }

@@ -11,18 +11,22 @@ use queue_steps::errors::{ForcePushError, PopError, PushError};
 use queue_steps::model::{Call, Effect, Reply};
 use queue_steps::sizes::{BLOCK_SLOTS, LIMIT};
 use std::alloc::{AllocError, Allocator};
+use std::collections::VecDeque;
 use std::hash::{FoldHasher, Hasher};
 use std::marker::Model;
 
 /// A list, an optional capacity, a closed flag, at most one item on its way in, and how many items were accepted.
 #[derive(Drop)]
 pub struct Queue<A: Allocator> {
-    items: Vec<u64, A>,
+    items: VecDeque<u64, A>,
     cap: Option<usize>,
     closed: bool,
     coming: Option<u64>,
     accepted: u64,
 }
+
+/// How many words a queue and a stage around it take up beside items and calls, about.
+const WORDS_BESIDE_ITEMS: usize = 32;
 
 impl<A: Allocator> Model for Queue<A> {
     ghost Value = { State ℕ };
@@ -36,7 +40,7 @@ impl<A: Allocator> Queue<A> {
         ensures { result ≡ start cap 0 }
     {
         Queue {
-            items: Vec::new(alloc),
+            items: VecDeque::new(alloc),
             cap,
             closed: false,
             coming: None,
@@ -134,6 +138,35 @@ impl<A: Allocator> Queue<A> {
         }
     }
 
+    /// Whether the effect may stand here, as far as a look at both ends tells.
+    pub fn may_make(&self, effect: Effect<u64>) -> bool
+        ensures { result ≡ false → Fits effect self.now → ⊥ }
+    {
+        match effect {
+            Effect::Append(_) => !self.closed && self.coming.is_none() && !self.is_full(),
+            Effect::Take(item) | Effect::Replace(item, _) | Effect::Front(item, _) => {
+                self.begins_with(item)
+            }
+            Effect::Arrive => self.coming.is_some(),
+            Effect::Close | Effect::SelfClose => !self.closed,
+        }
+    }
+
+    // Whether the item is the front.
+    fn begins_with(&self, item: u64) -> bool
+        ensures { result ≡ false → (others : List ℕ) → self.now.items ≡ item ∷ others → ⊥ }
+    {
+        match self.items.front() {
+            Some(front) => *front == item,
+            None => false,
+        }
+    }
+
+    /// How many words it takes up, about.
+    pub fn words(&self) -> usize {
+        self.items.len().saturating_add(WORDS_BESIDE_ITEMS)
+    }
+
     /// Does the effect, if it may stand here. Where it may not, the queue is of no use any more.
     ///
     /// # Errors
@@ -188,7 +221,7 @@ impl<A: Allocator> Queue<A> {
         let Some(accepted) = self.accepted.checked_add(1) else {
             return Err(AllocError);
         };
-        self.items.push(value)?;
+        self.items.push_back(value)?;
         self.accepted = accepted;
         Ok(())
     }
@@ -198,10 +231,11 @@ impl<A: Allocator> Queue<A> {
         ensures done { result ≡ true → Fits (effect.Take value) self.old × (self.new ≡ made (effect.Take value) self.old) }
         ensures exact { result ≡ false → Fits (effect.Take value) self.old → ⊥ }
     {
-        if self.items.is_empty() || self.items[0] != value {
-            return false;
+        match self.items.front() {
+            Some(item) if *item == value => {}
+            _ => return false,
         }
-        let _ = self.items.remove(0);
+        let _ = self.items.pop_front();
         true
     }
 
@@ -272,7 +306,7 @@ impl<A: Allocator> Queue<A> {
     pub fn front_or_zero(&self) -> u64
         ensures { (x : ℕ) (others : List ℕ) → self.now.items ≡ x ∷ others → result ≡ x }
     {
-        match self.items.first() {
+        match self.items.front() {
             Some(item) => *item,
             None => 0,
         }
@@ -308,9 +342,12 @@ impl<A: Allocator + Copy> Queue<A> {
     pub fn fork(&self, alloc: A) -> Result<Queue<A>, AllocError>
         ensures { IfOk result (λ q. q ≡ self.now) }
     {
-        let items = Vec::from_slice(alloc, self.items.as_slice())?;
+        let (upper, lower) = self.items.as_slices();
+        let mut items = Vec::with_capacity(alloc, self.items.len())?;
+        items.extend_from_slice(upper)?;
+        items.extend_from_slice(lower)?;
         Ok(Queue {
-            items,
+            items: VecDeque::from_vec(items),
             cap: self.cap,
             closed: self.closed,
             coming: self.coming,

@@ -2,7 +2,8 @@
 ghost use Rattle.std.specs.Prelude.{IfOk};
 ghost use Rattle.history_check.specs.Verdicts.{IsRefuted};
 
-use crate::expected::{expected, go_past, next_event};
+use crate::ahead::Ahead;
+use crate::expected::next_event;
 use crate::level::Level;
 use crate::recorded::{Event, Move, Rules};
 use crate::stage::Stage;
@@ -16,11 +17,11 @@ pub enum Found<A: Allocator> {
     Order(Vec<Move, A>),
     /// There is no order: none takes more events than this.
     Nothing(usize),
-    /// More stages beside each other than are looked at.
+    /// The stages beside each other, and the moves to them, take up more words than they may.
     TooMany,
 }
 
-/// Looks for an order of the effects of the calls, with so many stages beside each other at most.
+/// Looks for an order of the effects of the calls. The stages beside each other, and the moves to them, take up so many words at most, about.
 ///
 /// # Errors
 ///
@@ -35,20 +36,19 @@ pub fn find_order<A: Allocator + Copy>(
     ensures { IfOk result (IsRefuted rules parties events.now) }
 {
     let mut trail = Trail::new(alloc);
-    let mut noted = expected(alloc, events, parties)?;
-    let replies = noted.as_mut_slice();
+    let mut ahead = Ahead::new(alloc, events, parties)?;
     let mut level = Level::new(alloc);
     let stage = Stage::new(alloc, rules, parties)?;
     level.add(stage)?;
     let mut rest = events;
     while let Some((event, others)) = next_event(rest) {
-        let Some(next) = level.pass(alloc, &mut trail, event, replies, most)? else {
+        let Some(next) = level.pass(alloc, &mut trail, &ahead, event, most)? else {
             return Ok(Found::TooMany);
         };
         if next.is_empty() {
             return Ok(Found::Nothing(events.len().saturating_sub(rest.len())));
         }
-        go_past(event, others, replies);
+        ahead.go_past(event, others);
         level = next;
         level.shorten(alloc, &mut trail)?;
         rest = others;

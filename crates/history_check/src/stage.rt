@@ -6,7 +6,7 @@ ghost use Rattle.queue_steps.specs.declared.model.Effect.{Effect as SpecEffect};
 ghost use Rattle.queue_steps.specs.declared.model.Reply.{Reply as SpecReply};
 ghost use Rattle.queue_steps.specs.declared.model.Effect.TheVariants as effect;
 ghost use Rattle.history_check.specs.Legal.{Stage as SpecStage, opening, IsAt, moved, MayRecord, recorded, Makes, Takes};
-ghost use Rattle.history_check.specs.Levels.{IsExpected, Acts};
+ghost use Rattle.history_check.specs.Levels.{IsExpected, Acts, OnlySees};
 ghost use Rattle.history_check.specs.declared.recorded.Way.{Way as SpecWay};
 ghost use Rattle.history_check.specs.declared.recorded.Way.TheVariants.{Waiting};
 ghost use Rattle.history_check.specs.declared.recorded.Move.TheVariants as move;
@@ -29,6 +29,9 @@ pub struct Stage<A: Allocator> {
     // The last of the moves that led here.
     last: Option<usize>,
 }
+
+/// How many words a party's call takes up, about.
+const WORDS_A_CALL: usize = 6;
 
 impl<A: Allocator> Model for Stage<A> {
     ghost Value = { SpecStage };
@@ -256,10 +259,99 @@ impl<A: Allocator> Stage<A> {
         }
     }
 
-    // The party's call finds the reply right, and has no effect.
+    // Whether the party's call, if it is answered so, can have no effect any more.
+    fn only_sees(&self, party: usize, reply: Reply<u64>) -> bool
+        ensures { result ≡ true → OnlySees self.now party reply }
+    {
+        let Some((call, _)) = self.waiting(party) else {
+            return false;
+        };
+        if displaced_by(call, reply).is_some() {
+            return false;
+        }
+        match effect_of(call, reply) {
+            None => true,
+            Some(Effect::SelfClose) => self.queue.is_closed(),
+            Some(_) => false,
+        }
+    }
+
+    /// Whether the move, which is not an event, may be made, as far as a look at the queue tells.
+    pub fn may_make(&self, next: Move) -> bool
+        ensures { result ≡ false → (t : SpecStage) → Makes self.now next t → ⊥ }
+    {
+        match next {
+            Move::Event => false,
+            Move::See(party, reply) => self.may_see(party, reply),
+            Move::Act(party, reply) => self.may_act(party, reply),
+            Move::Part(party, reply) => self.may_part(party, reply),
+            Move::Arrive(_) => true,
+            Move::Displace(party, reply) => self.may_displace(party, reply),
+        }
+    }
+
+    // Whether the party's call may find the reply right.
+    fn may_see(&self, party: usize, reply: Reply<u64>) -> bool
+        ensures { result ≡ false → (t : SpecStage) → Makes self.now (move.See party reply) t → ⊥ }
+    {
+        match self.waiting(party) {
+            Some((call, _)) => self.queue.allows(call, reply),
+            None => false,
+        }
+    }
+
+    // Whether the party's call may have its one effect.
+    fn may_act(&self, party: usize, reply: Reply<u64>) -> bool
+        ensures { result ≡ false → (t : SpecStage) → Makes self.now (move.Act party reply) t → ⊥ }
+    {
+        let Some((call, _)) = self.waiting(party) else {
+            return false;
+        };
+        match effect_of(call, reply) {
+            Some(effect) => self.queue.may_make(effect),
+            None => false,
+        }
+    }
+
+    // Whether the party's call may take the front off a full queue, by the first of its two effects.
+    fn may_part(&self, party: usize, reply: Reply<u64>) -> bool
+        ensures { result ≡ false → (t : SpecStage) → Makes self.now (move.Part party reply) t → ⊥ }
+    {
+        self.may_take_front(party, reply)
+    }
+
+    // Whether the party's call may take the front off a full queue, and its item arrive, at once.
+    fn may_displace(&self, party: usize, reply: Reply<u64>) -> bool
+        ensures { result ≡ false → (t : SpecStage) → Makes self.now (move.Displace party reply) t → ⊥ }
+    {
+        self.may_take_front(party, reply)
+    }
+
+    // Whether the party's call may take the front off a full queue.
+    fn may_take_front(&self, party: usize, reply: Reply<u64>) -> bool
+        ensures part { result ≡ false → (t : SpecStage) → Makes self.now (move.Part party reply) t → ⊥ }
+        ensures displace { result ≡ false → (t : SpecStage) → Makes self.now (move.Displace party reply) t → ⊥ }
+    {
+        let Some((call, _)) = self.waiting(party) else {
+            return false;
+        };
+        match displaced_by(call, reply) {
+            Some((old, value)) => self.queue.may_make(Effect::Front(old, value)),
+            None => false,
+        }
+    }
+
+    /// How many words it takes up, about.
+    pub fn words(&self) -> usize {
+        let calls = self.calls.len().saturating_mul(WORDS_A_CALL);
+        self.queue.words().saturating_add(calls)
+    }
+
+    // The party's call finds the reply right, and has no effect. The stage stays as it is where it may not.
     fn see(&mut self, party: usize, reply: Reply<u64>) -> bool
         ensures done { result ≡ true → Makes self.old (move.See party reply) self.new }
         ensures exact { (t : SpecStage) → Makes self.old (move.See party reply) t → (result ≡ true) × (t ≡ self.new) }
+        ensures kept { result ≡ false → self.new ≡ self.old }
     {
         let Some((call, _)) = self.waiting(party) else {
             return false;
@@ -268,6 +360,17 @@ impl<A: Allocator> Stage<A> {
             return false;
         }
         self.set(party, Some(Way::Answered(reply)))
+    }
+
+    /// The party's call finds the reply right, and could have no effect any more. The stage stays as it is where that is not so.
+    pub fn see_for_good(&mut self, party: usize, reply: Reply<u64>) -> bool
+        ensures done { result ≡ true → Makes self.old (move.See party reply) self.new × OnlySees self.old party reply }
+        ensures kept { result ≡ false → self.new ≡ self.old }
+    {
+        if !self.only_sees(party, reply) {
+            return false;
+        }
+        self.see(party, reply)
     }
 
     // The party's call has its one effect.

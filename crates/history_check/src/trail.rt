@@ -20,6 +20,9 @@ pub struct Trail<A: Allocator> {
 /// How many moves are noted, at least, before those that led nowhere are forgotten.
 const ROOM: usize = 1_000;
 
+/// How many words a move takes up, about.
+const WORDS_A_NODE: usize = 7;
+
 impl<A: Allocator + Copy> Trail<A> {
     /// None so far.
     pub fn new(alloc: A) -> Trail<A> {
@@ -32,6 +35,11 @@ impl<A: Allocator + Copy> Trail<A> {
     /// How many moves are noted.
     pub fn len(&self) -> usize {
         self.nodes.len()
+    }
+
+    /// How many words it takes up, about.
+    pub fn words(&self) -> usize {
+        self.nodes.len().saturating_mul(WORDS_A_NODE)
     }
 
     /// Whether it is time to forget the moves that led nowhere.

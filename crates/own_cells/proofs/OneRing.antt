@@ -3,5 +3,4 @@ pub mod RingWrites
 pub mod RingLies
 pub mod Sent
 pub mod ItemsLeft
-pub mod Filling
 pub mod Emptying

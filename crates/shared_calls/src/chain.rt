@@ -7,10 +7,9 @@ ghost use Rattle.std.specs.Prelude.{◌≡◌, true, false, None, Some};
 
 use crate::allocated_chain::AllocatedChain;
 use crate::beginning::{FastSteps, OnChain};
+use crate::pausing::wait_out;
 use crate::running::Runs;
-use crate::waiting::{Waiting, run_slow};
 use call_driver::gate::Gate;
-use call_driver::retry::OverBlocks;
 use call_driver::site::{SharedSite, Site};
 use mem_blocks::item::Place;
 use mem_blocks::web::Rested;
@@ -178,15 +177,9 @@ pub fn answer<T, A: Allocator, Q: Source<T, A>, G: Gate, R: Wait, W>(
     );
     let reply = match begun {
         ControlFlow::Break(reply) => reply,
-        ControlFlow::Continue(left) => run_slow::<Asking<T, A, Q>, G, _>(
-            queue,
-            gate,
-            OverBlocks {
-                then: Waiting { rt },
-            },
-            &mut asking,
-            left,
-        ),
+        ControlFlow::Continue(left) => {
+            wait_out::<Asking<T, A, Q>, G, R>(rt, queue, gate, &mut asking, left)
+        }
     };
     *party = asking.rests();
     reply

@@ -1,4 +1,4 @@
-//! A party's call that does not wait: it takes steps until its reply, or until it has met another call half done, and then stands where it is.
+//! A party's call that has left its fast steps: it carries on until its reply, or until it has met another call half done, and then stands where it is. One that may wait carries on again, until its reply.
 ghost use Rattle.call_driver.specs.Leads.{MayGive, Gave};
 ghost use Rattle.call_driver.specs.OnWay.{Stood};
 ghost use Rattle.queue_steps.specs.declared.model.Call.{Call as SpecCall};
@@ -12,15 +12,19 @@ ghost use Rattle.std.specs.Prelude.{◌≡◌, ◌≤◌, ◌-◌, true};
 
 use crate::early::is_early;
 use crate::left::Left;
-use crate::waiting::must_give_way;
+use crate::waiting::{has_lost, must_give_way};
+use call_driver::fast::pass_block_end;
 use call_driver::gate::Gate;
 use call_driver::progress::Progress;
 use call_driver::retry::retry;
 use call_driver::site::Site;
+use crossbeam_utils::Backoff;
 use queue_steps::model::{Call, CallKind, Reply};
 use queue_steps::sizes::STEPS_ALONE;
 use queue_steps::steps::{Kind, KindSteps, Next};
 use std::ops::ControlFlow;
+use std::sync::Wait;
+use std::thread::yield_now;
 
 /// How many steps a call takes at most from its effect on, its reply with them, but for a pop on a chain.
 const SETTLE_STEPS: usize = 5;
@@ -63,8 +67,57 @@ fn pause<M: Site>(
     }
 }
 
-/// Takes steps of a call until its reply, or until it has met another call half done; at most as many rounds as a call takes steps that meets no other.
-pub fn carry_on<M: Site, G: Gate>(
+/// Tells the steps of a block's end here from those of one owner's calls.
+struct Pauses;
+
+/// Takes the steps of a call that comes to a block's end, if it does.
+#[inline(always)]
+fn leave_block_end<M: Site, G: Gate>(
+    site: &M::Shared,
+    gate: &G,
+    seat: &mut M::Seat,
+    left: Left<M::Item, M::Block>,
+) -> ControlFlow<Reply<M::Item>, Left<M::Item, M::Block>>
+    requires kind { M.Steps.has_kind left.kind }
+    requires left { (c : SpecCall M.Item) × (first : M.Seat) × IsLeft M.Site site.now first c left seat.old }
+    ensures kept { MatchControlFlow result (λ on. on.kind ≡ left.kind) (λ reply. Unit {0}) }
+    ensures left { (c : SpecCall M.Item) (first : M.Seat) → IsLeft M.Site site.now first c left seat.old → MatchControlFlow result (λ on. IsLeft M.Site site.now first c on seat.new) (λ reply. M.ended site.now first c reply seat.new) }
+{
+    let Left {
+        kind,
+        call,
+        mut progress,
+        mut carried,
+    } = left;
+    match pass_block_end::<M, G, Pauses>(
+        site,
+        gate,
+        kind,
+        call,
+        seat,
+        &mut progress,
+        &mut carried,
+    ) {
+        ControlFlow::Break(reply) => ControlFlow::Break(Reply::fill(reply, carried)),
+        ControlFlow::Continue(()) => ControlFlow::Continue(Left {
+            kind,
+            call,
+            progress,
+            carried,
+        }),
+    }
+}
+
+/// Pauses where a call has lost an exchange, longer each time, so that those that lost do not all try again at once.
+#[inline(always)]
+fn back_off(backoff: &Backoff, has_lost: bool) {
+    if has_lost {
+        backoff.spin();
+    }
+}
+
+/// The rounds of `carry_on`: at most as many as a call takes steps that runs alone.
+fn go_round<M: Site, G: Gate>(
     site: &M::Shared,
     gate: &G,
     seat: &mut M::Seat,
@@ -80,6 +133,7 @@ pub fn carry_on<M: Site, G: Gate>(
         progress,
         mut carried,
     } = left;
+    let backoff = Backoff::new();
     let mut before = progress.local;
     let mut progress = match retry::<M, G>(site, gate, kind, call, seat, progress, &mut carried) {
         ControlFlow::Break(reply) => return ControlFlow::Break(Reply::fill(reply, carried)),
@@ -89,6 +143,7 @@ pub fn carry_on<M: Site, G: Gate>(
         if must_give_way(&before, &progress.local) {
             break;
         }
+        back_off(&backoff, has_lost(&before, &progress.local));
         before = progress.local;
         match retry::<M, G>(site, gate, kind, call, seat, progress, &mut carried) {
             ControlFlow::Break(reply) => return ControlFlow::Break(Reply::fill(reply, carried)),
@@ -96,6 +151,23 @@ pub fn carry_on<M: Site, G: Gate>(
         }
     }
     pause::<M>(site, kind, call, seat, progress, carried)
+}
+
+/// Takes steps of a call until its reply, or until it has met another call half done. Those of a block's end come first, one after another.
+pub fn carry_on<M: Site, G: Gate>(
+    site: &M::Shared,
+    gate: &G,
+    seat: &mut M::Seat,
+    left: Left<M::Item, M::Block>,
+) -> ControlFlow<Reply<M::Item>, Left<M::Item, M::Block>>
+    requires kind { M.Steps.has_kind left.kind }
+    requires left { (c : SpecCall M.Item) × (first : M.Seat) × IsLeft M.Site site.now first c left seat.old }
+    ensures { (c : SpecCall M.Item) (first : M.Seat) → IsLeft M.Site site.now first c left seat.old → MatchControlFlow result (λ paused. IsPaused M.Site site.now first c paused seat.new) (λ reply. M.ended site.now first c reply seat.new) }
+{
+    match leave_block_end::<M, G>(site, gate, seat, left) {
+        ControlFlow::Break(reply) => ControlFlow::Break(reply),
+        ControlFlow::Continue(left) => go_round::<M, G>(site, gate, seat, left),
+    }
 }
 
 /// What a call does next, where it has had an effect; or it stands where it has had none.
@@ -165,4 +237,49 @@ pub fn settle<M: Site, G: Gate>(
         }
     }
     ControlFlow::Continue(left)
+}
+
+/// The loop of `wait_out`: the call carries on until it would wait, gives way to other threads, and carries on again.
+#[cold]
+#[inline(never)]
+fn carry_through<M: Site, G: Gate, R: Wait>(
+    rt: &R,
+    site: &M::Shared,
+    gate: &G,
+    seat: &mut M::Seat,
+    left: Left<M::Item, M::Block>,
+) -> Reply<M::Item>
+    requires kind { M.Steps.has_kind left.kind }
+    requires left { (c : SpecCall M.Item) × (first : M.Seat) × IsLeft M.Site site.now first c left seat.old }
+    ensures { (c : SpecCall M.Item) (first : M.Seat) → IsLeft M.Site site.now first c left seat.old → M.ended site.now first c result seat.new }
+{
+    let mut left = left;
+    for _ in rt.forever() {
+        match carry_on::<M, G>(site, gate, seat, left) {
+            ControlFlow::Break(reply) => return reply,
+            ControlFlow::Continue(paused) => {
+                yield_now();
+                left = paused;
+            }
+        }
+    }
+    unreachable!()
+}
+
+/// Runs a call to its end that has left its fast steps.
+///
+/// What a function lends of its own is cleared where it begins. So this one, which is in place, lends the loop a copy, and the fast steps clear nothing.
+#[inline(always)]
+pub fn wait_out<M: Site, G: Gate, R: Wait>(
+    rt: &R,
+    site: &M::Shared,
+    gate: &G,
+    seat: &mut M::Seat,
+    left: Left<M::Item, M::Block>,
+) -> Reply<M::Item>
+    requires kind { M.Steps.has_kind left.kind }
+    requires left { (c : SpecCall M.Item) × (first : M.Seat) × IsLeft M.Site site.now first c left seat.old }
+    ensures { (c : SpecCall M.Item) (first : M.Seat) → IsLeft M.Site site.now first c left seat.old → M.ended site.now first c result seat.new }
+{
+    carry_through::<M, G, R>(rt, site, gate, seat, left.apart())
 }

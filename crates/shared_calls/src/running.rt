@@ -2,11 +2,9 @@
 ghost use Rattle.queue_steps.specs.declared.model.Call.{Call as SpecCall};
 
 use crate::beginning::FastSteps;
-use crate::left::Left;
-use crate::waiting::Waiting;
-use call_driver::driver::{drive_wait_free, leave};
+use crate::pausing::wait_out;
+use call_driver::driver::drive_wait_free;
 use call_driver::gate::Gate;
-use call_driver::retry::OverBlocks;
 use call_driver::site::SharedSite;
 use queue_steps::model::{Call, Reply};
 use std::marker::PhantomData;
@@ -64,28 +62,7 @@ impl<T, R: Wait, G: Gate, W> Runs<T> for Waits<'_, T, R, G, W> {
         } = self;
         match steps.run::<G, W>(site, gate, seat, call) {
             ControlFlow::Break(reply) => reply,
-            ControlFlow::Continue(left) => {
-                let Left {
-                    kind,
-                    call,
-                    progress,
-                    mut carried,
-                } = left;
-                let end = OverBlocks {
-                    then: Waiting { rt },
-                };
-                let reply = leave::<M, G, _>(
-                    site,
-                    gate,
-                    end,
-                    kind,
-                    call,
-                    seat,
-                    &progress,
-                    &mut carried,
-                );
-                Reply::fill(reply, carried)
-            }
+            ControlFlow::Continue(left) => wait_out::<M, G, R>(rt, site, gate, seat, left),
         }
     }
 }

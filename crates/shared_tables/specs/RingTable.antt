@@ -1,11 +1,11 @@
--- A ring that parties share, as a kind of queue in a table: the tail, the head and the stamps are the words behind the count of parties.
-use Rattle.std.specs.Prelude.{◌≡◌, ℕ, ◌+◌, ◌<◌, List, [], length, Option, Some, None}
+-- A ring that parties share, as a kind of queue in a table: the tail, the head and the stamps are words after the count of parties.
+use Rattle.std.specs.Prelude.{◌≡◌, ℕ, ◌<◌, List, [], ◌∷◌, length, get_or, Option, Some, None}
 use mathlib.Core.Option.{some}
 use mathlib.Core.Option as maybe
 use lib.ListN.{get_elem?}
 use Rattle.queue_laws.specs.Common.Vocabulary.{Kind, Word}
 use Rattle.queue_laws.specs.Ring.{RingCells.Cell, RingCells.Ring, RingCells.queue_of, RingCells.RingOk, RingCells.owner, RingShared.Shared, RingShared.HasPlace, RingWords.Codes, RingWords.item_in, RingPasses.Passes, RingPasses.Lent, RingAt.At}
-use Rattle.own_cells.specs.{OneRing.RingWords.words_behind, declared.ring.ring_words.TheConstants.TAIL, declared.ring.ring_words.TheConstants.HEAD, declared.ring.ring_words.TheConstants.STAMPS}
+use Rattle.own_cells.specs.{OneRing.RingWords.words_of, OneRing.RingWords.stamp_word, OneRing.RingWords.stamps_in, declared.ring.ring_words.TheConstants.TAIL, declared.ring.ring_words.TheConstants.HEAD}
 use Rattle.shared_parties.specs.Calling.{CallsOf}
 use Rattle.shared_tables.specs.TableRule.{TableOf}
 
@@ -21,20 +21,23 @@ home_of c = home_when (owner c) (item_in c)
 abbrev pub Homes : {T : Type 0} → ℕ → Ring T → List (maybe.Option (Option T)) → Type 0
 Homes cap g hs = (length hs ≡ cap) × ((i : ℕ) → i < cap → get_elem? hs i ≡ some (home_of (g.cells i)))
 
--- the words of a ring
-abbrev pub ring_words : {T : Type 0} → Shared T → List ℕ
-ring_words s = words_behind s.tail s.head s.stamps
+-- the ring lies in the words of a table, of which the first counts the parties
+pub record LiesIn {T : Type 0} (cap : ℕ) (s : Shared T) (ws : List ℕ) : Type 0 where
+  pub long : length ws ≡ words_of cap
+  pub tail : get_or ws TAIL 0 ≡ s.tail
+  pub head : get_or ws HEAD 0 ≡ s.head
+  pub stamps : stamps_in cap ws ≡ s.stamps
 
 -- the number of a word in the table
 abbrev pub word_index : Word ℕ → ℕ
 word_index Word.Tail = TAIL
 word_index Word.Head = HEAD
-word_index (Word.Stamp i) = STAMPS + i
+word_index (Word.Stamp i) = stamp_word i
 word_index _ = 0
 
 -- the words and the slots at home are those of the ring
 abbrev pub RingCoded : {T : Type 0} → ℕ → Ring T → List ℕ → List (maybe.Option (Option T)) → Type 0
-RingCoded {T} cap g ws hs = (s : Shared T) × Codes cap g s × (ws ≡ ring_words s) × Homes cap g hs
+RingCoded {T} cap g ws hs = (s : Shared T) × Codes cap g s × LiesIn cap s (0 ∷ ws) × Homes cap g hs
 
 -- the calls on a ring of cap slots
 abbrev pub ring_calls : {T : Type 0} → ℕ → CallsOf T

@@ -7,14 +7,14 @@ ghost use Rattle.queue_steps.specs.Parties.{IsWhole};
 ghost use Rattle.queue_steps.specs.Shares.{entire};
 ghost use Rattle.queue_steps.specs.Words.{IsRing};
 ghost use Rattle.shared_parties.specs.Known.{party, view_of};
-ghost use Rattle.shared_tables.specs.RingOpening.{first_words};
+ghost use Rattle.shared_tables.specs.RingOpening.{IsFirst};
 ghost use Rattle.shared_parties.specs.CallStates.{idle, IsSeatAlone};
 ghost use Rattle.own_cells.specs.OneRing.RingOwned.{IsIdle, ring_owned};
 
 use crate::table::{SharedTable, Sizes, TableKind, TableSteps};
 use atomic_table::Seat;
 use own_cells::ring::own_ring::OwnRing;
-use own_cells::ring::ring_words::{HEAD, STAMPS, TAIL, words_before_stamps};
+use own_cells::ring::ring_words::{HEAD, TAIL, bare_words, stamp_word};
 use own_cells::ring::vacant::{discard, empty_slots, table_of};
 use queue_steps::sizes::MAX_CAPACITY;
 use queue_steps::steps::{Kind, RingSteps, Word};
@@ -25,15 +25,14 @@ use std::alloc::{AllocError, Allocator};
 pub struct Rings;
 
 impl Sizes for Rings {
-    ghost use Rattle.std.specs.Prelude.{◌+◌};
     ghost use Rattle.queue_steps.specs.declared.sizes.TheConstants.{MAX_CAPACITY};
-    ghost use Rattle.own_cells.specs.declared.ring.ring_words.TheConstants.{STAMPS};
+    ghost use Rattle.own_cells.specs.OneRing.RingWords.{words_of};
 
     ghost least = { 2 };
 
     ghost most = { MAX_CAPACITY };
 
-    ghost words = { λ slots. slots + STAMPS };
+    ghost words = { λ slots. words_of slots };
 }
 
 impl<T> TableKind<T> for Rings {
@@ -68,7 +67,7 @@ impl<T> TableSteps<T> for Rings {
         match word {
             Word::Tail => TAIL,
             Word::Head => HEAD,
-            Word::Stamp(slot) => STAMPS + slot,
+            Word::Stamp(slot) => stamp_word(slot),
             _ => unreachable!(),
         }
     }
@@ -77,11 +76,11 @@ impl<T> TableSteps<T> for Rings {
 /// The words of the table of an empty open ring.
 fn first_words<A: Allocator>(alloc: A, capacity: usize) -> Result<Vec<u64, A>, AllocError>
     requires { IsRing capacity }
-    ensures { IfOk result (λ v. v.items ≡ first_words capacity) }
+    ensures { IfOk result (λ v. IsFirst capacity capacity v.items) }
 {
-    let mut words = words_before_stamps(alloc, capacity, 0, 0)?;
-    for stamp in 0..capacity {
-        words.push_reserved(stamp as u64);
+    let mut words = bare_words(alloc, capacity, 0, 0)?;
+    for slot in 0..capacity {
+        words[stamp_word(slot)] = slot as u64;
     }
     Ok(words)
 }

@@ -1,8 +1,8 @@
 //! A list of wakers: futures that wait for a condition are pending, and who makes it true wakes them. It knows nothing of the condition.
 //!
 //! The order of a poll, and of a notify, is in the types. A poll begins a [`Look`], looks at the condition with it in hand, and says what it found. If it looked in vain it enters the list,
-//! which gives a second look: it looks once more, and is pending if it finds nothing. Who makes the condition true is given an [`OwesOne`] or an [`OwesAll`] of the list: a notify that has
-//! begun. It cannot be dropped, and only its steps end it. A future that was taken off the list, and ends before it looks again, hands its wake on.
+//! which gives a second look: it looks once more, and is pending if it finds nothing. Who makes the condition true is given an [`OwesOne`] or an [`OwesAll`] of the list: a notify that is
+//! owed. It cannot be dropped, and only the steps of that notify end it. A future that was taken off the list, and ends before it looks again, hands its wake on.
 //!
 //! `C` is the condition, a type of which only the code that looks at the condition, or makes it true, can make a value. That code hands one in for each look, and for each notify that it
 //! owes.

@@ -1,22 +1,19 @@
-//! What is owed to futures that wait: a notify that has begun. It names its list, and only its steps end it.
+//! What is owed to futures that wait: a notify of a list that it names. It cannot be dropped, and only the notify ends it.
 ghost use Rattle.std.specs.Prelude.{◌≡◌};
-ghost use Rattle.event_count.specs.declared.wakes.seats.Seat.TheVariants.{Given, Telling};
 
 use crate::WakerList;
-use crate::sitting::Sitting;
+use crate::sitting::{OwedAll, OwedOne};
 
 /// The condition was made true for one that waits on a list, and nobody was notified yet.
 pub struct OwesOne<'a, C> {
     list: &'a WakerList<C>,
-    owing: Sitting<C>,
-    ghost given: { owing.seat ≡ Given },
+    owed: OwedOne<C>,
 }
 
 /// The condition was made true for all that wait on a list, and nobody was notified yet.
 pub struct OwesAll<'a, C> {
     list: &'a WakerList<C>,
-    owing: Sitting<C>,
-    ghost given: { owing.seat ≡ Telling },
+    owed: OwedAll<C>,
 }
 
 impl<'a, C> OwesOne<'a, C> {
@@ -29,15 +26,15 @@ impl<'a, C> OwesOne<'a, C> {
     {
         OwesOne {
             list,
-            owing: Sitting::owing_one(condition),
+            owed: OwedOne::new(condition),
         }
     }
 
     /// Wakes the future that has waited longest, where there is one.
     #[inline(always)]
     pub fn notify(self) {
-        let OwesOne { list, owing } = self;
-        list.notify(owing);
+        let OwesOne { list, owed } = self;
+        list.notify(owed.begin());
     }
 }
 
@@ -51,14 +48,14 @@ impl<'a, C> OwesAll<'a, C> {
     {
         OwesAll {
             list,
-            owing: Sitting::owing_all(condition),
+            owed: OwedAll::new(condition),
         }
     }
 
     /// Wakes all futures that wait.
     #[inline]
     pub fn notify(self) {
-        let OwesAll { list, owing } = self;
-        list.notify(owing);
+        let OwesAll { list, owed } = self;
+        list.notify(owed.begin());
     }
 }

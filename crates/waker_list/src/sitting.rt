@@ -1,4 +1,4 @@
-//! Where a party is, and what it owes.
+//! Where a party is, and a notify that is owed.
 ghost use Rattle.std.specs.Prelude.{◌≡◌, false, true, IsTrue};
 ghost use Rattle.event_count.specs.declared.wakes.seats.Seat.TheVariants.{Away, Given, Telling};
 ghost use Rattle.event_count.specs.declared.wakes.seats.ListStep.TheVariants.{Load};
@@ -11,6 +11,16 @@ use crate::state::{Ended, Joined, Taken};
 use event_count::wakes::{ListStep, Seat};
 use futures::spin::GaveUp;
 use std::marker::PhantomData;
+
+/// A notify of one that is owed. It has no bytes, and is neither copied nor dropped: only a notify that begins ends it.
+pub(crate) struct OwedOne<C> {
+    condition: PhantomData<C>,
+}
+
+/// A notify of all that is owed. It has no bytes, and is neither copied nor dropped: only a notify that begins ends it.
+pub(crate) struct OwedAll<C> {
+    condition: PhantomData<C>,
+}
 
 /// The seat of a party. It is neither copied nor dropped, and only what is done moves it on. So whoever has one does what it owes, to the end.
 pub(crate) struct Sitting<C> {
@@ -43,28 +53,6 @@ impl<C> Sitting<C> {
         ensures { result.seat ≡ Away }
     {
         Sitting::at(Seat::Away)
-    }
-
-    /// A notify of one begins. The condition was made true for one, as its own code says.
-    #[inline(always)]
-    pub(crate) fn owing_one(condition: C) -> Sitting<C>
-    where
-        C: Drop,
-        ensures { result.seat ≡ Given }
-    {
-        let _ = condition;
-        Sitting::at(Seat::Given)
-    }
-
-    /// A notify of all begins. The condition was made true for all, as its own code says.
-    #[inline(always)]
-    pub(crate) fn owing_all(condition: C) -> Sitting<C>
-    where
-        C: Drop,
-        ensures { result.seat ≡ Telling }
-    {
-        let _ = condition;
-        Sitting::at(Seat::Telling)
     }
 
     /// What a notify does next.
@@ -157,5 +145,51 @@ impl<C> Sitting<C> {
             seat: _,
             condition: _,
         } = self;
+    }
+}
+
+impl<C> OwedOne<C> {
+    /// The condition was made true for one that waits.
+    #[inline(always)]
+    pub(crate) fn new(condition: C) -> OwedOne<C>
+    where
+        C: Drop,
+    {
+        let _ = condition;
+        OwedOne {
+            condition: PhantomData,
+        }
+    }
+
+    /// The notify begins.
+    #[inline(always)]
+    pub(crate) fn begin(self) -> Sitting<C>
+        ensures { result.seat ≡ Given }
+    {
+        let OwedOne { condition: _ } = self;
+        Sitting::at(Seat::Given)
+    }
+}
+
+impl<C> OwedAll<C> {
+    /// The condition was made true for all that wait.
+    #[inline(always)]
+    pub(crate) fn new(condition: C) -> OwedAll<C>
+    where
+        C: Drop,
+    {
+        let _ = condition;
+        OwedAll {
+            condition: PhantomData,
+        }
+    }
+
+    /// The notify begins.
+    #[inline(always)]
+    pub(crate) fn begin(self) -> Sitting<C>
+        ensures { result.seat ≡ Telling }
+    {
+        let OwedAll { condition: _ } = self;
+        Sitting::at(Seat::Telling)
     }
 }

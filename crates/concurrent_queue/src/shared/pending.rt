@@ -11,7 +11,6 @@ ghost use Rattle.concurrent_queue.specs.OneHeap.{IsOneHeap};
 ghost use Rattle.concurrent_queue.specs.Shared.{IsPartyOf, party_view_of};
 
 use super::Begins;
-use super::block_end::carry_on_over_blocks;
 use super::calling::on_ring;
 use super::standing::{Seated, Standing, Stopping};
 use crate::party::{Party, SeatPlace};
@@ -197,7 +196,7 @@ fn go_on_inside<T, A: NullTestable>(
     ensures { (v : SpecBegun T) → LeavesInside ⟦<Asking<T, A, Granting> as Site>⟧ queue.now left asking v → ComesInto v.party v.call result kept.new }
 {
     let mut asking = asking;
-    match carry_on_over_blocks::<Asking<T, A, Granting>>(queue, &mut asking, left) {
+    match carry_on::<Asking<T, A, Granting>, Open>(queue, &Open, &mut asking, left) {
         ControlFlow::Break(reply) => { Some((Party::at(SeatPlace::Web(asking.rests())), reply)) }
         ControlFlow::Continue(left) => {
             keep(Pending::at(CallPlace::Chain(asking, left)), kept);

@@ -8,9 +8,9 @@ ghost use Rattle.queue_steps.specs.declared.sizes.TheConstants.{LIMIT, MAX_CAPAC
 ghost use Rattle.own_cells.specs.OneRing.RingCells.{stamp_at, item_at};
 ghost use Rattle.own_cells.specs.OneRing.RingOpening.{IsOpening};
 ghost use Rattle.own_cells.specs.OneRing.RingNew.{IsNew};
-ghost use Rattle.own_cells.specs.declared.ring.ring_words.TheConstants.{STAMPS};
+ghost use Rattle.own_cells.specs.OneRing.RingWords.{words_of};
 
-use crate::ring::ring_words::{HEAD, STAMPS, TAIL, words_before_stamps};
+use crate::ring::ring_words::{HEAD, TAIL, bare_words, stamp_word};
 use crate::ring::vacant::{discard, empty_slots, table_of};
 use atomic_table::{Closed, Table, TableRule};
 use call_driver::cells::OwnCells;
@@ -29,7 +29,7 @@ pub struct OwnRing<T, A: Allocator> {
     /// The words and the slots, as they lay in the table.
     pub memory: Closed<Option<T>, A>,
     ghost full: { IsFull memory.words × IsFull memory.slots },
-    ghost sized: { (slots_len memory.words ≡ capacity + STAMPS) × (slots_len memory.slots ≡ capacity) },
+    ghost sized: { (slots_len memory.words ≡ words_of capacity) × (slots_len memory.slots ≡ capacity) },
 }
 
 impl<T, A: Allocator> Model for OwnRing<T, A> {
@@ -98,9 +98,9 @@ fn first_words<A: Allocator>(
     requires accepted { accepted ≤ LIMIT }
     ensures { IfOk result (λ words. IsOpening capacity accepted words.items) }
 {
-    let mut words = words_before_stamps(alloc, capacity, accepted * TAIL_STEP, accepted)?;
-    for slot in 0..capacity as u64 {
-        words.push_reserved(first_position(capacity as u64, accepted, slot));
+    let mut words = bare_words(alloc, capacity, accepted * TAIL_STEP, accepted)?;
+    for slot in 0..capacity {
+        words[stamp_word(slot)] = first_position(capacity as u64, accepted, slot as u64);
     }
     Ok(words)
 }
@@ -113,7 +113,7 @@ fn opening_memory<T, A: Allocator + Clone>(
 ) -> Result<Closed<Option<T>, A>, AllocError>
     requires ring { IsRing capacity }
     requires accepted { accepted ≤ LIMIT }
-    ensures { IfOk result (λ memory. (IsFull memory.words × IsFull memory.slots) × (slots_len memory.words ≡ capacity + STAMPS) × (slots_len memory.slots ≡ capacity) × IsNew capacity accepted (slots_items memory.words) (slots_items memory.slots)) }
+    ensures { IfOk result (λ memory. (IsFull memory.words × IsFull memory.slots) × (slots_len memory.words ≡ words_of capacity) × (slots_len memory.slots ≡ capacity) × IsNew capacity accepted (slots_items memory.words) (slots_items memory.slots)) }
 {
     let for_words = alloc.clone()?;
     let slots = empty_slots::<T, A>(alloc.clone()?, capacity)?;
@@ -180,7 +180,7 @@ impl<T, A: Allocator> OwnRing<T, A> {
         requires { slot < length self.now.stamps }
         ensures { result ≡ stamp_at self.now slot }
     {
-        self.memory.word(STAMPS + slot)
+        self.memory.word(stamp_word(slot))
     }
 
     #[inline(always)]
@@ -212,7 +212,7 @@ impl<T, A: Allocator> OwnRing<T, A> {
         requires { slot < length self.old.stamps }
         ensures { self.new ≡ record self.old { stamps = slice_set self.old.stamps slot stamp } }
     {
-        self.memory.words.put(STAMPS + slot, stamp);
+        self.memory.words.put(stamp_word(slot), stamp);
     }
 
     /// A value and a slot's content change places.

@@ -1,40 +1,48 @@
 //! Where the words of a ring lie in its table. Word 0 is the count of parties; the tail, the head and the stamps follow.
 //!
-//! A cache line has 64 bytes, 8 words, so words that lie 8 apart share none, wherever the memory begins. Pushers write the tail and poppers write the head: a write to either takes from nobody the line of the other, of the count or of a stamp. The words between hold 0, and no step touches them.
-ghost use Rattle.std.specs.Prelude.{◌≡◌, ◌+◌, ◌≤◌, ◌∷◌, IfOk, [], vec_capacity};
+//! Pushers write the tail and poppers write the head, so that a write to either takes from nobody the other, the count or a stamp. Each stamp has a cache line of its own: who writes it takes at most one other stamp from a processor. The words between hold 0, and no step touches them.
+ghost use Rattle.std.specs.Prelude.{◌≡◌, ◌<◌, ◌≤◌, ◌^◌, IfOk};
 ghost use Rattle.queue_steps.specs.declared.sizes.TheConstants.{MAX_CAPACITY};
-ghost use Rattle.own_cells.specs.OneRing.RingWords.{words_behind};
+ghost use Rattle.own_cells.specs.OneRing.RingWords.{bare_words, stamp_word, words_of};
 
 use std::alloc::{AllocError, Allocator};
 
-/// The word of the tail.
-pub const TAIL: usize = 8;
+/// The word of the tail. The count, the tail, the head and the first stamp lie 128 bytes from each other, since a processor fetches cache lines, of 64 bytes, in pairs.
+pub const TAIL: usize = 16;
 
 /// The word of the head.
-pub const HEAD: usize = 16;
+pub const HEAD: usize = 32;
 
 /// The word of the first stamp.
-pub const STAMPS: usize = 24;
+pub const STAMPS: usize = 48;
 
-/// The words before the stamps of a ring with one party, with room for the stamps.
+/// The words from a stamp to the next one: a cache line, 64 bytes, so that two stamps share none.
+pub const STAMP_WORDS: usize = 8;
+
+/// The word of the stamp of this slot.
+#[inline(always)]
+pub fn stamp_word(slot: usize) -> usize
+    requires { words_of slot < 2 ^ 64 }
+    ensures { result ≡ stamp_word slot }
+{
+    STAMPS + slot * STAMP_WORDS
+}
+
+/// The words of a ring with one party whose stamps are not written yet: they hold 0.
 ///
 /// # Errors
 ///
 /// Where there is no memory.
-pub fn words_before_stamps<A: Allocator>(
+pub fn bare_words<A: Allocator>(
     alloc: A,
     capacity: usize,
     tail: u64,
     head: u64,
 ) -> Result<Vec<u64, A>, AllocError>
     requires { capacity ≤ MAX_CAPACITY }
-    ensures items { IfOk result (λ words. words.items ≡ 1 ∷ words_behind tail head []) }
-    ensures room { IfOk result (λ words. vec_capacity words ≡ capacity + STAMPS) }
+    ensures { IfOk result (λ words. words.items ≡ bare_words capacity tail head) }
 {
-    let mut words = Vec::with_capacity(alloc, capacity + STAMPS)?;
-    for _ in 0..STAMPS {
-        words.push_reserved(0);
-    }
+    let mut words = vec![in alloc; 0; capacity * STAMP_WORDS + STAMPS]?;
     words[0] = 1;
     words[TAIL] = tail;
     words[HEAD] = head;

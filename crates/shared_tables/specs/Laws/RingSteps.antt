@@ -1,6 +1,6 @@
 -- The laws of a ring in a table: what each step of a call does to the words and slots, and where calls begin.
-use Rattle.std.proofs.Common.{◌≡◌, ◌≢◌, ℕ, ◌+◌, ◌-◌, ◌<◌, ◌||◌, not, length, Bool, List, [], ◌∷◌, get_or, set, Option, Some, None, refl, ap, sym, ◌∙◌, subst, inl, arith, length-set}
-use Rattle.std.proofs.lemmas.List.{set-get_or, get_or-drop, set-append_right}
+use Rattle.std.proofs.Common.{◌≡◌, ◌≢◌, ℕ, zero, suc, ◌-◌, ◌<◌, ◌||◌, not, length, Bool, List, [], ◌∷◌, get_or, set, Option, Some, None, refl, ap, sym, ◌∙◌, subst, inl, arith, length-set}
+use Rattle.std.proofs.lemmas.List.{set-get_or, get_or-set_same, get_or-set_other}
 use mathlib.Core.Option.{some}
 use mathlib.Core.Option as maybe
 use lib.ListN.{get_elem?}
@@ -13,16 +13,27 @@ use Rattle.queue_laws.specs.Ring.{RingCells.Cell, RingCells.Ring, RingCells.queu
 use Rattle.queue_laws.proofs.{Common.Puts.put_ok, Common.Puts.put_same, Common.Moments.seen_map, Ring.RingHands.lent_stays, Ring.RingHands.Shift, Ring.RingHands.Rests, Ring.RingHands.Claims, Ring.RingHands.GoesOn, Ring.RingHands.Returns}
 use Rattle.queue_laws.proofs.Ring.{RingAt.at_stays, RingRanks.rank, RingFronts.may_front, RingEarly.early, RingStep.step_good, RingStepOk.NextOk as RingNextOk, RingStepOk.StepOk, RingStepOk.operates_on, RingStart.at_first, RingStart.at_touches, RingStart.at_coming, RingStart.at_word}
 use Rattle.queue_laws.specs.Ring.RingShared.{Shared, HasPlace, HasWord, word_at, put_word, CanOperate, CanTouch, answered, operated, touched, handed}
-use Rattle.own_cells.specs.{OneRing.RingWords.words_behind, declared.ring.ring_words.TheConstants.STAMPS}
+use Rattle.own_cells.{specs.OneRing.RingWords.words_of, specs.OneRing.RingWords.stamp_word, specs.declared.ring.ring_words.TheConstants.TAIL, specs.declared.ring.ring_words.TheConstants.HEAD}
+use Rattle.own_cells.proofs.OneRing.RingWrites.{word_in, word_after, stamps_long, stamp_of, stamps_stay, stamps_set}
 use Rattle.shared_parties.specs.Calling.{touched_list, lies_in, handed_by, HasTouched, NextOk, CallLaws}
 use Rattle.shared_tables.specs.{TableRule.found_by, TableRule.TableStepOk, TableRule.TakesOff, TableRule.OpensIn, TableRule.TableLaws, Laws.RingWaitFree.ring_wait_free}
-use Rattle.shared_tables.specs.RingTable.{home_when, home_of, Homes, ring_words, word_index, RingCoded, ring_calls, ring_table}
+use Rattle.shared_tables.specs.RingTable.{home_when, home_of, Homes, LiesIn, word_index, RingCoded, ring_calls, ring_table}
 
 -- the table has the word
-place_below : (cap : ℕ) (w : Word ℕ) → HasPlace cap w → word_index w < cap + STAMPS
+place_below : (cap : ℕ) (w : Word ℕ) → HasPlace cap w → word_index w < words_of cap
 place_below cap Word.Lock has = absurd has
 place_below cap (Word.State b i) has = absurd has
 place_below cap w has = omega arith
+
+-- the count stays where another word is written
+after_count : (n k x : ℕ) (ws : List ℕ) → 0 < k → set (n ∷ ws) k x ≡ n ∷ set ws (k - 1) x
+after_count n zero x ws more = absurd (omega arith)
+after_count n (suc k) x ws more = let back : suc k - 1 ≡ k = omega arith in ap (λ i. n ∷ set ws i x) (sym back)
+
+index_after : (cap : ℕ) (w : Word ℕ) → HasPlace cap w → 0 < word_index w
+index_after cap Word.Lock has = absurd has
+index_after cap (Word.State b i) has = absurd has
+index_after cap w has = omega arith
 
 -- no operation on a ring takes bits off a word
 takes_none : {T : Type 0} {cap : ℕ} {r : Ring T} {who : ℕ} {ms : List (State T)} {was : Bool} {c : Stand T} → At cap r who ms was c → (n : ℕ) → TakesOff c.op n
@@ -30,32 +41,60 @@ takes_none (closing none) n = tt
 takes_none _ n = tt
 
 module _ {T : Type 0} where
-  -- the table has the words of the ring
-  word_found : (n : ℕ) (s : Shared T) (w : Word ℕ) → HasWord s w → get_or (n ∷ ring_words s) (word_index w) 0 ≡ word_at s w
-  word_found n s (Word.Stamp i) has = sym (get_or-drop STAMPS (n ∷ ring_words s) i 0)
-  word_found n s Word.Lock has = absurd has
-  word_found n s (Word.State b i) has = absurd has
-  word_found n s w has = refl
+  -- the first word may count other parties
+  pub recounted : (cap : ℕ) (s : Shared T) (n m : ℕ) (ws : List ℕ) → LiesIn cap s (n ∷ ws) → LiesIn cap s (m ∷ ws)
+  recounted cap s n m ws l = record { long = l.long; tail = l.tail; head = l.head; stamps = stamps_stay cap (n ∷ ws) 0 m (λ k lt. word_after k 0 (omega arith)) ∙ l.stamps }
 
-  word_put : (n : ℕ) (s : Shared T) (w : Word ℕ) (x : ℕ) → HasWord s w → set (n ∷ ring_words s) (word_index w) x ≡ n ∷ ring_words (put_word s w x)
-  word_put n s (Word.Stamp i) x has =
-      let behind : STAMPS + i - STAMPS ≡ i = omega arith in
-      set-append_right (n ∷ words_behind s.tail s.head []) s.stamps STAMPS (STAMPS + i) x refl (omega arith) ∙ ap (λ k. n ∷ words_behind s.tail s.head (set s.stamps k x)) behind
-  word_put n s Word.Lock x has = absurd has
-  word_put n s (Word.State b i) x has = absurd has
-  word_put n s w x has = refl
+  stamp_low : (cap : ℕ) (s : Shared T) (ws : List ℕ) (i : ℕ) → LiesIn cap s ws → i < length s.stamps → i < cap
+  stamp_low cap s ws i l has = let long = ap length l.stamps in let count = stamps_long cap ws in omega (arith, long, count, has)
+
+  -- the table has the words of the ring
+  word_found : (cap : ℕ) (s : Shared T) (ws : List ℕ) (w : Word ℕ) → LiesIn cap s ws → HasWord s w → get_or ws (word_index w) 0 ≡ word_at s w
+  word_found cap s ws (Word.Stamp i) l has = sym (stamp_of cap ws i (stamp_low cap s ws i l has)) ∙ ap (λ xs. get_or xs i 0) l.stamps
+  word_found cap s ws Word.Tail l has = l.tail
+  word_found cap s ws Word.Head l has = l.head
+  word_found cap s ws Word.Lock l has = absurd has
+  word_found cap s ws (Word.State b i) l has = absurd has
+
+  word_put : (cap : ℕ) (s : Shared T) (ws : List ℕ) (w : Word ℕ) (x : ℕ) → LiesIn cap s ws → HasWord s w → LiesIn cap (put_word s w x) (set ws (word_index w) x)
+  word_put cap s ws (Word.Stamp i) x l has =
+      let lt = stamp_low cap s ws i l has in let below = word_in cap i lt in let long = l.long in
+      record {
+        long = length-set ws (stamp_word i) x ∙ l.long;
+        tail = get_or-set_other ws (stamp_word i) TAIL x 0 (λ e. word_after i TAIL (omega arith) (sym e)) ∙ l.tail;
+        head = get_or-set_other ws (stamp_word i) HEAD x 0 (λ e. word_after i HEAD (omega arith) (sym e)) ∙ l.head;
+        stamps = stamps_set cap ws i x lt (omega (arith, below, long)) ∙ ap (λ xs. set xs i x) l.stamps;
+      }
+  word_put cap s ws Word.Tail x l has =
+      let long = l.long in
+      record {
+        long = length-set ws TAIL x ∙ l.long;
+        tail = get_or-set_same ws TAIL x 0 (omega (arith, long));
+        head = get_or-set_other ws TAIL HEAD x 0 (λ e. omega arith) ∙ l.head;
+        stamps = stamps_stay cap ws TAIL x (λ k lt. word_after k TAIL (omega arith)) ∙ l.stamps;
+      }
+  word_put cap s ws Word.Head x l has =
+      let long = l.long in
+      record {
+        long = length-set ws HEAD x ∙ l.long;
+        tail = get_or-set_other ws HEAD TAIL x 0 (λ e. omega arith) ∙ l.tail;
+        head = get_or-set_same ws HEAD x 0 (omega (arith, long));
+        stamps = stamps_stay cap ws HEAD x (λ k lt. word_after k HEAD (omega arith)) ∙ l.stamps;
+      }
+  word_put cap s ws Word.Lock x l has = absurd has
+  word_put cap s ws (Word.State b i) x l has = absurd has
 
   -- what the operation finds is what the ring's operation answers
-  pub answers_found : (n : ℕ) (s : Shared T) (o : Op ℕ) → CanOperate s o → answered s o ≡ answer_for o (get_or (n ∷ ring_words s) (word_index (op_word o)) 0)
-  answers_found n s o can = ap (answer_for o) (sym (word_found n s (op_word o) (operates_on s o can)))
+  pub answers_found : (cap : ℕ) (s : Shared T) (ws : List ℕ) (o : Op ℕ) → LiesIn cap s ws → CanOperate s o → answered s o ≡ answer_for o (get_or ws (word_index (op_word o)) 0)
+  answers_found cap s ws o l can = ap (answer_for o) (sym (word_found cap s ws (op_word o) l (operates_on s o can)))
 
   -- and the words after it are those of the ring's operation
-  pub words_step : (n : ℕ) (s : Shared T) (o : Op ℕ) → CanOperate s o
-      → set (n ∷ ring_words s) (word_index (op_word o)) (op_makes o (get_or (n ∷ ring_words s) (word_index (op_word o)) 0)) ≡ n ∷ ring_words (operated s o)
-  words_step n s (Op.Load w) can = set-get_or (n ∷ ring_words s) (word_index w) 0
-  words_step n s o can =
+  pub words_step : (cap : ℕ) (s : Shared T) (ws : List ℕ) (o : Op ℕ) → LiesIn cap s ws → CanOperate s o → LiesIn cap (operated s o) (set ws (word_index (op_word o)) (op_makes o (get_or ws (word_index (op_word o)) 0)))
+  words_step cap s ws (Op.Load w) l can = subst (LiesIn cap s) (sym (set-get_or ws (word_index w) 0)) l
+  words_step cap s ws o l can =
       let has = operates_on s o can in
-      ap (λ x. set (n ∷ ring_words s) (word_index (op_word o)) (op_makes o x)) (word_found n s (op_word o) has) ∙ word_put n s (op_word o) (op_makes o (word_at s (op_word o))) has
+      subst (λ y. LiesIn cap (put_word s (op_word o) (op_makes o (word_at s (op_word o)))) (set ws (word_index (op_word o)) (op_makes o y))) (sym (word_found cap s ws (op_word o) l has))
+      (word_put cap s ws (op_word o) (op_makes o (word_at s (op_word o))) l has)
 
   home_none : (c : Cell T) → owner c ≡ None → home_of c ≡ some (item_in c)
   home_none c e = ap (λ o. home_when o (item_in c)) e
@@ -158,9 +197,9 @@ module _ {T : Type 0} where
   has_touched cap s who ms was c (x ∷ []) here lent = λ i e. (x.1, ap (λ n. (n, x.1) ∷ []) (sym (lent.2 i (at_touches i here e))))
   has_touched cap s who ms was c (x ∷ y ∷ zs) here lent = absurd lent
 
-  words_touched : (s : Shared T) (t : Touch) (v : Option T) → ring_words s ≡ ring_words (touched s t v)
-  words_touched s Touch.Nothing v = refl
-  words_touched s t v = refl
+  lies_touched : (cap : ℕ) (s : Shared T) (ws : List ℕ) (t : Touch) (v : Option T) → LiesIn cap s ws → LiesIn cap (touched s t v) ws
+  lies_touched cap s ws Touch.Nothing v l = l
+  lies_touched cap s ws t v l = record { long = l.long; tail = l.tail; head = l.head; stamps = l.stamps }
 
   -- what the touch hands over is what lies in the seat's slot
   hands_over : (cap : ℕ) (r : Ring T) (s : Shared T) (who : ℕ) (t : Touch) (v : Option T) (xs : List (ℕ × Option T)) → Codes cap r s → CanTouch s t → ((i : ℕ) → Touches t i → owner (r.cells i) ≡ Some who) → Lent r who xs
@@ -193,16 +232,16 @@ module _ {T : Type 0} where
     -- each step of a call does what the table is owed
     ring_steps : (ms : List (State T)) (was : Bool) (c : Stand T) (xs : List (ℕ × Option T))
         → RingOk cap g → RingCoded cap g ws hs → At cap g who ms was c → Lent g who xs → TableStepOk (ring_table cap) g who n ws hs ms was c xs
-    ring_steps ms was c xs ok (s, codes, words, homes) here lent = record {
+    ring_steps ms was c xs ok (s, codes, lies, homes) here lent = record {
       after = good.after;
-      words = ring_words (operated touching c.op);
+      words = set ws (index - 1) made;
       effect = good.e;
       act = moved.act;
       can_next = subst (λ (a : Answer ℕ). CanNext (Kind.Bounded cap) c.local a) found_is good.goes_on;
       ok = good.ok;
-      written = ap (λ y. set y (word_index (op_word c.op)) (op_makes c.op (get_or y (word_index (op_word c.op)) 0))) table ∙ words_step n touching c.op good.operates;
+      written = written;
       valid = moved.valid;
-      coded = (operated touching c.op, good.codes, refl, moved.homes);
+      coded = (operated touching c.op, good.codes, recounted cap (operated touching c.op) n 0 (set ws (index - 1) made) (subst (LiesIn cap (operated touching c.op)) written (words_step cap touching (n ∷ ws) c.op table good.operates)), moved.homes);
       lent = moved.lent;
       front = may_front cap was c.local (answered touching c.op) good.e good.told;
       makes = good.makes;
@@ -221,11 +260,20 @@ module _ {T : Type 0} where
         moved : Shifted cap who good.after hs (touched_list c.touch c.carried xs)
         moved = shifts cap who g good.after c.touch c.carried hs xs homes lent good.shift
 
-        table : n ∷ ws ≡ n ∷ ring_words touching
-        table = ap (λ y. n ∷ y) (words ∙ words_touched s c.touch c.carried)
+        table : LiesIn cap touching (n ∷ ws)
+        table = lies_touched cap s (n ∷ ws) c.touch c.carried (recounted cap s 0 n ws lies)
+
+        index : ℕ
+        index = word_index (op_word c.op)
+
+        made : ℕ
+        made = op_makes c.op (get_or (n ∷ ws) index 0)
+
+        written : set (n ∷ ws) index made ≡ n ∷ set ws (index - 1) made
+        written = after_count n index made ws (index_after (length touching.stamps) (op_word c.op) (operates_on touching c.op good.operates))
 
         found_is : answered touching c.op ≡ answer_for c.op (found_by {T = T} (ring_table cap) c.op (n ∷ ws))
-        found_is = answers_found n touching c.op good.operates ∙ ap (λ y. answer_for c.op (get_or y (word_index (op_word c.op)) 0)) (sym table)
+        found_is = answers_found cap touching (n ∷ ws) c.op table good.operates
 
         handed_is : handed s c.touch c.carried ≡ handed_by c.touch c.carried xs
         handed_is = hands_over cap g s who c.touch c.carried xs codes good.touches (λ i e. at_touches i here e) lent
@@ -245,7 +293,7 @@ module _ {T : Type 0} where
     touches = λ g j ms was c xs here lent. has_touched cap g j ms was c xs here lent;
   }
 
-  pub ring_table_laws : (cap : ℕ) → IsRing cap → TableLaws {T = T} (ring_table cap) (cap + STAMPS)
+  pub ring_table_laws : (cap : ℕ) → IsRing cap → TableLaws {T = T} (ring_table cap) (words_of cap)
   ring_table_laws cap ring = record {
     calls = ring_call_laws cap;
     below = place_below cap;

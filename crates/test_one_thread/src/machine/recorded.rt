@@ -10,8 +10,8 @@ use queue_steps::sizes::STEPS_ALONE;
 use queue_steps::steps::Kind;
 use std::process::Abort;
 
-/// More stages than any of these histories has beside each other.
-const MOST_STAGES: usize = 1_000;
+/// More words than the stages of any of these histories take up.
+const MOST_WORDS: usize = 1 << 20;
 
 /// What is decided of a history.
 #[derive(Clone, Copy, Debug, Drop, PartialEq)]
@@ -27,7 +27,7 @@ fn judged<R: Abort + AllocGlobal>(rt: &R, at_once: bool, history: &[Recorded]) -
         cap: Some(2),
         at_once,
     };
-    match decide(rt.alloc(), rules, 2, history, MOST_STAGES).expect(rt, "memory") {
+    match decide(rt.alloc(), rules, 2, history, MOST_WORDS).expect(rt, "memory") {
         Verdict::Legal(_) => Decided::Legal,
         Verdict::NotLegal(count) => Decided::NotLegal(count),
         Verdict::TooMany => Decided::TooMany,

@@ -36,8 +36,8 @@ fn a_notify_after_the_ticket_ends_the_wait(rt: HostRuntime) {
     }
 }
 
-/// How often looks in vain give way before one has a ticket, which is not waited on.
-fn yields<R: Wait>(rt: &R, patience: &mut Patience<'_, Sign>) -> u64 {
+/// After how many looks in vain, with a pause after each, one has a ticket, which is not waited on.
+fn pauses<R: Wait>(rt: &R, patience: &mut Patience<'_, Sign>) -> u64 {
     for looks in 0..100 {
         match patience.look() {
             Look::Awake => patience.wait(rt, Look::Awake.in_vain(Sign { made: () })),
@@ -55,11 +55,11 @@ fn yields<R: Wait>(rt: &R, patience: &mut Patience<'_, Sign>) -> u64 {
 fn a_patient_look_has_its_ticket_first(rt: HostRuntime) {
     let signs = EventCount::new();
     let mut patience = Patience::new(&signs);
-    let before = yields(&rt, &mut patience);
+    let before = pauses(&rt, &mut patience);
     let look = patience.look();
     notify(&signs, false);
     patience.wait(&rt, look.in_vain(Sign { made: () }));
-    is(&rt, (before, yields(&rt, &mut patience)), (8, 8));
+    is(&rt, (before, pauses(&rt, &mut patience)), (10, 10));
 }
 
 /// A notify may take a sleeper as its time passes: so a sleep is never the last thing of a wait, and the look after it may be.
@@ -68,12 +68,16 @@ fn a_sleeper_looks_again_after_its_deadline(rt: HostRuntime) {
     let signs = EventCount::new();
     let past = Until::after(&Still, Duration::ZERO);
     let mut patience = Patience::new(&signs);
-    let before = yields(&rt, &mut patience);
+    let before = pauses(&rt, &mut patience);
     let slept = patience.look().in_vain(Sign { made: () });
     let over_by_sleep = patience.wait_until(&rt, slept, &past);
     let awake = patience.look().in_vain(Sign { made: () });
     let over_by_look = patience.wait_until(&rt, awake, &past);
-    is(&rt, (before, over_by_sleep, over_by_look), (8, false, true));
+    is(
+        &rt,
+        (before, over_by_sleep, over_by_look),
+        (10, false, true),
+    );
 }
 
 /// Two threads that sleep.

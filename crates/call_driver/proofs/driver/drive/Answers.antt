@@ -7,14 +7,14 @@ run-requires-clause-on_way g c =
     let h = c.requires.whole in
     (STEPS_ALONE - 1, (h.0, c.args.seat.now, rw h.1.1 (c.begin-kind.ensures.begun h.0 (STEPS_ALONE - 1) h.1.0 refl)))
 
-pub leave-requires-clause-can : goal.leave-requires-clause-can
-leave-requires-clause-can g c =
+pub finish_alone-requires-clause-on_way : goal.finish_alone-requires-clause-on_way
+finish_alone-requires-clause-on_way g c =
     let h = c.requires.whole in
-    (STEPS_ALONE - 1, refl, (h.0, c.args.seat.now, c.in-Continue.ensures (STEPS_ALONE - 1) h.0 c.args.seat.now (rw h.1.1 (c.begin-kind.ensures.begun h.0 (STEPS_ALONE - 1) h.1.0 refl))))
+    (h.0, c.args.seat.now, c.in-Continue.ensures (STEPS_ALONE - 1) h.0 c.args.seat.now (rw h.1.1 (c.begin-kind.ensures.begun h.0 (STEPS_ALONE - 1) h.1.0 refl)))
 
 pub returns-in-Break : goal.returns-in-Break
 returns-in-Break g c = λ whole is. c.in-Break.ensures (STEPS_ALONE - 1) whole c.args.seat.now (rw is.1 (c.begin-kind.ensures.begun whole (STEPS_ALONE - 1) is.0 refl))
 
 pub returns-in-Continue : goal.returns-in-Continue
 returns-in-Continue g c = λ whole is.
-    c.leave.ensures (STEPS_ALONE - 1) whole c.args.seat.now refl (c.in-Continue.ensures (STEPS_ALONE - 1) whole c.args.seat.now (rw is.1 (c.begin-kind.ensures.begun whole (STEPS_ALONE - 1) is.0 refl)))
+    c.finish_alone.ensures whole c.args.seat.now (c.in-Continue.ensures (STEPS_ALONE - 1) whole c.args.seat.now (rw is.1 (c.begin-kind.ensures.begun whole (STEPS_ALONE - 1) is.0 refl)))

@@ -6,10 +6,10 @@ returns g c =
     let old = c.args.bounds in
     elim c.match-branch-2.branch [
       | in-Order w ↦
-          let order = rw w.in-Order.is at c.in_ok-examine.ensures in
+          let order = rw w.in-Order.is at c.in_ok-taken.ensures in
           rw w.result-is (raised c.args.rules c.args.parties c.args.events.now old.legal old.not_legal c.args.middle c.requires.bounds c.requires.above c.requires.below (w.in-Order.field-0.items, order))
       | in-Nothing w ↦
-          let not_legal = rw w.in-Nothing.is at c.in_ok-examine.ensures in
+          let not_legal = rw w.in-Nothing.is at c.in_ok-taken.ensures in
           rw w.result-is (lowered c.args.rules c.args.parties c.args.events.now old.legal old.not_legal c.args.middle c.requires.bounds c.requires.above c.requires.below not_legal)
       | in-TooMany w ↦ rw w.result-is tt
     ]

@@ -1,7 +1,7 @@
-use Rattle.std.proofs.Common.{◌≡◌, ◌+◌, ℕ, Some, sym, ap, ◌∙◌, subst}
+use Rattle.std.proofs.Common.{◌≡◌, ℕ, Some, sym, ◌∙◌, subst}
 use Rattle.std.specs.Mem.Slots.{slots_items}
 use Rattle.queue_steps.specs.{Effect.after, Legal.IsShown}
-use Rattle.own_cells.specs.{OneRing.RingOwned.IsIdle, OneRing.RingOwned.ring_owned, OneRing.RingMemory.ring_in, declared.ring.ring_words.TheConstants.STAMPS}
+use Rattle.own_cells.specs.{OneRing.RingOwned.IsIdle, OneRing.RingOwned.ring_owned, OneRing.RingMemory.ring_in}
 use Rattle.shared_tables.proofs.RingFinish.{ring_finishes}
 use Rattle.shared_tables.proofs.ring.end_ring.Goals as goal
 

@@ -15,14 +15,14 @@ ends : (g : Over) (c : In-Pop g) → IsHeld c.match-self.party-inside.place × C
 ends g c = let v = c.args.party.now in let k = call.Pop in elim c.match-self.branch [
   | in-Slot-Table+in-Break w ↦ let b = w.in-Slot-Table in (ends_here _ b.seat _ _ v b.is-1 c.party.invariant c.party.view_is (c.requires.is_party ∙ (sym c.self.view_is ∙ ap form_id b.is-0)) w.run-begun.new.seat _ k _ _ (ap (λ p. p.place) w.party-inside-is) w.reply-is w.in-Break.ensures)
   | in-Slot-Table+in-Continue w ↦ let b = w.in-Slot-Table in
-      (ends_here _ b.seat _ _ v b.is-1 c.party.invariant c.party.view_is (c.requires.is_party ∙ (sym c.self.view_is ∙ ap form_id b.is-0)) w.run_slow.new.seat _ k _ _
-      (ap (λ p. p.place) w.party-inside-is) w.reply-is (w.run_slow.ensures k b.seat w.in-Continue.ensures))
+      (ends_here _ b.seat _ _ v b.is-1 c.party.invariant c.party.view_is (c.requires.is_party ∙ (sym c.self.view_is ∙ ap form_id b.is-0)) w.wait_out.new.seat _ k _ _
+      (ap (λ p. p.place) w.party-inside-is) w.reply-is (w.wait_out.ensures k b.seat w.in-Continue.ensures))
   | in-Ring-Table+in-Break-begun w ↦ let b = w.in-Ring-Table in
       (ends_here _ b.seat _ _ v b.is-1 c.party.invariant c.party.view_is (c.requires.is_party ∙ (sym c.self.view_is ∙ ap form_id b.is-0))
       w.run-begun-in-Ring-Table.new.seat _ k _ _ (ap (λ p. p.place) w.party-inside-is) w.reply-is w.in-Break-begun.ensures)
   | in-Ring-Table+in-Continue-begun w ↦ let b = w.in-Ring-Table in
-      (ends_here _ b.seat _ _ v b.is-1 c.party.invariant c.party.view_is (c.requires.is_party ∙ (sym c.self.view_is ∙ ap form_id b.is-0)) w.run_slow-in-Continue-begun.new.seat _
-      k _ _ (ap (λ p. p.place) w.party-inside-is) w.reply-is (w.run_slow-in-Continue-begun.ensures k b.seat w.in-Continue-begun.ensures))
+      (ends_here _ b.seat _ _ v b.is-1 c.party.invariant c.party.view_is (c.requires.is_party ∙ (sym c.self.view_is ∙ ap form_id b.is-0)) w.wait_out-in-Continue-begun.new.seat _
+      k _ _ (ap (λ p. p.place) w.party-inside-is) w.reply-is (w.wait_out-in-Continue-begun.ensures k b.seat w.in-Continue-begun.ensures))
   | in-Chain-Web w ↦ let b = w.in-Chain-Web in (web_ends _ _ b.rested w.answer-reply.new.party v k _ _ b.is-1 c.party.invariant (ap (λ p. p.place) w.party-inside-is)
       w.reply-is c.party.view_is (ap (λ (z : QueueId). z.cap) (c.requires.is_party ∙ (sym c.self.view_is ∙ ap form_id b.is-0))) w.answer-reply.ensures)
 ]
@@ -40,13 +40,13 @@ unreachable-requires-in_default-reply g c =
       | in-Slot-Table+in-Break w ↦ let b = w.in-Slot-Table in (ends_here _ b.seat _ _ v b.is-1 c.party.invariant c.party.view_is (c.requires.is_party ∙ (sym c.self.view_is ∙ ap form_id b.is-0)) w.run-begun.new.seat _ k _ _ (ap (λ p. p.place) w.party-inside-is) w.reply-is w.in-Break.ensures).1
       | in-Slot-Table+in-Continue w ↦ let b = w.in-Slot-Table in
           (ends_here _ b.seat _ _ v b.is-1 c.party.invariant c.party.view_is (c.requires.is_party ∙ (sym c.self.view_is ∙ ap form_id b.is-0))
-          w.run_slow.new.seat _ k _ _ (ap (λ p. p.place) w.party-inside-is) w.reply-is (w.run_slow.ensures k b.seat w.in-Continue.ensures)).1
+          w.wait_out.new.seat _ k _ _ (ap (λ p. p.place) w.party-inside-is) w.reply-is (w.wait_out.ensures k b.seat w.in-Continue.ensures)).1
       | in-Ring-Table+in-Break-begun w ↦ let b = w.in-Ring-Table in
           (ends_here _ b.seat _ _ v b.is-1 c.party.invariant c.party.view_is (c.requires.is_party ∙ (sym c.self.view_is ∙ ap form_id b.is-0))
           w.run-begun-in-Ring-Table.new.seat _ k _ _ (ap (λ p. p.place) w.party-inside-is) w.reply-is w.in-Break-begun.ensures).1
       | in-Ring-Table+in-Continue-begun w ↦ let b = w.in-Ring-Table in (ends_here _ b.seat _ _ v b.is-1 c.party.invariant c.party.view_is
-          (c.requires.is_party ∙ (sym c.self.view_is ∙ ap form_id b.is-0)) w.run_slow-in-Continue-begun.new.seat _ k _ _
-          (ap (λ p. p.place) w.party-inside-is) w.reply-is (w.run_slow-in-Continue-begun.ensures k b.seat w.in-Continue-begun.ensures)).1
+          (c.requires.is_party ∙ (sym c.self.view_is ∙ ap form_id b.is-0)) w.wait_out-in-Continue-begun.new.seat _ k _ _
+          (ap (λ p. p.place) w.party-inside-is) w.reply-is (w.wait_out-in-Continue-begun.ensures k b.seat w.in-Continue-begun.ensures)).1
       | in-Chain-Web w ↦ let b = w.in-Chain-Web in (web_ends _ _ b.rested w.answer-reply.new.party v k _ _ b.is-1 c.party.invariant (ap (λ p. p.place) w.party-inside-is)
           w.reply-is c.party.view_is (ap (λ (z : QueueId). z.cap) (c.requires.is_party ∙ (sym c.self.view_is ∙ ap form_id b.is-0))) w.answer-reply.ensures).1
     ] in

@@ -4,7 +4,7 @@ use mathlib.Core.Option.{some}
 use lib.ListN.{get_elem?}
 use Rattle.atomic_table.specs.Table.{Final}
 use Rattle.own_cells.specs.OneRing.RingOpening.{IsUntouched}
-use Rattle.own_cells.proofs.OneRing.{Openings.IsOpening-length, Openings.ring_opens, Openings.homes_at, Emptying.replicated}
+use Rattle.own_cells.proofs.OneRing.{Openings.ring_opens, Openings.homes_at, Emptying.replicated}
 use Rattle.own_cells.proofs.ring.own_ring.opening_memory.Goals as goal
 
 pub table_of-requires-clause-holds : goal.table_of-requires-clause-holds
@@ -18,7 +18,7 @@ returns g c =
     let m = c.close.result in let k = c.close.ensures in let t = c.in_ok-table.ensures in
     let ws = slots_items m.words in let xs = slots_items m.slots in
     let opening = c.in-Ok.ensures in
-    let words_long = k.counts.0 ∙ (t.0 ∙ (ap length c.as_slice.ensures.value ∙ IsOpening-length c.args.capacity c.args.accepted c.in-Ok.words.items opening)) in
+    let words_long = k.counts.0 ∙ (t.0 ∙ (ap length c.as_slice.ensures.value ∙ opening.long)) in
     let slots_long = k.counts.1 ∙ (t.1 ∙ (ap length c.in_ok-slots.ensures ∙ length-replicate c.args.capacity None)) in
     let words = ap (λ v. v.items) t.5 in
     ((k.values.0, k.values.1), words_long, slots_long, ring_opens c.args.capacity c.args.accepted c.in-Ok.words.items ws xs c.requires.ring c.requires.accepted opening (sym (slots_counts m.slots).0 ∙ slots_long) (subst (λ (z : List ℕ). Final (IsUntouched z) ws xs) words k.values.2))
